@@ -1,8 +1,8 @@
 # Sourced by ./vsm and ./vsm-explain, which set `top`, the program's `name` and `crate`, and `help`, the file with what it
 # says to --help. Runs the program with the words and the standard streams that are given.
-# Where it isn't proved and built (./prove does that), or a source is newer than it, a program that isn't proved is run in
-# its place, and standard error says so. That one is compiled once, in a minute or two, and kept in the crate's out/ as
-# NAME-unproved until a source is newer than it or ./prove has run.
+# If it isn't proved and built from these sources (./prove does that), a program that isn't proved is run in its place, and
+# standard error says so after the compile, and later if it's a terminal. That one is compiled once, in some two minutes,
+# and kept in the crate's out/ as NAME-unproved until a source is changed or ./prove has run.
 # RT names the command rt where it isn't on the PATH.
 out=$top/crates/$crate/out
 program=$out/$crate
@@ -33,7 +33,7 @@ link_rest() {
 
 # A script in the place of a tool of the kit; standard input is what it does.
 put_tool() {
-  { echo '#!/bin/sh'; cat; } >"$1" && chmod +x "$1"
+  { echo '#!/usr/bin/env bash'; cat; } >"$1" && chmod +x "$1"
 }
 
 # Lays out a folder that stands for the kit's. rt try throws the program away that it has compiled, so the linker leaves it
@@ -82,16 +82,15 @@ stop() {
   refuse "stopped"
 }
 
-# Compiles the program without a proof. The time at which that begins is the program's, so that a source which is changed
-# meanwhile is newer.
+# Compiles the program without a proof. The sum kept with it is that of the sources when it began.
 compile() {
-  local start said=
-  start=$(date +%s.%N)
+  local sum said=
+  sum=$("$top/prove" --program "$crate" --sum)
   room=$(mktemp -d) || refuse "no temporary folder can be made"
   trying=
   trap stop INT TERM HUP
   lay_out_kit || { rm -rf "$room"; refuse "the folder of the kit can't be found: '$rt doc' has to print the path of a page in it"; }
-  say "the program isn't proved and built from these sources yet: one is compiled without a proof, in a minute or two"
+  say "compiling $name without a proof, once: about 2 minutes on a free machine"
   exec 3< <(exec </dev/null 2>&1 8>&-; cd "$top/crates/$crate" && exec "$room/kit/bin/rt" try --steps 1 --seconds 10 -- --help)
   trying=$!
   hear_out
@@ -102,32 +101,42 @@ compile() {
     printf '%s' "$said" >&2
     refuse "no program was compiled; above is what the kit said"
   fi
-  touch -d "@$start" "$room/made" && cp -p "$room/made" "$unproved.new" && mv "$unproved.new" "$unproved" ||
-    refuse "the compiled program can't be kept in $out"
+  { cp "$room/made" "$unproved.new" && mv "$unproved.new" "$unproved"; } 2>/dev/null &&
+    "$top/prove" --program "$crate" --made "$sum" "$unproved" ||
+    { rm -rf "$room" "$unproved.new"; refuse "the compiled program can't be kept in $out: is the disk full?"; }
   rm -rf "$room"
   trap - INT TERM HUP
 }
 
 # One process compiles, and others wait for it.
 compile_once() {
-  command -v "$rt" >/dev/null || refuse "the program isn't built, and the command rt, which builds it, isn't on the PATH"
+  command -v "$rt" >/dev/null || refuse "no program is built, and rt, the command of the Rattle kit that compiles one, isn't on the PATH: put its folder there, or name it by RT"
   { mkdir -p "$out" && exec 8>"$unproved.lock"; } 2>/dev/null ||
-    refuse "the program isn't built, and can't be: $out can't be written"
+    refuse "no program is built, and none can be kept: $out can't be written"
   if ! flock -n 8; then
     say "another process compiles the program: this one waits for it"
     flock 8
   fi
   "$top/prove" --program "$crate" --check "$unproved" || compile
   exec 8>&-
+  tell
 }
 
-if "$top/prove" --program "$crate" --check; then
+# Said with the compile, and at each run at a terminal.
+tell() {
+  say "this run isn't proved: ./prove proves and builds $name, in about 45 minutes"
+}
+
+if [ -x "$program" ] && "$top/prove" --program "$crate" --check; then
   exec "$program" "$@"
 fi
 case $#,${1-} in
   1,--help | 1,-h) print_help ;;
 esac
-"$top/prove" --program "$crate" --check "$unproved" || compile_once
-say "THIS RUN IS NOT PROVED: ./prove proves and builds the program"
+if ! "$top/prove" --program "$crate" --check "$unproved"; then
+  compile_once
+elif [ -t 2 ]; then
+  tell
+fi
 # Its name is told in what it says of its words. The checks that are compiled in would also look for leaks at its end.
 ASAN_OPTIONS=${ASAN_OPTIONS-detect_leaks=0} exec -a "$name" "$unproved" "$@"

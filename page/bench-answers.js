@@ -1,5 +1,6 @@
 // The output as text; in the teacher's mode a list of statements whose answers come when they're asked for.
 import { make } from './elements.js';
+import { withoutRemarks } from './remarks.js';
 import { kindOf } from './replies.js';
 
 const MOST_TEXT = 2 ** 20; // characters of the output that are shown
@@ -30,7 +31,7 @@ function itemOf({ line, reply, map }, lines) {
     shown.focus({ preventScroll: true });
   };
   answer.append(ask);
-  return make('li', {}, make('span', { class: 'muted' }, String(line)), make('code', { class: 'statement' }, (lines[line - 1] ?? '').trim()), answer);
+  return make('li', {}, make('span', { class: 'muted' }, String(line)), make('code', { class: 'statement' }, withoutRemarks([lines[line - 1] ?? ''])[0].trim()), answer);
 }
 
 /** The list of the statements, and a button for those that don't stand there yet. */

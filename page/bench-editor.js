@@ -1,22 +1,33 @@
-// The editor: a text field with the numbers of its lines beside it, and where the caret is.
+// The editor: a text field, with the numbers of its lines before it and their replies after it, and the present
+// statement marked.
 import { make } from './elements.js';
 
-const LINE = 20; // pixels of a line, as in bench.css
+const LINE = 20, ABOVE = 10; // pixels of a line and above the first one, as in bench.css
 
-export function editorOf(area, numbers, caret, edited) {
+/** `edited` is called at each edit, and `chosen` with the line whose reply is clicked. */
+export function editorOf(parts, edited, chosen) {
+  const { area, numbers, replies, now, caret } = parts;
   const lines = () => {
     let count = 1;
     for (let at = area.value.indexOf('\n'); at >= 0; at = area.value.indexOf('\n', at + 1)) count++;
     return count;
   };
-  let count = 1;
+  let count = 1, told = new Map(), present = [0, 0];
 
-  /** Draws the numbers of the lines that can be seen, and no others. */
-  function drawNumbers() {
+  /** Draws what stands beside the lines that can be seen, and no others. */
+  function drawBeside() {
     const first = Math.floor(area.scrollTop / LINE), seen = Math.ceil(area.clientHeight / LINE) + 1;
-    const shown = Array.from({ length: Math.max(0, Math.min(seen, count - first)) }, (_, k) => make('div', {}, String(first + k + 1)));
-    numbers.replaceChildren(...shown);
-    numbers.style.transform = `translateY(${first * LINE - area.scrollTop}px)`;
+    const shown = Array.from({ length: Math.max(0, Math.min(seen, count - first)) }, (_, k) => first + k + 1);
+    numbers.replaceChildren(...shown.map(it => make('div', {}, String(it))));
+    replies.replaceChildren(...shown.map(it => {
+      const { reply = ' ', kind = '' } = told.get(it) ?? {};
+      return make('div', { class: kind, title: reply, onclick: () => told.has(it) && chosen(it) }, reply);
+    }));
+    for (const it of [numbers, replies]) it.style.transform = `translateY(${first * LINE - area.scrollTop}px)`;
+    const [from, to] = present;
+    now.hidden = !from || to > count;
+    now.style.top = `${ABOVE + (from - 1) * LINE - area.scrollTop}px`;
+    now.style.height = `${(to - from + 1) * LINE}px`;
   }
   function drawCaret() {
     const before = area.value.slice(0, area.selectionStart), line = before.split('\n').length;
@@ -24,16 +35,16 @@ export function editorOf(area, numbers, caret, edited) {
   }
   function changed() {
     count = lines();
-    drawNumbers();
+    drawBeside();
     drawCaret();
   }
   area.addEventListener('input', () => {
-    changed();
     edited();
+    changed();
   });
-  area.addEventListener('scroll', drawNumbers);
+  area.addEventListener('scroll', drawBeside);
   document.addEventListener('selectionchange', () => document.activeElement === area && drawCaret());
-  new ResizeObserver(drawNumbers).observe(area);
+  new ResizeObserver(drawBeside).observe(area);
   return {
     get text() {
       return area.value;
@@ -42,7 +53,20 @@ export function editorOf(area, numbers, caret, edited) {
       area.value = text;
       area.scrollTop = 0;
       area.setSelectionRange(0, 0);
+      told = new Map();
+      present = [0, 0];
       changed();
+    },
+    /** Shows replies, by line, and marks the lines of the present statement; they're scrolled to if they have
+        moved. */
+    show(byLine, [from, to]) {
+      const isMoved = from !== present[0];
+      told = byLine;
+      present = [from, to];
+      const top = (from - 1) * LINE, bottom = to * LINE + 2 * ABOVE;
+      if (from && isMoved && (top < area.scrollTop || bottom > area.scrollTop + area.clientHeight))
+        area.scrollTop = Math.max(0, top - area.clientHeight / 3);
+      drawBeside();
     },
   };
 }

@@ -1,11 +1,13 @@
-// What is kept of a script and its options: a link, and the browser's own storage.
+// What is kept of scripts and their options: a link, and a list of one's own in the browser's storage.
+import { MOST_BYTES } from './bench-script.js';
 import { latin, latinText } from './module-host.js';
 
 export const MOST_LINK = 32 * 1024; // characters of the address
-const KEY = 'nilbozad.bench';
+const OLD_KEY = 'nilbozad.bench', KEY = 'nilbozad.own', MOST_OWN = 10;
 export const NAMES = ['low', 'high', 'residence', 'history'];
 
-const through = async (bytes, stream) => new Uint8Array(await new Response(new Blob([bytes]).stream().pipeThrough(stream)).arrayBuffer());
+const piped = (bytes, stream) => new Blob([bytes]).stream().pipeThrough(stream);
+const through = async (bytes, stream) => new Uint8Array(await new Response(piped(bytes, stream)).arrayBuffer());
 
 export const base64Of = bytes => btoa(latinText(bytes));
 export const gzipped = bytes => through(bytes, new CompressionStream('gzip'));
@@ -23,31 +25,59 @@ export async function linkOf({ script, options, name, teacher }) {
   return `#${told}`;
 }
 
-/** What a link holds; null where it holds no script. It throws where it can't be read. */
+/** What a script is once it's unpacked; no more of it is unpacked than a script may have, and one byte. */
+async function unpacked(bytes) {
+  const reader = piped(bytes, new DecompressionStream('deflate-raw')).getReader();
+  let text = '';
+  for (let it = await reader.read(); !it.done; it = await reader.read()) {
+    text += latinText(it.value);
+    if (text.length > MOST_BYTES) {
+      await reader.cancel();
+      break;
+    }
+  }
+  return text;
+}
+
+/** What a link holds; null where it holds no script. It throws where it can't be read, or is longer than any
+    link of this page. */
 export async function readLink(hash) {
   const told = new URLSearchParams(hash.slice(1)), packed = told.get('script');
   if (packed === null) return null;
-  const script = latinText(await through(bytesOf(packed.replaceAll('-', '+').replaceAll('_', '/')), new DecompressionStream('deflate-raw')));
-  return { script, options: Object.fromEntries(NAMES.map(it => [it, told.get(it) ?? ''])), name: told.get('name') ?? '', teacher: told.has('teacher') };
+  if (hash.length > MOST_LINK) throw new RangeError('too long');
+  const script = await unpacked(bytesOf(packed.replaceAll('-', '+').replaceAll('_', '/')));
+  const options = Object.fromEntries(NAMES.map(it => [it, told.get(it) ?? '']));
+  return { script, options, name: told.get('name') ?? '', teacher: told.has('teacher') };
 }
 
-/** Keeps a script and its options in the browser; whether it could. */
-export function keep(state) {
+/** A script of one's own as it was kept; null if it's nothing that can be read. */
+function ownOf(it) {
+  if (typeof it?.script !== 'string') return null;
+  const options = Object.fromEntries(NAMES.map(name => [name, String(it.options?.[name] ?? '')]));
+  return { script: it.script, options, name: String(it.name ?? ''), id: String(it.id ?? 'first') };
+}
+
+/** One's own scripts, the newest first; what an older page of this bench kept is among them. */
+export function keptScripts() {
+  const read = key => {
+    try {
+      return JSON.parse(localStorage.getItem(key));
+    } catch {
+      return null;
+    }
+  };
+  const list = read(KEY), all = Array.isArray(list) ? list : [read(OLD_KEY)];
+  return all.map(ownOf).filter(Boolean);
+}
+
+/** Keeps a script of one's own, in place of the one with its id; whether it could. Others stay, also those of
+    other windows; only the eleventh goes. */
+export function keep(own) {
   try {
-    localStorage.setItem(KEY, JSON.stringify(state));
+    const others = keptScripts().filter(it => it.id !== own.id);
+    localStorage.setItem(KEY, JSON.stringify([own, ...others].slice(0, MOST_OWN)));
     return true;
   } catch {
     return false;
-  }
-}
-
-/** What the browser has kept; null where that is nothing, or nothing that can be read. */
-export function kept() {
-  try {
-    const { script, options, name, teacher } = JSON.parse(localStorage.getItem(KEY));
-    if (typeof script !== 'string') return null;
-    return { script, options: Object.fromEntries(NAMES.map(it => [it, String(options?.[it] ?? '')])), name: String(name ?? ''), teacher: Boolean(teacher) };
-  } catch {
-    return null;
   }
 }

@@ -20,6 +20,16 @@ export function faultOfScript(text) {
   return null;
 }
 
+/** The options in the comments before a script's first statement, as in `*! --residence 31`, by their names. */
+export function optionsIn(text) {
+  const found = {};
+  for (const line of text.split('\n')) {
+    if (!line.startsWith('*') && line.slice(0, 71).trim()) break;
+    if (line.startsWith('*! ')) for (const [, name, value] of line.matchAll(/--([a-z]+)[ =]+(\S+)/g)) found[name] = value;
+  }
+  return found;
+}
+
 /** A file's text as the editor holds it, which knows no carriage returns: right before a line feed they go,
     as vsm takes them; any other belongs to its line. */
 export function editorText(text) {

@@ -1,5 +1,5 @@
 // The worker of the bench: it runs a script, and once more with maps put in, and tells how far it is.
-import { answersOf, isSameRun, joinedBytes, withMaps } from './bench-maps.js';
+import { answersOf, bytesSeen, isSameRun, joinedBytes, peeksOf, rowsToPeek, withLines } from './bench-maps.js';
 import { latin, latinText, runProgram } from './module-host.js';
 
 const PIECE = 4096; // bytes of the script that are read at once
@@ -47,10 +47,15 @@ function reasonOf(fault) {
 }
 
 function pictureOf(words, script, plain, answers) {
+  const begins = answers.map(it => it.line);
+  const ranWith = texts => ranOver(words, withLines(script, begins, texts), 'maps');
   try {
-    const { output, status } = ranOver(words, withMaps(script, answers.map(it => it.line)), 'maps');
-    if (status !== plain.status || !isSameRun(answers, answersOf(output))) return { why: 'the answers are others with maps between them, which is a fault of this page' };
-    return { output };
+    const { output, status } = ranWith([...begins.map(() => ' MAP\n'), ' MAP\n']);
+    if (status !== plain.status || !isSameRun(answers, answersOf(output)))
+      return { why: 'the answers are others with maps between them, which is a fault of this page' };
+    const rows = answers.some(it => it.reply === 'OK') ? rowsToPeek(script, output) : [];
+    const bytes = rows.length ? bytesSeen(answersOf(ranWith(peeksOf(rows)).output), rows) : [];
+    return { output, bytes };
   } catch (fault) {
     return { why: fault instanceof TooMuch ? `with a map at each statement ${reasonOf(fault)} (vsm-view makes pages of parts)` : reasonOf(fault) };
   }

@@ -1,11 +1,15 @@
 // The bench in a browser: an editor, the program in a worker, and what a run shows.
 import { showOutput } from './bench-answers.js';
 import { editorOf } from './bench-editor.js';
-import { base64Of, bytesOf, gunzipped, gzipped, keep, kept, linkOf, MOST_LINK, NAMES, readLink } from './bench-keep.js';
+import {
+  base64Of, bytesOf, gunzipped, gzipped, keep, keptScripts, linkOf, MOST_LINK, NAMES, readLink
+} from './bench-keep.js';
+import { faultOfOption } from './bench-options.js';
 import { runnerOf } from './bench-runner.js';
-import { editorText, faultOfScript } from './bench-script.js';
+import { editorText, faultOfScript, optionsIn } from './bench-script.js';
 import { make } from './elements.js';
 import { latin, latinText } from './module-host.js';
+import { kindOf } from './replies.js';
 import { showRun } from './view.js';
 
 const SAVING = 300; // milliseconds from an edit until it's kept
@@ -30,9 +34,15 @@ class Bench {
     this.result = { output: '', script: '', words: [], mapped: null };
     this.view = null;
     this.turned = false; // whether the output is shown since there was no picture
+    this.id = null; // of the script of one's own that the editor has: a lesson or a link's has none until it's edited
+    this.isUnkept = false;
+    this.place = Infinity; // the statement that the next picture shows
+    this.ending = ''; // what the status line says of a run that has ended
     this.runner = runnerOf(data.worker, wasm, told => this.told(told));
-    this.editor = editorOf(byId('script'), byId('numbers'), byId('caret'), () => this.edited());
-    byId('examples').append(new Option('', ''), ...[...this.examples.keys()].map(it => new Option(it)));
+    const parts = {
+      area: byId('script'), numbers: byId('numbers'), replies: byId('replies'), now: byId('now'), caret: byId('caret')
+    };
+    this.editor = editorOf(parts, () => this.edited(), line => this.view?.go(this.view.run.atLine.get(line)));
     byId('identity').textContent = data.identity.line;
     this.listen();
   }
@@ -47,7 +57,7 @@ class Bench {
     });
     byId('examples').addEventListener('change', () => this.choose(byId('examples').value));
     byId('file').addEventListener('change', () => this.openFile());
-    for (const it of NAMES) byId(it).addEventListener('input', () => this.keepSoon());
+    for (const it of NAMES) byId(it).addEventListener('input', () => this.edited());
     for (const it of ['picture', 'output']) byId(`tab-${it}`).addEventListener('click', () => this.showTab(it));
     document.querySelector('[role=tablist]').addEventListener('keydown', event => this.moveTab(event));
     addEventListener('keydown', event => {
@@ -56,16 +66,13 @@ class Bench {
       this.run();
     });
     addEventListener('hashchange', () => this.followLink());
-    // The view's own key T switches the teacher's mode too.
-    new MutationObserver(() => this.view && this.view.teaching !== this.isTeaching && this.setTeaching(this.view.teaching))
-      .observe(byId('picture'), { subtree: true, attributeFilter: ['aria-checked'] });
   }
 
-  /** Begins with what the link holds, else with what the browser has kept, else with the first example. */
+  /** Begins with what the link holds, else with the newest script of one's own, else with the first lesson. */
   async begin() {
     if (await this.followLink()) return;
-    const before = kept();
-    if (before) this.load(before);
+    const [own] = keptScripts();
+    if (own) this.load(own, own.id);
     else this.choose(this.examples.has('first-steps.vsm') ? 'first-steps.vsm' : [...this.examples.keys()][0]);
   }
 
@@ -85,32 +92,56 @@ class Bench {
     return { script: this.editor.text, options: this.options, name: this.name, teacher: this.isTeaching };
   }
 
-  /** Takes a script with its options, and runs it. */
-  load({ script, options, name, teacher }) {
-    this.setName(name || OWN);
+  /** Takes a script with its options, and runs it. One that is kept nowhere isn't replaced without asking. */
+  load({ script, options, name, teacher }, id = null) {
+    if (this.isLost() && !confirm('The script in the editor is kept nowhere. Is it to be replaced?')) return this.listScripts();
+    const isLesson = id === null && this.examples.get(name)?.script === script;
+    this.id = id;
+    this.name = !name || !isLesson && this.examples.has(name) ? OWN : name;
+    this.chosen = isLesson ? name : '';
+    this.isUnkept = false;
     for (const it of NAMES) byId(it).value = options[it] ?? '';
     if (teacher !== undefined) this.setTeaching(teacher);
     this.editor.text = script;
-    const isExample = this.examples.get(this.name)?.script === script;
-    if (!isExample && this.examples.has(this.name)) this.setName(OWN);
-    byId('examples').value = isExample ? this.name : '';
-    this.keepNow();
-    this.run();
+    this.view?.close();
+    this.view = null;
+    this.place = Infinity;
+    this.listScripts();
+    this.run(true);
   }
 
-  choose(name) {
-    if (this.examples.has(name)) this.load(this.examples.get(name));
-    else if (this.own) this.load(this.own);
+  /** Whether an edit would be lost, since it can be kept nowhere. */
+  isLost() {
+    return this.isUnkept && !keep({ ...this.state, id: this.id });
   }
 
-  setName(name) {
-    this.name = name;
-    byId('examples').options[0].text = this.examples.has(name) ? 'of your own' : `${name} (your own)`;
+  choose(value) {
+    const own = keptScripts().find(it => `own ${it.id}` === value);
+    if (own) this.load(own, own.id);
+    else if (this.examples.has(value)) this.load(this.examples.get(value));
   }
 
+  /** Lists one's own scripts and the lessons, and chooses the one that the editor has. */
+  listScripts() {
+    const own = keptScripts().map(it => new Option(`${it.name}: ${it.script.trim().split('\n')[0].slice(0, 40)}`, `own ${it.id}`));
+    const lessons = [...this.examples.values()].map(it => new Option(it.title ? `${it.name}: ${it.title}` : it.name, it.name));
+    const groups = [['Your own', own], ['Lessons', lessons]].filter(it => it[1].length);
+    const now = new Option(this.id === null ? this.name : `${this.name} (your own)`, '');
+    byId('examples').replaceChildren(now, ...groups.map(([label, inner]) => make('optgroup', { label }, ...inner)));
+    byId('examples').value = this.chosen;
+  }
+
+  /** An edit makes a script one's own. */
   edited() {
-    if (byId('examples').value) this.setName(OWN);
-    byId('examples').value = '';
+    if (this.id === null) {
+      this.id = `${Date.now()} ${Math.random()}`;
+      if (this.chosen) this.name = OWN;
+      this.chosen = '';
+      this.listScripts();
+    }
+    this.isUnkept = true;
+    this.showWrong();
+    this.markOld();
     this.keepSoon();
   }
 
@@ -119,20 +150,63 @@ class Bench {
     this.keeping = setTimeout(() => this.keepNow(), SAVING);
   }
 
-  /** Keeps script and options in the browser and, where that's short enough, in the address. */
-  async keepNow() {
+  /** Keeps a script of one's own in the browser and, if it's short enough, any in the address; a script that was
+      loaded anew is another place that Back leads to. */
+  async keepNow(isNew = false) {
     clearTimeout(this.keeping);
-    const { state } = this, isKept = keep(state);
+    const { state, id } = this, isKept = id !== null && keep({ ...state, id });
     this.kept = state;
-    if (!byId('examples').value) this.own = state;
     const link = faultOfScript(state.script) ? null : await linkOf(state);
-    const fits = link !== null && link.length <= MOST_LINK;
+    const fits = link !== null && link.length <= MOST_LINK, address = fits ? link : '#';
     // Another edit may have come while this one was packed.
     if (this.kept !== state) return { link, fits };
-    history.replaceState(null, '', fits ? link : '#');
+    if (isNew && location.hash.length > 1 && location.hash !== address) history.pushState(null, '', address);
+    else history.replaceState(null, '', address);
+    this.isUnkept = id !== null && !isKept && !fits;
+    window.onbeforeunload = this.isUnkept ? event => event.preventDefault() : null;
     const where = [isKept && 'in this browser', fits && 'in the address'].filter(Boolean).join(' and ');
     byId('kept').textContent = (where ? `Kept ${where}` : 'Not kept') + (fits || link === null ? '.' : '; the script is too long for the address.');
+    byId('kept').classList.toggle('bad', this.isUnkept);
     return { link, fits };
+  }
+
+  /** What is wrong with the options, a sentence for each. */
+  showWrong() {
+    const found = NAMES.map(it => [it, faultOfOption(it, byId(it).value.trim())]);
+    for (const [name, why] of found) byId(name).setAttribute('aria-invalid', String(why !== null));
+    const text = found.map(it => it[1]).filter(Boolean).join(' ');
+    byId('wrong').textContent = text;
+    return text;
+  }
+
+  /** Marks what is shown as of another script or options than those of the editor. */
+  markOld() {
+    const { script, words } = this.result;
+    const isOld = script !== this.editor.text || words.join() !== this.words.join();
+    byId('result').classList.toggle('old', isOld);
+    if (!this.runner.isRunning) this.say(isOld ? 'Edited since this run: Run shows it anew' : this.ending);
+    this.showBeside();
+  }
+
+  /** Shows replies and the present statement beside the editor's lines, as far as these are those of the run. */
+  showBeside() {
+    const { view } = this, { run } = view ?? {}, byLine = new Map();
+    if (!run) return this.editor.show(byLine, [0, 0]);
+    const lines = this.editor.text.split('\n'), other = run.lines.findIndex((it, k) => it !== lines[k]);
+    const isSame = ([, to]) => other < 0 || to <= other;
+    for (let step = 1; step <= view.told && isSame(run.linesOf(step)); step++) {
+      const { line, reply } = run.statement(step);
+      byLine.set(line, { reply, kind: kindOf(reply) });
+    }
+    const now = view.step ? run.linesOf(view.step) : [0, 0];
+    this.editor.show(byLine, isSame(now) ? now : [0, 0]);
+  }
+
+  /** What the view calls at each step; its own key T switches the teacher's mode too. */
+  moved(view) {
+    if (view !== this.view) return;
+    if (view.teaching !== this.isTeaching) this.setTeaching(view.teaching);
+    this.showBeside();
   }
 
   /** Takes what the address holds; whether it holds a script. */
@@ -145,25 +219,28 @@ class Bench {
       else this.note('This link can’t be followed', make('p', {}, `${found.name || OWN}, ${fault}.`));
       return !fault;
     } catch {
-      this.note('This link can’t be read', make('p', {}, 'The address holds something that isn’t a script of this bench, perhaps since it was cut short. What this browser has kept is shown in its place.'));
+      this.note('This link can’t be read', make('p', {}, 'The address holds something that isn’t a script of this bench, or is too long, perhaps since it was cut short. What this browser has kept is shown in its place.'));
       return false;
     }
   }
 
-  run() {
-    const script = this.editor.text, fault = faultOfScript(script);
+  run(isNew = false) {
+    const script = this.editor.text, fault = faultOfScript(script), wrong = this.showWrong();
     this.runner.stop();
+    if (this.view) this.place = this.view.step === this.view.run.steps ? Infinity : this.view.step;
     this.view?.close();
     this.view = null;
     this.fail('');
-    if (fault) return this.refuse(`${this.name}, ${fault}.`);
+    this.keepNow(isNew);
     this.result = { script, words: this.words, name: this.name, output: '', mapped: null };
+    byId('result').classList.remove('old');
+    if (fault || wrong) return this.refuse(fault ? `${this.name}, ${fault}.` : wrong);
+    this.result.question = this.examples.get(this.chosen)?.question ?? '';
     this.began = performance.now();
     this.isCleared = false;
     this.busy(true);
     this.say('Running');
     this.runner.run(this.words, latin(script));
-    this.keepNow();
   }
 
   stop() {
@@ -212,20 +289,31 @@ class Bench {
     }
   }
 
-  async pictured({ output, why }) {
+  async pictured({ output, bytes, why }) {
     if (why) return this.withoutPicture(`There’s no picture of this run: ${why}.`);
-    this.result.mapped = output;
-    const { name, script, words } = this.result, { result } = this;
-    const view = await showRun(byId('picture'), { name, options: words, script: script.replace(/\n$/, ''), skipped: 0, text: latinText(output) }, { teacher: this.isTeaching });
+    Object.assign(this.result, { mapped: output, bytes });
+    const { result } = this, data = { ...this.dataOf(result), text: latinText(output) };
+    const view = await showRun(byId('picture'), data, { teacher: this.isTeaching, moved: it => this.moved(it) });
     if (this.result !== result) return view?.close();
     this.view = view;
-    if (!this.isTeaching) view?.go(view.run.steps);
+    if (!this.isTeaching) view?.go(this.place);
+    this.showBeside();
+  }
+
+  /** The data of a run's page, but for what the program printed. */
+  dataOf({ name, words, script, bytes, question }) {
+    return { name, options: words, script: script.replace(/\n$/, ''), skipped: 0, bytes, question };
   }
 
   ended() {
     this.busy(false);
     const { status, count } = this.result;
-    this.say(`Exit status ${status} · ${count.toLocaleString('en')} ${count === 1 ? 'statement' : 'statements'} · ${inSeconds(performance.now() - this.began)}`, status > 4);
+    const statements = `${count.toLocaleString('en')} ${count === 1 ? 'statement' : 'statements'}`;
+    const took = inSeconds(performance.now() - this.began);
+    this.endings = [`Exit status ${status} · ${statements} · ${took}`, `${statements} · ${took}`];
+    this.sayEnding();
+    if (status > 4) byId('status').classList.add('bad');
+    this.markOld();
   }
 
   /** That there was no run, or no end of it, in words. */
@@ -234,6 +322,8 @@ class Bench {
     this.fail(why);
     this.say('No run', true);
     this.withoutPicture('There’s no run to be shown.');
+    this.ending = 'No run';
+    this.showBeside();
   }
 
   withoutPicture(why) {
@@ -263,10 +353,19 @@ class Bench {
     showOutput(byId('output'), this.result, this.isTeaching);
   }
 
+  /** In the teacher's mode the status tells no answer, and the editor, which has the comments, is hidden. */
   setTeaching(isOn) {
+    if (isOn !== this.isTeaching) this.fold(isOn, false);
     byId('teacher').setAttribute('aria-checked', String(isOn));
     this.showOutput();
+    this.sayEnding();
     this.keepSoon();
+  }
+
+  sayEnding() {
+    if (!this.endings || this.runner.isRunning) return;
+    this.ending = this.endings[this.isTeaching ? 1 : 0];
+    this.say(this.ending);
   }
 
   teach(isOn) {
@@ -294,10 +393,10 @@ class Bench {
     event.stopPropagation();
   }
 
-  fold(isFolded) {
+  fold(isFolded, isAsked = true) {
     byId('bench').classList.toggle('folded', isFolded);
     byId('unfold').hidden = !isFolded;
-    byId(isFolded ? 'unfold' : 'fold').focus();
+    if (isAsked) byId(isFolded ? 'unfold' : 'fold').focus();
   }
 
   note(title, ...inner) {
@@ -347,7 +446,7 @@ class Bench {
     try {
       const { text, fault } = editorText(latinText(new Uint8Array(await file.arrayBuffer())));
       if (fault) this.note('This file can’t be opened', make('p', {}, `${file.name}, ${fault}.`));
-      else this.load({ script: text, options: this.options, name: file.name });
+      else this.load({ script: text, options: { ...this.options, ...optionsIn(text) }, name: file.name });
     } catch (fault) {
       this.note('This file can’t be opened', make('p', {}, `${file.name}: ${fault.message}`));
     }
@@ -371,9 +470,9 @@ class Bench {
 
   /** Saves the page that vsm-view makes of this run. */
   async savePage() {
-    const { mapped, name, words, script } = this.result;
+    const { mapped, name } = this.result;
     if (!mapped) return this.note('There’s no picture to be saved', make('p', {}, 'Run the script first.'));
-    const told = { name, options: words, script: script.replace(/\n$/, ''), skipped: 0, output: base64Of(await gzipped(mapped)) };
+    const told = { ...this.dataOf(this.result), output: base64Of(await gzipped(mapped)) };
     const title = make('title', {}, `${name} · vsm`).outerHTML;
     const page = this.data.page.replace('<title></title>', () => title).replace('id="data">', () => `id="data">${JSON.stringify(told).replaceAll('<', '\\u003c')}`);
     this.save('.html', page, 'text/html');

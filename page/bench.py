@@ -14,10 +14,14 @@ import json
 import sys
 from pathlib import Path
 
-from build import BuildFault, build_page, joined_script
-
 HERE = Path(__file__).resolve().parent
 TOP = HERE.parent
+sys.path[:0] = [str(HERE), str(TOP / "tools")]
+sys.dont_write_bytecode = True
+
+from build import BuildFault, build_page, joined_script, lessons  # noqa: E402
+from vsmtools.lines import options_for  # noqa: E402
+
 SHORT = 12  # characters of a commit in the page's last line
 
 
@@ -30,22 +34,23 @@ def identity_of(module: Path) -> dict[str, str | int]:
 
 
 def option_words(script: Path) -> list[str]:
-    """The options of an example, a word a line of the file beside it; none where that isn't there."""
-    try:
-        return script.with_suffix(".options").read_text(encoding="utf-8").split()
-    except FileNotFoundError:
-        return []
+    """The options in an example's first comment."""
+    return options_for(script.name, script.read_bytes())
 
 
 def example(script: Path) -> dict[str, object]:
-    """An example script, each character one byte, and its options by their names."""
+    """An example script, each character one byte, its options by their names, and what the lesson is."""
     words = option_words(script)
     options = {name.removeprefix("--"): value for name, value in zip(words[::2], words[1::2])}
-    return {"name": script.name, "script": script.read_bytes().decode("latin-1"), "options": options}
+    title, question = lessons().get(script.name, ("", ""))
+    text = script.read_bytes().decode("latin-1")
+    return {"name": script.name, "script": text, "options": options, "title": title, "question": question}
 
 
 def examples() -> list[dict[str, object]]:
-    return [example(script) for script in sorted((TOP / "examples").glob("*.vsm"))]
+    """The lessons in their order, and then what else is there."""
+    files = {script.name: script for script in sorted((TOP / "examples").glob("*.vsm"))}
+    return [example(files[name]) for name in [*lessons(), *(it for it in files if it not in lessons())] if name in files]
 
 
 def bench_page(module: Path) -> str:
@@ -63,8 +68,8 @@ def bench_page(module: Path) -> str:
 
 def main(words: list[str]) -> int:
     if len(words) > 2 or any(word.startswith("-") for word in words):
-        print(__doc__.split("\n")[2], file=sys.stderr)
-        return 16
+        print(__doc__.strip())
+        return 0 if words == ["--help"] else 16
     module = Path(words[0]) if words else TOP / "dist" / "vsm.wasm"
     page = Path(words[1]) if len(words) > 1 else TOP / "dist" / "bench.html"
     try:
@@ -72,7 +77,8 @@ def main(words: list[str]) -> int:
         page.parent.mkdir(parents=True, exist_ok=True)
         page.write_text(text, encoding="utf-8")
     except OSError as fault:
-        print(f"page/bench.py: {fault.filename}: {fault.strerror}", file=sys.stderr)
+        first = "" if words else "; run page/module first"
+        print(f"page/bench.py: {fault.filename}: {fault.strerror}{first}", file=sys.stderr)
         return 1
     except KeyError as fault:
         print(f"page/bench.py: {module.with_suffix('.json')}: it lacks {fault}", file=sys.stderr)

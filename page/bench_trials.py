@@ -4,7 +4,7 @@
 Usage: page/bench_trials.py [MODULE.wasm]
     these alone; by default of dist/vsm.wasm. The last line is 'N passed, M failed'.
 
-In node the module has to give each row of tests/rows and each example, byte for byte, with its status and
+In node the module has to give each row of tests/rows, script of conformance and example, byte for byte, with its status and
 what it says on standard error; scripts come whole, as a file, and byte by byte. In the browser the bench has
 to give the same for each example, and to do what docs/BENCH-IN-A-BROWSER.md says.
 """
@@ -279,12 +279,18 @@ def try_odd_scripts(page: BenchPage, node: Node, trials: Trials) -> None:
 
 
 def try_command_line(page: BenchPage, node: Node, trials: Trials) -> None:
-    for options in ({"low": "6"}, {"low": "x"}, {"history": "0"}, {"high": "4294967296"}):
-        words = [word for name, value in options.items() for word in (f"--{name}", value)]
-        page.run(b" MAP\n", **options)
-        told = node.run(words, b" MAP\n", {})
-        trials.want(f"{' '.join(words)} is refused with the program's words",
-                   (page.text("errors").encode(), page.status()) == (told["errors"], 16), (page.text("status"), page.text("errors")))
+    wrong = [("low", "6", "Low K is a number from 4 to 16360, a multiple of 4."), ("low", "x", "Low K"), ("low", "-4", "Low K"),
+             ("high", "65", "High K is a number from 4 to 1572864, a multiple of 4."), ("high", "4294967296", "High K"),
+             ("history", "0", "History is a number from 1 to 65536.")]
+    for name, value, why in wrong:
+        page.run(b" MAP\n", **{name: value})
+        said = [page.text(it) for it in ("errors", "wrong", "status")]
+        trials.want(f"the option {name} {value} is refused with a sentence", said[0].startswith(why) and said[1:] == [said[0], "No run"], said)
+        trials.equal("its field is marked", page.js("[...document.querySelectorAll('[aria-invalid=true]')].map(it => it.id)"), [name])
+        trials.want("vsm refuses it too", node.run([f"--{name}={value}"], b" MAP\n", {})["status"] == 16)
+    for name, value in (("low", "+16"), ("low", "16360"), ("high", "1572864"), ("history", "65536")):
+        page.run(b" BACK 0\n", **{name: value})
+        trials.want(f"the option {name} {value} is taken", page.output() == b"0000001 KEPT=0\n", (page.text("errors"), page.text("status")))
     page.run(b" STORAGE OBTAIN,LENGTH=8\n", low="8", high="8", residence="31", history="3")
     told = node.run("--low 8 --high 8 --residence 31 --history 3".split(), b" STORAGE OBTAIN,LENGTH=8\n", {})
     trials.want("all options together", (page.output(), page.text("errors")) == (told["output"], ""), page.output())
@@ -351,6 +357,12 @@ def try_link(page: BenchPage, trials: Trials) -> None:
     packed = zlib.compress(b"\n" * 1_000_000, 9, -zlib.MAX_WBITS)
     page.open("#script=" + base64.urlsafe_b64encode(packed).decode().rstrip("="))
     trials.want("a link's script of a million lines is refused in words", page.js("document.getElementById('note').open") and "1,000,000 lines" in page.text("note"), page.text("note"))
+    bomb = zlib.compress(b"\n" * 100_000_000, 9, -zlib.MAX_WBITS)
+    start = time.monotonic()
+    page.open("#script=" + base64.urlsafe_b64encode(bomb).decode().rstrip("="))
+    trials.want("a link that is too long isn't unpacked", page.js("document.getElementById('note').open") and time.monotonic() - start < 20, time.monotonic() - start)
+    page.open("#script=" + base64.urlsafe_b64encode(zlib.compress(b"\n" * 20_000_000, 9, -zlib.MAX_WBITS)).decode().rstrip("="))
+    trials.want("one that unpacks to too much is refused in words", page.js("document.getElementById('note').open") and "lines" in page.text("note"), page.text("note"))
     page.open("#script=" + "A" * 40)
     trials.want("a link that can't be read is said", page.js("document.getElementById('note').open") and "can’t be read" in page.text("note"), page.text("note"))
     page.open("#script=%FF%00!")
@@ -362,11 +374,23 @@ def try_keeping(page: BenchPage, trials: Trials) -> None:
     page.put("script", "* kept\n BACK 0\n")
     page.put("high", "96")
     page.wait("document.getElementById('kept').textContent.startsWith('Kept in this browser')")
-    page.wait("JSON.parse(localStorage.getItem('nilbozad.bench')).script.startsWith('* kept')")
+    page.wait("JSON.parse(localStorage.getItem('nilbozad.own'))[0].options.high === '96'")
     page.open()
     held = page.js("['script', 'high'].map(it => document.getElementById(it).value)")
     trials.want("the browser keeps script and options", held == ["* kept\n BACK 0\n", "96"], held)
-    page.js("localStorage.setItem('nilbozad.bench', '{\"script\":7}')")
+    page.put("examples", "overlay.vsm", "change")
+    page.ended()
+    page.open()
+    trials.want("choosing a lesson loses no script of one's own", page.js("document.getElementById('script').value").startswith("* kept"))
+    page.js("localStorage.setItem('nilbozad.own', JSON.stringify([{ script: ' BACK 0', id: 'other window' }, ...JSON.parse(localStorage.getItem('nilbozad.own'))]))")
+    page.put("script", "* kept\n BACK 0\n* more")
+    page.wait("JSON.parse(localStorage.getItem('nilbozad.own'))[0].script.endsWith('more')")
+    trials.equal("nor does another window", page.js("JSON.parse(localStorage.getItem('nilbozad.own')).map(it => it.script)"), ["* kept\n BACK 0\n* more", " BACK 0"])
+    page.open("#script=" + base64.urlsafe_b64encode(zlib.compress(b" MAP  theirs", 9, -zlib.MAX_WBITS)).decode().rstrip("="))
+    trials.equal("a link is followed", page.js("document.getElementById('script').value"), " MAP  theirs")
+    page.open()
+    trials.want("nor does a link", page.js("document.getElementById('script').value").endswith("more"))
+    page.js("localStorage.setItem('nilbozad.own', '[{\"script\":7}, null]')")
     page.open()
     trials.want("where what was kept is no script the first example stands there", page.js("document.getElementById('examples').value") == "first-steps.vsm")
 
@@ -387,7 +411,7 @@ def try_limits(page: BenchPage, trials: Trials) -> None:
     trials.want("and nothing of that stays", page.output() == b"0000001 KEPT=0\n" and not page.text("errors"))
 
 
-OPENED = {"crlf.vsm": b" MAP\r\n BACK 0\r\n", "high.vsm": b"* \xe4\x80\n BACK 0"}
+OPENED = {"crlf.vsm": b" MAP\r\n BACK 0\r\n", "high.vsm": b"* \xe4\x80\n BACK 0", "low.vsm": b"*! --low 32\n MAP\n"}
 REFUSED = {"return.vsm": (b" MAP\n BACK\r 0\n", "line 2, column 6"), "last.vsm": (b" MAP\r", "line 1, column 5"), "many.vsm": (b"\n" * 1_000_000, "1,000,000 lines")}
 
 
@@ -413,6 +437,42 @@ def try_files(page: BenchPage, folder: Path, trials: Trials) -> None:
         trials.want(f"the file {name} is opened", page.wait(f"document.getElementById('script').value === {json.dumps(wanted)}", 20))
         trials.want("and its name told", name in page.js("document.getElementById('examples').selectedOptions[0].text"))
         page.ended()
+    trials.equal("options of its first comment are taken", page.js("document.getElementById('low').value"), "32")
+    page.put("low", "")
+
+
+def shown_step(page: BenchPage) -> str:
+    return page.js("document.querySelector('.where').textContent")
+
+
+def try_beside(page: BenchPage, trials: Trials) -> None:
+    """Replies and the present statement beside the editor; the place over a run; what an edit makes old."""
+    page.put("examples", "overlay.vsm", "change")
+    page.ended()
+    page.wait("document.querySelector('#replies').textContent.includes('ABEND S0C4')", 20)
+    replies = page.js("[...document.querySelectorAll('#replies > div')].slice(0, 10).map(it => it.textContent)")
+    wanted = [line[8:].decode() for line in (TOP / "examples" / "overlay.out").read_bytes().split(b"\n") if line]
+    trials.equal("the replies beside the editor", replies, wanted)
+    cut = page.js("[...document.querySelectorAll('#replies > div')].filter(it => it.scrollWidth > it.clientWidth).length")
+    trials.equal("replies that are cut", cut, 0)
+    trials.want("72 columns are in sight", page.js("document.getElementById('script').scrollWidth <= document.getElementById('script').clientWidth"))
+    trials.want("there's one script", not page.js("document.querySelector('#picture .script').checkVisibility()"))
+    page.js("document.querySelectorAll('#replies > div')[3].click()")
+    page.browser.settle()
+    trials.want("a reply leads to its statement", shown_step(page).startswith("4 of 10"), shown_step(page))
+    trials.equal("its line is marked", page.js("document.getElementById('now').style.top"), "70px")
+    text = (TOP / "examples" / "overlay.vsm").read_text()
+    page.put("script", text.replace("PEEK SECOND,4 ", "PEEK SECOND,8 ", 1))
+    trials.want("an edit marks the run as old", page.js("document.getElementById('result').classList.contains('old')") and "Edited" in page.text("status"), page.text("status"))
+    replies = page.js("[...document.querySelectorAll('#replies > div')].slice(0, 10).map(it => it.textContent.trim())")
+    trials.equal("replies stay before the edit, and none after it", replies, [*wanted[:4], *[""] * 6])
+    page.put("script", text)
+    trials.want("an edit that is taken back doesn't", "Exit status" in page.text("status"), page.text("status"))
+    page.click("run")
+    page.ended()
+    trials.want("a run keeps the place", page.wait("document.querySelector('.where')?.textContent.startsWith('4 of 10')", 10), shown_step(page))
+    order = page.js("[...document.querySelectorAll('#examples optgroup[label=Lessons] option')].map(it => it.value)")
+    trials.equal("the lessons come in their order", order, list(bench.lessons()))
 
 
 def try_teacher(page: BenchPage, trials: Trials) -> None:
@@ -420,6 +480,10 @@ def try_teacher(page: BenchPage, trials: Trials) -> None:
     page.ended()
     page.click("teacher")
     page.wait("document.querySelector('#output .asked')")
+    page.wait("document.querySelector('#picture .question')", 20)
+    seen = page.js("document.body.innerText + document.getElementById('output').textContent")
+    trials.want("nothing tells an answer: no status, editor, remark or comment", not any(it in seen for it in ("Exit status", "none is free", "there is none", "handed out")), seen)
+    trials.want("the lesson's question is asked", "Which address does a GET give" in seen, seen)
     hidden = page.js("[document.getElementById('output').textContent, document.getElementById('picture').textContent].filter(it => /RC=0|ABEND/.test(it)).length")
     trials.want("in the teacher's mode no answer is shown", hidden == 0, hidden)
     count = page.js("document.querySelectorAll('#output .answer button').length")
@@ -431,6 +495,8 @@ def try_teacher(page: BenchPage, trials: Trials) -> None:
     trials.want("the next run hides its answers too", page.js("document.querySelectorAll('#output .answer button').length") == 9)
     page.js("document.activeElement.blur()")
     page.browser.key("t")
+    trials.want("the view's key asks first", page.js("document.getElementById('teacher').getAttribute('aria-checked')") == "true")
+    page.js("document.querySelector('#picture dialog .all').click()")
     trials.want("the view's key switches it off", page.wait("document.getElementById('teacher').getAttribute('aria-checked') === 'false'", 5))
     page.click("teacher")
     page.click("teacher")
@@ -488,6 +554,17 @@ def try_no_network(page: BenchPage, trials: Trials) -> None:
       fetch('http://127.0.0.1:9/').catch(() => setTimeout(() => done('nothing'), 500));
     })""")
     trials.want("the page's policy refuses the network", refused == "connect-src", refused)
+    refused = page.js("""new Promise(done => {
+      addEventListener('securitypolicyviolation', event => done(event.effectiveDirective));
+      const form = document.createElement('form');
+      Object.assign(form, { method: 'post', action: 'http://127.0.0.1:9/' });
+      document.body.append(form);
+      form.submit();
+      setTimeout(() => done('nothing'), 500);
+    })""")
+    trials.want("and a form that is sent", refused == "form-action", refused)
+    page.js("(it => { it.textContent = 'window.isRun = true'; document.body.append(it); })(document.createElement('script'))")
+    trials.want("and a script that isn't the page's", not page.js("window.isRun"))
 
 
 def try_page(page: BenchPage, node: Node, folder: Path, trials: Trials) -> None:
@@ -495,7 +572,7 @@ def try_page(page: BenchPage, node: Node, folder: Path, trials: Trials) -> None:
         lambda: try_opening(page, trials), lambda: try_looks(page, trials), lambda: try_each_example(page, trials),
         lambda: try_odd_scripts(page, node, trials), lambda: try_command_line(page, node, trials), lambda: try_keys(page, trials),
         lambda: try_stop(page, trials), lambda: try_link(page, trials), lambda: try_keeping(page, trials),
-        lambda: try_limits(page, trials), lambda: try_files(page, folder, trials), lambda: try_teacher(page, trials),
+        lambda: try_limits(page, trials), lambda: try_files(page, folder, trials), lambda: try_beside(page, trials), lambda: try_teacher(page, trials),
         lambda: try_saving(page, folder, trials), lambda: try_lacks(page, trials), lambda: try_no_network(page, trials)]
     for part in parts:
         try:

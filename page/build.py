@@ -8,6 +8,8 @@ they declare at the left margin are unlike each other, since one script has them
 `./messages.js` is made here: what docs/MESSAGES.md says of each answer. Data go to the element `<script
 type="application/json" id="ID"></script>`.
 """
+import base64
+import hashlib
 import html
 import json
 import re
@@ -31,8 +33,9 @@ class BuildFault(Exception):
 
 
 def plain(cell: str) -> str:
-    """The words of a cell of a table, without links and marks of code."""
-    return re.sub(r"\[([^\]]*)\]\([^)]*\)", r"\1", cell).replace("`", "").strip()
+    """The words of a cell of a table, without marks of code; a link to a part of another document names it."""
+    words = re.sub(r"\[([^].]*)\]\(([\w.-]+)#[^)]*\)", r"\1 in docs/\2", cell)
+    return re.sub(r"\[([^\]]*)\]\([^)]*\)", r"\1", words).replace("`", "").strip()
 
 
 def table(text: str, heading: str) -> list[list[str]]:
@@ -58,6 +61,13 @@ def messages(text: str) -> list[dict[str, object]]:
         for cells in table(text, heading):
             rows.append({"texts": texts_of(cells[0]), "meaning": plain(cells[1]), more: plain(cells[2])})
     return rows
+
+
+def lessons() -> dict[str, tuple[str, str]]:
+    """The lessons of examples/README.md in their order: by file, of what each is, and its question."""
+    text = (HERE.parent / "examples" / "README.md").read_text(encoding="utf-8")
+    rows = re.findall(r"^\| \[[\w-]+\]\(([\w.-]+)\) \| (.*?) \| (.*?) \|$", text, re.MULTILINE)
+    return {file: (plain(what), plain(question)) for file, what, question in rows}
 
 
 def source(name: str) -> str:
@@ -121,7 +131,12 @@ def build_page(template: Path, title: str, data: Mapping[str, object]) -> str:
     page = template.read_text(encoding="utf-8")
     page = page.replace("<title></title>", f"<title>{html.escape(title)}</title>")
     page = STYLE.sub(lambda it: f"<style>\n{(HERE / it[1]).read_text(encoding='utf-8')}</style>", page)
-    page = SCRIPT.sub(lambda it: f'<script type="module">\n{joined_script(it[1])}</script>', page)
+    found = SCRIPT.search(page)
+    script = "\n" + joined_script(found[1]) if found else ""
+    page = SCRIPT.sub(lambda _: f'<script type="module">{script}</script>', page)
+    # The policy names the one script by its sum: no other one runs.
+    digest = base64.b64encode(hashlib.sha256(script.encode()).digest()).decode()
+    page = page.replace("script-src 'unsafe-inline'", f"script-src 'sha256-{digest}'", 1)
     for name, value in data.items():
         empty = f'<script type="application/json" id="{name}"></script>'
         before, found, behind = page.partition(empty)

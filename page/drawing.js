@@ -18,6 +18,15 @@ function boxes(parts, begin, wide) {
   return d;
 }
 
+/** One outline round a range of bytes, over all rows that it has. */
+export function outline({ from, to }, begin, wide) {
+  const first = (from - begin) / UNIT, last = (to - begin) / UNIT - 1;
+  const [a, b] = [first % wide, last % wide + 1], [top, row] = [first, last].map(it => Math.floor(it / wide));
+  // Of two rows the ends may not touch: that is two boxes.
+  if (top === row || row === top + 1 && b <= a) return boxes([{ from, to }], begin, wide);
+  return `M${a} ${top}H${wide}V${row}H${b}V${row + 1}H0V${top + 1}H${a}Z`;
+}
+
 /** The taken parts that touch one before them. */
 const touching = parts => parts.filter((it, k) => k && it.kind === 'taken' && parts[k - 1].kind === 'taken');
 
@@ -42,10 +51,9 @@ export function drawingOf(page, granted, wide, scale) {
   path('edge', lines(touching(page.parts), begin, wide));
   path('edge ofcells', lines(page.cells.filter(it => it.whole / UNIT * scale >= MARKED), begin, wide));
   if (granted && granted.from < begin + PAGE && granted.to > begin) {
-    path(
-      'granted',
-      boxes([{ from: Math.max(granted.from, begin), to: Math.min(granted.to, begin + PAGE) }], begin, wide)
-    );
+    const round = { from: Math.max(granted.from, begin), to: Math.min(granted.to, begin + PAGE) };
+    // Two tones: on each colour one of them is seen.
+    for (const kind of ['granted below', 'granted']) path(kind, outline(round, begin, wide));
   }
   return svg;
 }

@@ -1,5 +1,5 @@
 // Elements, numbers and colours.
-const SVG = 'http://www.w3.org/2000/svg', SVG_NAMES = new Set(['svg', 'path', 'rect', 'g']);
+const SVG = 'http://www.w3.org/2000/svg', SVG_NAMES = new Set(['svg', 'path', 'rect', 'g', 'title']);
 
 export const hex = value => value.toString(16).toUpperCase().padStart(8, '0');
 export const grouped = value => value.toLocaleString('en');

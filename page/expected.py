@@ -1,7 +1,8 @@
 """What a page has to show, worked out from the page's data without the page's own script.
 
 Where areas that touch are parted is found in another way than the page does: each accepted statement that
-obtains paints its doublewords, and a line stands where two neighbours were painted by two statements.
+obtains, and then each extent of a cell pool, paints its doublewords, and a line stands where two neighbours
+were painted by two of these.
 """
 from __future__ import annotations
 
@@ -55,6 +56,14 @@ class Page:
         maps = self.answers[self.skipped :: 2]
         return parse_map(maps[min(step, len(maps) - 1)].rest)
 
+    def changes(self, step: int) -> bool:
+        """Whether the statement of a step changes more than how many changes are kept."""
+        if any(at == step for at, _, _ in self.data.get("bytes", [])):
+            return True
+        maps = self.answers[self.skipped :: 2]
+        before, after = ([line for line in maps[min(at, len(maps) - 1)].rest if " HISTORY " not in line] for at in (step - 1, step))
+        return before != after
+
     def answers_to(self, step: int) -> list[Answer]:
         return self.answers[: self.skipped] + self.shown[:step]
 
@@ -76,14 +85,15 @@ def history(told: Iterable[Answer], limit: int) -> tuple[list[Answer], list[Answ
     return kept[:stand], kept[stand:]
 
 
-def owners(stand: list[Answer]) -> dict[int, int]:
-    """By doubleword, which of the standing statements obtained it last."""
+def owners(stand: list[Answer], state: Map) -> dict[int, int]:
+    """By doubleword, which of the standing statements obtained it last; an extent of a cell pool, which a GET
+    may have obtained, is one area."""
+    granted = [GRANTED.fullmatch(answer.text) for answer in stand]
+    areas = [(int(found[1], 16), int(found[2], 16)) for found in granted if found]
+    areas += [(extent.start, extent.length) for pool in state.cell_pools for extent in pool.extents]
     painted: dict[int, int] = {}
-    for number, answer in enumerate(stand):
-        found = GRANTED.fullmatch(answer.text)
-        if found:
-            first, length = (int(word, 16) // UNIT for word in found.groups())
-            painted.update(dict.fromkeys(range(first, first + length), number))
+    for number, (start, length) in enumerate(areas):
+        painted.update(dict.fromkeys(range(start // UNIT, (start + length) // UNIT), number))
     return painted
 
 

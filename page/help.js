@@ -14,14 +14,22 @@ const KEYS = [
 ];
 const TEXTS = [
   'Each row of the storage is a page of 4,096 bytes; its colour and number are those of its subpool, T ' +
-    'is the owner. Full colour is taken, a pale tint is free, and thin lines part areas that touch. Of a ' +
-    'cell pool, dark cells are in use and lighter ones are free. A frame stands round what the statement ' +
-    'was granted. A dot stands at what has changed.',
-  'All that is shown is what vsm printed: a map before and behind each statement. Where areas that ' +
-    'touch are parted, and which statements are undone, is worked out from the replies.',
+    'is the owner. A strong colour is taken, a faint one free, also of the cells of a cell pool; thin ' +
+    'lines part areas that touch. A frame is round what the statement was granted, and a dot at what it ' +
+    'changed.',
+  'Over the slider are ticks at what was refused (long), answered 4 (low) and a step (high), the bytes that ' +
+    'are taken (filled), and the pages below (line) and above (dashes) the 16 MB line.',
+  'All that is shown is what vsm printed: a map before and after each statement, and PEEKs of what POKEs ' +
+    'store. Which line obtained an area, and which statements are undone, is worked out from the replies.',
 ];
 
-export function helpDialog() {
+/** Whether keys of one character act: who speaks to the browser may want none. */
+const lettersSwitch = view => make(
+  'label', {}, make('input', { type: 'checkbox', checked: true, onchange: event => { view.hasLetters = event.target.checked; } }),
+  ' Keys of one character (T ? [ ]) act'
+);
+
+export function helpDialog(view) {
   const title = make('h2', {}, 'A run, statement by statement');
   title.id = `help-title-${Math.random().toString(36).slice(2)}`;
   const keys = KEYS.flatMap(
@@ -29,6 +37,18 @@ export function helpDialog() {
   );
   return make(
     'dialog', { 'aria-labelledby': title.id }, title, make('dl', {}, ...keys),
-    ...TEXTS.map(it => make('p', {}, it)), make('form', { method: 'dialog' }, make('button', {}, 'Close'))
+    make('p', {}, lettersSwitch(view)), ...TEXTS.map(it => make('p', {}, it)), make('form', { method: 'dialog' }, make('button', {}, 'Close'))
+  );
+}
+
+/** Asks whether all answers are to be shown. */
+export function askingDialog(act) {
+  return make(
+    'dialog', { 'aria-label': 'Show all answers?' }, make('h2', {}, 'Show all answers?'),
+    make('p', {}, 'They show the answers, the remarks and the comments of the whole script.'),
+    make(
+      'form', { method: 'dialog' }, make('button', { autofocus: true }, 'Keep them hidden'), ' ',
+      make('button', { class: 'all', onclick: act }, 'Show all')
+    )
   );
 }

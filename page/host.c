@@ -94,6 +94,12 @@ u64 rattle_env_at(u64 index, byte *to, u64 most) { return -1ul; }
 i64 write(i32 stream, const byte *from, u64 count) { return host_write(stream, from, count); }
 i64 __write(i32 stream, const byte *from, u64 count) { return host_write(stream, from, count); }
 i32 close(i32 stream) { return 0; }
+i32 isatty(i32 stream) { return 0; }
+// The text of an error is shown to a terminal, which no stream is here.
+i32 __xpg_strerror_r(i32 number, byte *to, u64 most) {
+  if (most) *to = 0;
+  return 0;
+}
 i64 __sysv_signal(i32 number, i64 handler) { return 0; }
 
 i64 read(i32 stream, byte *to, u64 most) {

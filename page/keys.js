@@ -2,6 +2,13 @@
 
 const isOther = target => target.closest?.('textarea, select, [contenteditable], input:not([type=range])');
 
+const SCROLLING = ['PageUp', 'PageDown', 'Home', 'End', ' '];
+
+/** Whether the page, or what the view is in, is scrolled: then the keys that scroll are the browser's. */
+const isScrolled = container =>
+  [document.documentElement, container].some(it => it.scrollHeight > it.clientHeight + 1 &&
+    (it === document.documentElement || getComputedStyle(it).overflowY !== 'visible'));
+
 /** What to do at a key: the view's own where the focus is in it, or nowhere. */
 export function keysOf(view) {
   const inScript = event => event.target === view.script.element;
@@ -24,8 +31,8 @@ export function keysOf(view) {
     ']': () => view.seek(1),
     ' ': event => event.target.closest?.('button') ? false : view.play(),
     Enter: event => event.target.closest?.('button') ? false : view.ask(),
-    t: () => view.teach(),
-    T: () => view.teach(),
+    t: () => view.turnTeaching(),
+    T: () => view.turnTeaching(),
     '?': () => view.help(),
   };
   return event => {
@@ -34,7 +41,9 @@ export function keysOf(view) {
       target === document.body || target === document.documentElement || view.container.contains(target);
     // Some keyboards have [ and ] behind AltGr, which is told as Ctrl and Alt too.
     const isPlain = event.getModifierState('AltGraph') || !(event.ctrlKey || event.altKey || event.metaKey);
-    if (!here || !isPlain || view.dialog.open || isOther(target)) return;
+    if (!here || !isPlain || view.dialog.open || view.asking.open || isOther(target)) return;
+    if (SCROLLING.includes(event.key) && isScrolled(view.container) && target.type !== 'range') return;
+    if (event.key.length === 1 && event.key !== ' ' && !view.hasLetters) return;
     if (acts[event.key] && acts[event.key](event) !== false) event.preventDefault();
   };
 }

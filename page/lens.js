@@ -1,6 +1,7 @@
 // The chosen page, near by: 8 rows of 64 doublewords, and its parts as a list.
 import { colourOf, hex, make, tag } from './elements.js';
 import { drawingOf, UNIT } from './drawing.js';
+import { dumpOf } from './dump.js';
 import { PAGE } from './map.js';
 
 const WIDE = 64, ROWS = PAGE / UNIT / WIDE, SCALE = 8;
@@ -23,11 +24,18 @@ export function lensPart(view) {
       names: names.join(' ')
     };
   }
+  /** By which line a part was obtained, and a way there. */
+  function byLine({ k }) {
+    if (k === undefined) return null;
+    const text = `by line ${view.run.statements[k].line}`, step = k - view.run.skipped + 1;
+    if (step < 1) return make('span', { class: 'by' }, text);
+    return make('button', { type: 'button', class: 'by', onclick: () => view.go(step) }, text);
+  }
   function itemOf(part) {
     const { kind, names } = named(part);
     return make(
       'li', {}, hex(part.from), make('span', { class: 'length' }, String(part.to - part.from)), kind,
-      names && make('b', {}, ` ${names}`)
+      names && make('b', {}, ` ${names}`), byLine(part)
     );
   }
   function readOut(page, svg, point, event) {
@@ -54,7 +62,8 @@ export function lensPart(view) {
         'h2', {}, `Page ${hex(page.page * PAGE)}`,
         make('span', { class: 'muted' }, '8 rows of 64 doublewords'), tag(view.run, page.subpool)
       ),
-      svg, point, make('ol', { tabindex: 0, 'aria-label': 'Parts of the page' }, ...listOf(page).map(itemOf))
+      svg, point, make('ol', { tabindex: 0, 'aria-label': 'Parts of the page' }, ...listOf(page).map(itemOf)),
+      ...dumpOf(view.moment, page)
     );
   }
   return { element, draw };

@@ -111,6 +111,8 @@ export class Run {
     this.numbers = numbers;
     this.pages = pages;
     this.skipped = data.skipped;
+    this.bytes = data.bytes ?? [];
+    this.question = data.question ?? '';
     this.steps = Math.floor((answers.length - data.skipped) / 2);
     if (this.steps < 0 || answers.length === data.skipped) throw new Sentence('What vsm printed has no map.');
     this.readAnswers(answers);
@@ -153,6 +155,24 @@ export class Run {
     return parseMap(this.text, this.maps[Math.min(step, this.maps.length - 1)]);
   }
 
+  /** How many bytes are taken at a step, and how many the pages below and above the 16 MB line have. */
+  totalsAt(step) {
+    const at = this.text.indexOf('\n PAGES ', this.maps[Math.min(step, this.maps.length - 1)]);
+    const words = this.text.slice(at + 2, this.text.indexOf(' FREE ', at)).split(/\s/);
+    return { taken: +words[12], low: +words[2] * PAGE, high: +words[6] * PAGE };
+  }
+
+  /** The bytes at a step of all rows of 16 in which a POKE of the run stores: digits by address. */
+  bytesAt(step) {
+    const rows = new Map();
+    for (const [at, row, digits] of this.bytes) {
+      if (at > step) break;
+      if (digits) rows.set(row, digits);
+      else rows.delete(row);
+    }
+    return rows;
+  }
+
   /** The lines of a step's statement: from where it begins on, as long as there is a character in column
       72. */
   linesOf(step) {
@@ -161,6 +181,15 @@ export class Run {
     const isContinued = number => (this.lines[number - 1][71] ?? ' ') !== ' ';
     while (last < this.lines.length && isContinued(last) && !this.atLine.has(last + 1)) last++;
     return [first, last];
+  }
+
+  /** The step of whose statement a line is; undefined of a comment and of an empty line. */
+  stepAt(number) {
+    for (let line = number; line > 0; line--) {
+      const step = this.atLine.get(line);
+      if (step !== undefined) return step < 1 || this.linesOf(step)[1] >= number ? step : undefined;
+      if ((this.lines[line - 2]?.[71] ?? ' ') === ' ') return undefined;
+    }
   }
 
   textOfStatement(step) {

@@ -10,6 +10,9 @@ for (const row of MESSAGES)
 
 const wordsOf = text => text.toUpperCase().split(/[^A-Z0-9]+/).filter(Boolean);
 
+/** The operation of a statement and the word of its first operand: neither its name nor its remarks. */
+const operationOf = statement => wordsOf(/^\S*\s+(\S+(?:\s+[^\s,=]+)?)/.exec(statement)?.[1] ?? '');
+
 /** The statements that stand before the colon of `STORAGE with COND=YES, CPOOL GET: ..`, each as its
     words. */
 const labelsOf = head =>
@@ -35,11 +38,11 @@ const capital = text => text && text[0].toUpperCase() + text.slice(1);
 export function meaningOf(reply, statement) {
   const rows = BY_FORM.get(formOf(reply)) ?? [];
   const all = rows.flatMap(row => partsOfMeaning(row.meaning).map(part => ({ ...part, row })));
-  if (!all.length) return { meaning: '', more: '' };
-  const words = new Set(wordsOf(statement));
+  if (!all.length) return { meaning: '', more: null };
+  const words = new Set(operationOf(statement));
   const named = all.filter(it => it.labels?.some(label => label.every(word => words.has(word))));
   const bare = all.filter(it => !it.labels), chosen = named.length ? named : bare.length ? bare : all;
   const { leaves, advice } = chosen[0].row;
-  const more = leaves ? `What it leaves: ${leaves}` : advice && `What to do: ${advice}`;
+  const more = { head: leaves ? 'What it leaves' : 'What to do', text: leaves ?? advice };
   return { meaning: chosen.map(it => capital(it.text)).join(' '), more };
 }

@@ -7,7 +7,7 @@ from pathlib import Path
 from typing import Any
 
 from chromium import Browser
-from expected import PAGE, UNIT, Page, area_edges, bytes_by_kind, cell_edges, history, owners
+from expected import GRANTED, PAGE, UNIT, Page, area_edges, bytes_by_kind, cell_edges, history, owners
 from trials import Trials
 
 HERE = Path(__file__).resolve().parent
@@ -74,10 +74,15 @@ def try_storage(trials: Trials, page: Page, step: int, drawn: dict[str, Any]) ->
     taken, free = (f"{count} byte{'s' * (count != 1)}" for count in (state.taken, state.free))
     trials.equal(f"step {step}: the totals", drawn["totals"], f"{taken} taken, {free} free")
     stand, _ = history(page.answers_to(step), state.history)
-    edges = area_edges(state, owners(stand))
+    edges = area_edges(state, owners(stand, state))
     trials.equal(f"step {step}: the lines between areas", by_page(strips, "edges"), edges)
     cells = {number: cell_edges(state, number, 1) for number in edges}
     trials.equal(f"step {step}: the lines between cells", by_page(strips, "ofcells"), cells)
+    trials.want(
+        f"step {step}: what is granted has one outline in a page, of an area in two rows' ends two",
+        all(count == 1 for where, count in drawn["outlines"] if where) and all(count <= 2 for _, count in drawn["outlines"]),
+        drawn["outlines"],
+    )
     chosen = int(drawn["chosen"]) if drawn["chosen"] else -1
     trials.equal(f"step {step}: the chosen page is near by", drawn["lens"] is not None, chosen in edges)
     if chosen in edges and drawn["lens"]:
@@ -87,8 +92,26 @@ def try_storage(trials: Trials, page: Page, step: int, drawn: dict[str, Any]) ->
             f"step {step}: the chosen page", sums, {kind: total(strips[chosen][kind]) for kind in wanted}
         )
         trials.equal(f"step {step}: its lines", places(lens["edges"], WIDE), edges[chosen])
+        granted = [answer for answer in stand if GRANTED.fullmatch(answer.text)]
+        painted = owners(stand, state)
+        whose = [(at, painted.get(at // UNIT, len(granted))) for at, _ in drawn["by"]]
+        wanted_by = [[at, page.line_of(granted[k])] for at, k in whose if k < len(granted)]
+        trials.equal(f"step {step}: which lines obtained its parts", drawn["by"], wanted_by)
+        areas = [part for part in edges[chosen] if part * UNIT % PAGE]
+        trials.want(f"step {step}: each part says its line", len(drawn["by"]) >= len(areas) - len(cells[chosen]) or state.cell_pools)
+        trials.equal(f"step {step}: the bytes of the chosen page", drawn["dump"], stored_in(page, step, chosen))
         wide = cell_edges(state, chosen, ROWS)
         trials.equal(f"step {step}: its lines between cells", places(lens["ofcells"], WIDE), wide)
+
+
+def stored_in(page: Page, step: int, number: int) -> list[list[object]]:
+    """The rows of a page that POKEs have stored in, as far as they aren't zero, or weren't a step before."""
+    seen: list[dict[int, str]] = []
+    for last in (step - 1, step):
+        rows = {row: text for at, row, text in page.data["bytes"] if at <= last}
+        seen.append({row: text for row, text in rows.items() if text and row // PAGE == number})
+    before, now = seen
+    return [[row, text] for row, text in sorted(now.items()) if (text + before.get(row, "")).strip("0")]
 
 
 def try_history(trials: Trials, page: Page, step: int, drawn: dict[str, Any]) -> None:
@@ -118,6 +141,31 @@ def try_drawings(trials: Trials, browser: Browser, page: Page) -> None:
             try_history(trials, page, step, drawn)
         if step:
             trials.equal(f"step {step}: the reply", drawn["said"], page.shown[step - 1].text)
+
+
+WINDOWS = (
+    (360, 780), (420, 900), (768, 1024), (1024, 768), (1280, 720), (1440, 900), (1920, 1080), (2560, 1440)
+)
+
+
+def try_cards(trials: Trials, browser: Browser, page: Page) -> None:
+    """At each step the statement and its reply can be read, in windows from a phone's to a desk's, and what
+    the statement changed has a dot."""
+    steps = list(range(1, page.steps + 1))
+    for width, height in WINDOWS:
+        browser.size(width, height)
+        browser.settle()
+        lines = page.data["script"].split("\n")
+        trials.equal(
+            f"{width} x {height}: lines that are cut", browser.evaluate(probed(f"script({json.dumps(lines)})")), []
+        )
+        found = browser.evaluate(probed(f"at({steps}, probe.card)"))
+        cut = [step for step, it in zip(steps, found) if it["cut"]]
+        trials.equal(f"{width} x {height}: steps whose statement or reply is cut", cut, [])
+        if (width, height) == (1440, 900):
+            bare = [step for step, it in zip(steps, found) if not it["dots"] and page.changes(step)]
+            trials.equal("steps that change something and have no dot", bare, [])
+    browser.size(1440, 900)
 
 
 def seek(page: Page, step: int, by: int) -> int:
@@ -157,17 +205,24 @@ def try_keys(trials: Trials, browser: Browser, page: Page) -> None:
         trials.equal(f"the key {key} {more or ''}", step_of(browser), at)
 
 
-def try_play_and_help(trials: Trials, browser: Browser) -> None:
-    browser.key("Home")
-    browser.key(" ")
-    trials.equal("space plays", attribute_of(browser, ".play", "aria-pressed"), "true")
-    browser.key(" ")
-    trials.equal("space stops", attribute_of(browser, ".play", "aria-pressed"), "false")
+def try_play_and_help(trials: Trials, browser: Browser, page: Page) -> None:
+    if page.steps > 1:  # it stops by itself after the last one
+        browser.key("Home")
+        browser.key(" ")
+        trials.equal("space plays", attribute_of(browser, ".play", "aria-pressed"), "true")
+        browser.key(" ")
+        trials.equal("space stops", attribute_of(browser, ".play", "aria-pressed"), "false")
     browser.key("Home")
     browser.key("?")
     trials.want("? shows the help", browser.evaluate("document.querySelector('dialog').open"))
     browser.key("ArrowRight")
     trials.equal("the help keeps the keys", step_of(browser), 0)
+    press(browser, "dialog input")
+    browser.key("Escape", windowsVirtualKeyCode=27)
+    browser.key("t")
+    trials.equal("keys of one character can be switched off", attribute_of(browser, ".teacher", "aria-checked"), "false")
+    browser.evaluate("document.querySelector('dialog').showModal()")
+    press(browser, "dialog input")
     browser.key("Escape", windowsVirtualKeyCode=27)
     trials.want("Escape ends the help", not browser.evaluate("document.querySelector('dialog').open"))
 
@@ -279,6 +334,7 @@ def try_sizes(trials: Trials, browser: Browser) -> None:
     parts = [".buttons", ".time", ".script", ".teacher"]
     trials.equal("print: no controls", browser.evaluate(probed(f"visible({parts})")), [])
     trials.equal("print: nothing is cut", browser.evaluate(probed("cut()")), [])
+    trials.equal("print: nothing is torn", browser.evaluate(probed("torn()")), [])
     printed = browser.call("Page.printToPDF", printBackground=False)["data"]
     trials.want("print: a document comes", len(printed) > 1000)
     browser.media(**STILL)
@@ -287,6 +343,11 @@ def try_sizes(trials: Trials, browser: Browser) -> None:
         browser.settle()
         wide, *parts = browser.evaluate(probed("wide()"))
         trials.want(f"{width} wide: nothing is scrolled sideways", wide <= width and not parts, [wide, parts])
+        if browser.evaluate("document.documentElement.scrollHeight > innerHeight + 1"):
+            at = step_of(browser)
+            for key in ("Home", "PageDown", " "):
+                browser.key(key)
+                trials.equal(f"{width} wide: where the page is scrolled, the key '{key}' doesn't step", step_of(browser), at)
     browser.size(1440, 900)
 
 
@@ -321,10 +382,11 @@ def try_page(trials: Trials, browser: Browser, path: Path, keys: bool = True, lo
     try_drawings(trials, browser, page)
     if keys:
         try_keys(trials, browser, page)
-        try_play_and_help(trials, browser)
+        try_play_and_help(trials, browser, page)
         try_focus(trials, browser, page)
     try_teacher(trials, browser, page)
     if looks:
+        try_cards(trials, browser, page)
         try_themes(trials, browser)
         try_sizes(trials, browser)
     asked = [it for it in browser.requests() if it.split("#")[0] != address]

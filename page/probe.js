@@ -28,21 +28,74 @@ const probe = {
       said: document.querySelector('.said strong')?.textContent,
       totals: document.querySelector('.bytes').textContent,
       pages: Object.fromEntries(rows.map(row => [row.dataset.page, probe.drawing(row.querySelector('svg'))])),
+      outlines: [...document.querySelectorAll('svg .granted:not(.below)')]
+        .map(it => [it.closest('.page')?.dataset.page ?? null, it.getAttribute('d').split('M').length - 1]),
+      by: [...document.querySelectorAll('.lens li')].filter(it => it.querySelector('.by') && !it.textContent.includes('cell'))
+        .map(it => [parseInt(it.textContent.slice(0, 8), 16), +it.querySelector('.by').textContent.slice(8)]),
+      dump: [...document.querySelectorAll('.dump tr')].filter(it => !it.textContent.startsWith('before'))
+        .map(it => [parseInt(it.cells[0].textContent, 16), it.cells[1].textContent.replaceAll(' ', '')]),
       chosen: document.querySelector('.page[aria-pressed=true]')?.dataset.page ?? null,
       lens: lens.hidden ? null : probe.drawing(lens.querySelector('svg')),
     };
   },
 
   /** What is shown at each of some steps; the slider is moved as a hand would. */
-  async at(steps) {
-    const slider = document.querySelector('.time input'), all = [];
+  async at(steps, look = probe.shown) {
+    const slider = document.querySelector('.time input'), all = [], frame = window.requestAnimationFrame;
+    window.requestAnimationFrame = act => { // what is asked for is drawn at once, and nothing painted
+      queueMicrotask(act);
+      return null;
+    };
     for (const step of steps) {
       slider.value = step;
       slider.dispatchEvent(new Event('input'));
       await new Promise(requestAnimationFrame); // the view has asked for this frame before, and draws first
-      all.push(probe.shown());
+      all.push(look());
     }
+    window.requestAnimationFrame = frame;
     return all;
+  },
+
+  /** How many dots there are at a step, and what of the statement and its reply can't be read in the card. */
+  card() {
+    const box = document.querySelector('.said').getBoundingClientRect();
+    const isCut = it => {
+      const { top, bottom, left, right } = it.getBoundingClientRect();
+      return it.scrollHeight > it.clientHeight + 1 || it.scrollWidth > it.clientWidth + 1 ||
+        top < box.top || bottom > box.bottom || left < box.left || right > box.right;
+    };
+    const seen = it => it.checkVisibility() && it.getClientRects().length > 0;
+    return {
+      dots: [...document.querySelectorAll('.changed')].filter(seen).length,
+      cut: [...document.querySelectorAll('.said :is(pre, strong)')].filter(isCut).map(it => it.textContent),
+    };
+  },
+
+  /** Of all lines of the script what is cut, and what is other than the line. */
+  async script(lines) {
+    const box = document.querySelector('.script'), bad = new Set();
+    for (let at = 0; ; at += box.clientHeight) {
+      box.scrollTop = at;
+      box.dispatchEvent(new Event('scroll'));
+      const { right } = box.getBoundingClientRect();
+      for (const line of box.querySelectorAll('.line')) {
+        const number = +line.querySelector('.number').textContent;
+        if (line.querySelector('.text').textContent !== lines[number - 1].trimEnd()) bad.add(number);
+        if (line.scrollHeight > line.clientHeight + 1) bad.add(number);
+        const range = document.createRange();
+        range.selectNodeContents(line);
+        if ([...range.getClientRects()].some(it => it.right > right + 1)) bad.add(number);
+        const [text, reply] = ['.text', '.reply'].map(it => line.querySelector(`${it} .row:last-child`));
+        if (reply && line.classList.contains('beside')) {
+          const ends = [text, reply].map(it => {
+            range.selectNodeContents(it);
+            return range.getBoundingClientRect();
+          });
+          if (ends[0].right > ends[1].left) bad.add(number);
+        }
+      }
+      if (at + box.clientHeight >= box.scrollHeight) return [...bad];
+    }
   },
 
   /** All places where an answer could be told. */
@@ -52,7 +105,7 @@ const probe = {
     said: document.querySelector('.said').innerText,
     live: document.querySelector('[aria-live]').textContent,
     value: document.querySelector('.time input').getAttribute('aria-valuetext'),
-    ticks: document.querySelectorAll('.ticks path').length,
+    ticks: document.querySelectorAll('.ticks:not(.curves) path').length,
     rows: document.querySelectorAll('.page').length,
     totals: document.querySelector('.bytes').textContent,
   }),
@@ -130,6 +183,10 @@ const probe = {
   cut: () => [...document.querySelectorAll('.columns, .storage, .side, .said, .regions')]
     .filter(it => it.scrollHeight > it.clientHeight + 2 && getComputedStyle(it).overflowY !== 'visible')
     .map(it => it.className),
+
+  /** What may be torn by the end of a printed page. */
+  torn: () => [...document.querySelectorAll('.panel, .said, .lens, .region .page')]
+    .filter(it => it.checkVisibility() && getComputedStyle(it).breakInside !== 'avoid').map(it => it.className),
 
   /** How wide the page is, and what can be scrolled sideways. */
   wide: () => [document.documentElement.scrollWidth, ...[...document.querySelectorAll('.storage, .side')]

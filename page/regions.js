@@ -27,9 +27,8 @@ export function regionsPart(view) {
 
   /** The row of a page; one that looks as before is taken again. */
   function rowOf(number) {
-    const { pages, pagesBefore, granted } = view.moment;
-    const page = pages.get(number);
-    const changed = pagesBefore.get(number)?.key !== page?.key;
+    const { pages, granted } = view.moment;
+    const page = pages.get(number), changed = view.moment.changed.has(number);
     const framed = granted && granted.from < (number + 1) * PAGE && granted.to > number * PAGE &&
       `${granted.from} ${granted.to}`;
     const look = [page?.key, changed, number === view.chosen, framed].join();

@@ -1,4 +1,4 @@
-// What follows from the replies: which statements stand, and where areas that touch are parted.
+// What follows from the replies: which statements stand, and what each of them obtained.
 import { PAGE } from './map.js';
 
 export const isKept = reply => /^(RC=|T=|OK)/.test(reply);
@@ -28,7 +28,7 @@ export function standing(replies, limit) {
       for (; kept < now; kept++) stand.push(again.pop());
     }
   });
-  return { stand, again };
+  return { stand, again, kept };
 }
 
 /** The address of what a reply grants, and its length; a cell has none in its reply. */
@@ -37,25 +37,30 @@ export function areaOf(reply) {
   return found && { from: parseInt(found[1], 16), length: found[2] ? parseInt(found[2], 16) : 0 };
 }
 
-/** Where areas that touch are parted: by page, the offsets at which an area that stands begins or ends. An
-    area comes where all was free, so nothing that stood there before parts it. */
-export function partings(replies, stand) {
+/** The areas that these standing statements obtained and the extents of cell pools, by page in pieces: from,
+    to, and the statement (none for an extent). An area comes where all was free, so nothing that stood there
+    before is left of it. */
+export function areasByPage(replies, stand, pools) {
   const byPage = new Map();
-  const mark = place => {
-    const page = Math.floor(place / PAGE);
-    if (!byPage.has(page)) byPage.set(page, new Set());
-    byPage.get(page).add(place % PAGE);
-  };
-  for (const k of stand) {
-    const { from, length } = areaOf(replies[k]) ?? { length: 0 };
-    if (!length) continue;
-    for (let page = Math.floor(from / PAGE); page * PAGE < from + length; page++) {
-      const offsets = byPage.get(page) ?? new Set();
-      for (const offset of offsets)
-        if (page * PAGE + offset >= from && page * PAGE + offset < from + length) offsets.delete(offset);
+  function add(from, length, k) {
+    for (let begin = from - from % PAGE; begin < from + length; begin += PAGE) {
+      const area = { from: Math.max(from, begin), to: Math.min(from + length, begin + PAGE), k };
+      const others = (byPage.get(begin / PAGE) ?? []).flatMap(
+        it => [{ ...it, to: Math.min(it.to, area.from) }, { ...it, from: Math.max(it.from, area.to) }]
+      );
+      byPage.set(begin / PAGE, [...others.filter(it => it.from < it.to), area]);
     }
-    mark(from);
-    mark(from + length);
   }
+  for (const k of stand) {
+    const area = areaOf(replies[k]);
+    if (area?.length) add(area.from, area.length, k);
+  }
+  for (const pool of pools) for (const [first, length] of pool.extents) add(first, length);
   return byPage;
 }
+
+/** By address, which of the standing statements handed out the cell there. */
+export const getsOf = (replies, stand) => new Map(stand.flatMap(k => {
+  const area = areaOf(replies[k]);
+  return area && !area.length ? [[area.from, k]] : [];
+}));

@@ -7,7 +7,7 @@ import { kindOf } from './replies.js';
 /** What a step says, in one line for those who listen. */
 export function spoken(view) {
   if (!view.step) return 'Before the first statement.';
-  const statement = view.run.textOfStatement(view.step), { reply } = view.run.statement(view.step);
+  const statement = view.textOfStatement(view.step), { reply } = view.run.statement(view.step);
   const answer =
     view.step > view.told ? 'The answer is hidden.' : `${reply}. ${meaningOf(reply, statement).meaning}`;
   return `Statement ${view.step}. ${statement.split('\n')[0].trim()}. ${answer}`;
@@ -15,15 +15,26 @@ export function spoken(view) {
 
 const muted = text => make('p', { class: 'muted' }, text);
 
+/** What an answer leaves, or what to do about it: folded, until it's once asked for. */
+function moreOf(view, { head, text }) {
+  const ontoggle = event => { view.isMoreOpen = event.target.open; };
+  return make(
+    'details', { class: 'muted', open: view.isMoreOpen, ontoggle }, make('summary', {}, head), make('p', {}, text)
+  );
+}
+
 export function saidPart(view) {
   const element =
     make('section', { class: 'said', 'aria-label': 'The statement and its answer', tabindex: 0 });
+
+  /** The lesson's own question, in the teacher's mode. */
+  const asked = () => view.teaching && view.run.question ? [make('p', { class: 'question' }, view.run.question)] : [];
 
   function start() {
     const { steps } = view.run;
     const advice = steps ? 'Step on with the right arrow key.' : 'The script has no statement that is shown.';
     const number = make('strong', {}, count(steps, 'statement'));
-    return [muted('Before the first statement'), number, muted(advice)];
+    return [muted('Before the first statement'), number, ...asked(), muted(advice)];
   }
   function question() {
     const ahead = view.step > view.told + 1;
@@ -31,18 +42,28 @@ export function saidPart(view) {
     const storage = ahead ? ', as far as answers have been asked for.' : '.';
     return [
       make('p', {}, make('button', { type: 'button', class: 'ask', onclick: view.ask }, name)),
-      muted(`What does it answer? Enter shows it. The storage is that before the statement${storage}`)
+      muted(`What does it answer? Enter shows it. The storage is that before the statement${storage}`), ...asked()
     ];
   }
   function answer(text) {
     const { reply } = view.run.statement(view.step), { meaning, more } = meaningOf(reply, text);
-    return [make('strong', { class: kindOf(reply) }, reply), make('p', {}, meaning), muted(more)];
+    return [
+      make('strong', { class: kindOf(reply) }, reply), make('p', {}, meaning), ...more ? [moreOf(view, more)] : []
+    ];
+  }
+  /** Where the map's history isn't what the replies come to, the page doesn't know all of vsm's answers. */
+  function warning() {
+    const { kept, state } = view.moment;
+    return kept === state.kept ? [] : [make(
+      'p', { class: 'refused' }, `This page counts ${count(kept, 'kept change')} and vsm ${count(state.kept, 'kept change')}: ` +
+        'it doesn’t know all answers of this vsm, so what is undone, and which line obtained an area, may be wrong.'
+    )];
   }
   function draw() {
-    const text = view.step ? view.run.textOfStatement(view.step) : '';
+    const text = view.step ? view.textOfStatement(view.step) : '';
     if (!view.step) element.replaceChildren(...start());
     else element.replaceChildren(make('pre', {}, text), ...view.step > view.told ? question() : answer(text));
-    element.scrollTop = 0;
+    element.append(...warning());
   }
   return { element, draw };
 }

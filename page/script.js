@@ -1,19 +1,33 @@
-// The script, line by line, with the reply beside each statement. Only the lines in sight are elements.
+// The script, line by line, with the reply after each statement. Lines are wrapped, so that nothing is cut;
+// only those in sight are elements.
 import { make } from './elements.js';
 import { kindOf } from './replies.js';
 
-const ROW = 22, BEYOND = 8, MOST = 28;
+const BEYOND = 8, GAP = 2; // lines beyond those in sight; characters between a statement and its reply
 
-const shortened = reply => reply.length > MOST ? `${reply.slice(0, MOST - 1)}…` : reply;
+/** A text in rows of so many characters, broken after a blank where there is one. */
+export function wrapped(text, most) {
+  const rows = [];
+  for (let from = 0; from < text.length || !rows.length;) {
+    const blank = text.length - from > most ? text.lastIndexOf(' ', from + most - 1) : -1;
+    const isIndent = blank < from || !text.slice(from, blank).trim();
+    const end = isIndent ? Math.min(from + most, text.length) : blank + 1;
+    rows.push(text.slice(from, end));
+    from = end;
+  }
+  return rows;
+}
 
 export function scriptPart(view) {
-  const { run } = view, id = `${view.id}-line-`;
+  const { run } = view, id = `${view.id}-line-`, ruler = document.createElement('canvas').getContext('2d');
+  const digits = String(run.lines.length).length;
+  let layout = { key: '', tops: [0], most: 80, row: 20 };
   const box = make('section', {
     class: 'script',
     tabindex: 0,
     role: 'listbox',
     'aria-label': 'Script',
-    style: `--digits:${String(run.lines.length).length}`,
+    style: `--digits:${digits}`,
     onscroll: () => drawLines()
   });
 
@@ -22,22 +36,50 @@ export function scriptPart(view) {
     if (step === undefined) return ['', ''];
     if (step > view.told) return ['?', 'asked'];
     const { reply } = run.statement(step);
-    return [shortened(reply), kindOf(reply)];
+    return [reply, kindOf(reply)];
+  }
+  /** A line in rows, and its reply in rows; the first of these may stand beside the line's last one. */
+  function rowsOf(number, most) {
+    const [reply] = replyOf(run.atLine.get(number)), text = wrapped(view.textOfLine(number).trimEnd(), most);
+    const replies = reply ? wrapped(reply, most) : [];
+    const isBeside = replies.length === 1 && text.at(-1).length + GAP + reply.length <= most;
+    return { text, replies, isBeside, count: text.length + (isBeside ? 0 : replies.length) };
+  }
+  /** Where each line begins, in pixels; worked out anew where the width or what is told is other. */
+  function lay() {
+    const style = getComputedStyle(box), row = Math.round(1.6 * parseFloat(style.fontSize));
+    const key = [box.clientWidth, style.font, view.told, view.teaching].join();
+    if (layout.key === key) return;
+    ruler.font = style.font;
+    const wide = ruler.measureText('0'.repeat(100)).width / 100;
+    const most = Math.max(12, Math.floor((box.clientWidth - 28) / wide) - digits - 1), tops = [0];
+    for (let number = 1; number <= run.lines.length; number++)
+      tops.push(tops.at(-1) + rowsOf(number, most).count * row);
+    layout = { key, tops, most, row };
+  }
+  /** The number of the line at a height. */
+  function lineAt(height) {
+    let low = 0, high = run.lines.length;
+    while (low + 1 < high) {
+      const mid = (low + high) >> 1;
+      if (layout.tops[mid] <= height) low = mid;
+      else high = mid;
+    }
+    return low + 1;
   }
   function lineOf(number, from, to) {
-    const step = run.atLine.get(number);
-    const text = run.lines[number - 1];
-    const [reply, kind] = replyOf(step);
+    const step = run.atLine.get(number), kind = replyOf(step)[1], undone = view.moment.undone.has(step);
+    const { text, replies, isBeside } = rowsOf(number, layout.most), { tops, row } = layout;
     const begins = step > 0;
     const marks = [
       'line', begins && 'begins', number >= from && number <= to && 'now',
-      view.step && number > to && 'later', view.moment.undone.has(step) && 'undone',
-      text[0] === '*' && 'comment'
+      view.step && number > to && 'later', undone && 'undone', run.lines[number - 1][0] === '*' && 'comment',
+      isBeside && 'beside'
     ];
     return make(
       'div', {
         class: marks.filter(Boolean).join(' '),
-        style: `top:${(number - 1) * ROW}px`,
+        style: `top:${tops[number - 1]}px;height:${tops[number] - tops[number - 1]}px;line-height:${row}px`,
         role: 'option',
         id: id + number,
         'aria-selected': String(number === from),
@@ -46,28 +88,32 @@ export function scriptPart(view) {
         onclick: begins ? () => view.go(step) : null
       },
       make('span', { class: 'number' }, String(number)),
-      make('span', { class: 'text', title: text.trim() }, text),
-      make('span', { class: `reply ${kind}` }, reply)
+      undone ? make('span', { class: 'unseen' }, 'undone:') : null,
+      make(undone ? 'del' : 'span', { class: 'text' }, ...text.map(it => make('span', { class: 'row' }, it))),
+      make('span', { class: `reply ${kind}` }, ...replies.map(it => make('span', { class: 'row' }, it)))
     );
   }
   function drawLines() {
-    const first = Math.max(0, Math.floor(box.scrollTop / ROW) - BEYOND);
-    const end = Math.min(run.lines.length, first + Math.ceil(box.clientHeight / ROW) + 2 * BEYOND);
+    lay();
+    const first = Math.max(1, lineAt(box.scrollTop) - BEYOND);
+    const end = Math.min(run.lines.length, lineAt(box.scrollTop + box.clientHeight) + BEYOND);
     const [from, to] = view.step ? run.linesOf(view.step) : [0, 0];
-    const numbers = new Set(Array.from({ length: end - first }, (_, k) => first + k + 1));
+    const numbers = new Set(Array.from({ length: end - first + 1 }, (_, k) => first + k));
     if (from) numbers.add(from); // it's what is active, in sight or not
     box.replaceChildren(
-      make('div', { class: 'whole', role: 'presentation', style: `height:${run.lines.length * ROW}px` }),
+      make('div', { class: 'whole', role: 'presentation', style: `height:${layout.tops.at(-1)}px` }),
       ...[...numbers].map(it => lineOf(it, from, to))
     );
     if (from) box.setAttribute('aria-activedescendant', id + from);
     else box.removeAttribute('aria-activedescendant');
   }
   function draw() {
-    const top = (view.step ? run.statement(view.step).line - 1 : 0) * ROW;
+    lay();
+    const [from, to] = view.step ? run.linesOf(view.step) : [1, 1];
+    const top = layout.tops[from - 1], bottom = layout.tops[to];
     if (!box.firstChild) drawLines();
-    if (top < box.scrollTop + ROW || top > box.scrollTop + box.clientHeight - 3 * ROW)
-      box.scrollTop = top - box.clientHeight / 3;
+    if (top < box.scrollTop || bottom > box.scrollTop + box.clientHeight)
+      box.scrollTop = Math.max(0, top - box.clientHeight / 3);
     drawLines();
   }
   return { element: box, draw, resize: drawLines };

@@ -2,16 +2,18 @@
 import { PAGE } from './map.js';
 
 /** The parts of a page, in order: free ones as the subpool's free areas say, the others taken, cut where
-    areas are parted. */
-function partsOf(begin, free, offsets) {
-  const parts = [], edges = [...offsets ?? []].map(it => begin + it).sort((a, b) => a - b);
+    areas are parted, each with the statement that obtained it. */
+function partsOf(begin, free, areas) {
+  const parts = [], edges = areas.flatMap(it => [it.from, it.to]).sort((a, b) => a - b);
+  const push = (from, to) =>
+    parts.push({ from, to, kind: 'taken', k: areas.find(it => it.from <= from && from < it.to)?.k });
   const taken = (from, to) => {
     for (const edge of edges) {
       if (edge <= from || edge >= to) continue;
-      parts.push({ from, to: edge, kind: 'taken' });
+      push(from, edge);
       from = edge;
     }
-    if (from < to) parts.push({ from, to, kind: 'taken' });
+    if (from < to) push(from, to);
   };
   let at = begin;
   for (const [first, length] of free) {
@@ -25,14 +27,14 @@ function partsOf(begin, free, offsets) {
 }
 
 /** The pages of a subpool; its free areas ascend as its pages do. */
-function* pagesOfSubpool(subpool, parted) {
+function* pagesOfSubpool(subpool, areas) {
   let k = 0;
   for (const [first, length] of subpool.extents) {
     for (let begin = first; begin < first + length; begin += PAGE) {
       while (k < subpool.free.length && subpool.free[k][0] + subpool.free[k][1] <= begin) k++;
       let end = k;
       while (end < subpool.free.length && subpool.free[end][0] < begin + PAGE) end++;
-      const page = begin / PAGE, parts = partsOf(begin, subpool.free.slice(k, end), parted.get(page));
+      const page = begin / PAGE, parts = partsOf(begin, subpool.free.slice(k, end), areas.get(page) ?? []);
       yield {
         page,
         subpool,
@@ -44,8 +46,9 @@ function* pagesOfSubpool(subpool, parted) {
   }
 }
 
-/** The cells of a cell pool, each with whether it's free; a cell may lie in two pages. */
-export function cellsOf(pool) {
+/** The cells of a cell pool, each with whether it's free, and the statement that got it; a cell may lie in two
+    pages. */
+export function cellsOf(pool, gets) {
   const free = new Set(pool.free);
   return pool.extents.flatMap(
     ([first], extent) => Array.from(
@@ -53,7 +56,9 @@ export function cellsOf(pool) {
       (_, k) => ({
         from: first + k * pool.size,
         to: first + (k + 1) * pool.size,
-        kind: free.has(first + k * pool.size) ? 'freecell' : 'cell',
+        ...free.has(first + k * pool.size)
+          ? { kind: 'freecell' }
+          : { kind: 'cell', k: gets.get(first + k * pool.size) },
         pool
       })
     )
@@ -61,11 +66,11 @@ export function cellsOf(pool) {
 }
 
 /** The assigned pages by number; `key` is other where anything in a page is. */
-export function pagesOf(state, parted) {
+export function pagesOf(state, areas, gets) {
   const pages = new Map();
   for (const subpool of state.subpools)
-    for (const it of pagesOfSubpool(subpool, parted)) pages.set(it.page, it);
-  for (const pool of state.pools) for (const cell of cellsOf(pool)) {
+    for (const it of pagesOfSubpool(subpool, areas)) pages.set(it.page, it);
+  for (const pool of state.pools) for (const cell of cellsOf(pool, gets)) {
     for (let page = Math.floor(cell.from / PAGE); page * PAGE < cell.to; page++) {
       const it = pages.get(page);
       it.cells.push({

@@ -8,12 +8,31 @@ function branchOf(view, parent) {
     : null;
 }
 
+/** Whether a task is new, or has begun or ceased to share or own a subpool, or makes the requests now. */
+function isChanged({ before }, task, owned, shared) {
+  const was = before.tasks.find(it => it.number === task.number);
+  const sees = (subpools, number) =>
+    subpools.filter(it => it.owner === number || it.sharers.includes(number)).map(it => it.number).join();
+  return !was || task.current && !was.current ||
+    sees([...owned, ...shared], task.number) !== sees(before.subpools, task.number);
+}
+
+/** Tasks that the statement ended, which the tree has no more. */
+function endedOf({ state, before }) {
+  const ended = before.tasks.filter(was => !state.tasks.some(it => it.number === was.number));
+  return ended.length
+    ? make('p', { class: 'ended changed' }, `• ${ended.map(it => `task ${it.number}`).join(', ')} ended`)
+    : null;
+}
+
 function taskOf(view, task) {
   const { run, moment: { state } } = view;
   const owned = state.subpools.filter(it => it.owner === task.number);
   const shared = state.subpools.filter(it => it.sharers.includes(task.number));
+  const changed = isChanged(view.moment, task, owned, shared);
   return make(
-    'div', { class: task.current ? 'task current' : 'task' },
+    'div', { class: ['task', task.current && 'current', changed && 'changed'].filter(Boolean).join(' ') },
+    changed ? make('span', { class: 'requests' }, '•') : null,
     make(
       'button', {
         type: 'button',
@@ -32,7 +51,7 @@ function taskOf(view, task) {
 export function tasksPart(view) {
   const element = make('div', {});
   const draw = () => element.replaceChildren(
-    panel('Tasks and their subpools', make('div', { class: 'tree' }, branchOf(view, 0)))
+    panel('Tasks and their subpools', make('div', { class: 'tree' }, branchOf(view, 0)), endedOf(view.moment))
   );
   const focus = number => element.querySelector(`[data-task="${number}"]`)?.focus();
   return { element, draw, focus };

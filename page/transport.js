@@ -2,7 +2,8 @@
 import { grouped, icon, make } from './elements.js';
 import { kindOf } from './replies.js';
 
-const MOST_TICKS = 600;
+const MOST_TICKS = 600, MOST_POINTS = 600;
+const SHAPES = { refused: '0v1', four: '.5v.5', step: '0v.45' }; // a tick's begin and length, by kind
 const ICONS = {
   first: 'M4 3v10M12.5 3l-5 5 5 5',
   back: 'M10.5 3l-5 5 5 5',
@@ -31,11 +32,34 @@ function ticksOf(run, told) {
       if (found)
         svg.append(make('path', {
           class: kind,
-          d: `M${first - .5 + (each - 1) / 2} 0v1`,
+          d: `M${first - .5 + (each - 1) / 2} ${SHAPES[kind]}`,
           'stroke-opacity': Math.max(.25, found / kinds.length).toFixed(2)
         }));
     }
   }
+  return svg;
+}
+
+/** Curves over the slider, as far as answers are told: bytes taken (filled), and the bytes of pages below and
+    above the 16 MB line. */
+function curvesOf(run, told) {
+  const svg = make('svg', {
+    class: 'ticks curves', preserveAspectRatio: 'none', viewBox: `0 0 ${Math.max(1, run.steps)} 1`, 'aria-hidden': 'true'
+  });
+  const each = Math.max(1, Math.ceil(told / MOST_POINTS)), steps = [];
+  for (let step = 0; step < told; step += each) steps.push(step);
+  const points = [...steps, told].map(it => [it, run.totalsAt(it)]);
+  const most = kinds => Math.max(1, ...points.flatMap(([, it]) => kinds.map(kind => it[kind])));
+  const ofBytes = most(['taken']), ofPages = most(['low', 'high']);
+  const line = kind => {
+    const whole = kind === 'taken' ? ofBytes : ofPages;
+    return points.map(([step, it], k) => `${k ? 'L' : 'M'}${step} ${1 - .94 * it[kind] / whole}`).join('');
+  };
+  svg.append(
+    make('title', {}, 'Bytes taken (filled); pages below the 16 MB line (line) and above it (dashes)'),
+    make('path', { class: 'taken', d: `${line('taken')}V1H0Z` }), make('path', { class: 'low', d: line('low') }),
+    make('path', { class: 'high', d: line('high') })
+  );
   return svg;
 }
 
@@ -65,7 +89,7 @@ export function transportPart(view) {
     },
     'Teacher’s mode'
   );
-  let ticks = make('svg', { class: 'ticks' });
+  let ticks = make('svg', { class: 'ticks' }), curves = make('svg', { class: 'ticks curves' });
   const element = make(
     'header', {},
     make(
@@ -79,7 +103,7 @@ export function transportPart(view) {
       ),
       teacher, button('help', 'Help (?)', view.help, '?')
     ),
-    make('div', { class: 'time' }, ticks, slider)
+    make('div', { class: 'time' }, curves, ticks, slider)
   );
 
   function draw() {
@@ -101,6 +125,9 @@ export function transportPart(view) {
     fresh.dataset.told = told;
     ticks.replaceWith(fresh);
     ticks = fresh;
+    const others = curvesOf(run, told);
+    curves.replaceWith(others);
+    curves = others;
   }
   return { element, draw };
 }

@@ -1,6 +1,6 @@
 // A run, statement by statement. showRun is all that other pages need.
 import { make } from './elements.js';
-import { helpDialog } from './help.js';
+import { askingDialog, helpDialog } from './help.js';
 import { keysOf } from './keys.js';
 import { lensPart } from './lens.js';
 import { PAGE, Run, Sentence } from './map.js';
@@ -11,6 +11,7 @@ import { saidPart, spoken } from './said.js';
 import { scriptPart } from './script.js';
 import { namesPart, subpoolsPart, totalsPart } from './tables.js';
 import { registersPart, tasksPart } from './tasks.js';
+import { withoutRemarks } from './remarks.js';
 import { transportPart } from './transport.js';
 import { kindOf } from './replies.js';
 
@@ -43,9 +44,10 @@ class View {
   constructor(container, run, options) {
     Object.assign(this, { container, run, options, id: `run-${++made}` });
     Object.assign(this, { step: 0, told: run.steps, asked: 0, teaching: false, chosen: null, picked: null });
-    Object.assign(this, { clock: null, drawing: null, noting: null });
+    Object.assign(this, { clock: null, drawing: null, noting: null, isMoreOpen: false, hasLetters: true });
     for (const act of ['play', 'ask', 'help']) this[act] = this[act].bind(this);
-    this.dialog = helpDialog();
+    this.dialog = helpDialog(this);
+    this.asking = askingDialog(() => this.teach());
     this.live = make('div', { class: 'unseen', 'aria-live': 'polite' });
     this.regions = regionsPart(this);
     this.tasks = tasksPart(this);
@@ -68,7 +70,23 @@ class View {
     const stage = make('div', { class: 'stage' }, head.element, columns);
     this.parts = [head, this.script, said, this.regions, lens, ...side];
     this.container.classList.add('run');
-    this.container.replaceChildren(stage, this.live, this.dialog);
+    this.container.replaceChildren(stage, this.live, this.dialog, this.asking);
+  }
+
+  /** A step's statement as it's shown: without remarks while its answer is hidden. */
+  textOfStatement(step) {
+    if (step <= this.told) return this.run.textOfStatement(step);
+    const [first, last] = this.run.linesOf(step);
+    return withoutRemarks(this.run.lines.slice(first - 1, last)).map(it => it.trimEnd()).join('\n');
+  }
+
+  /** A line as it's shown: remarks and comments are hidden with the answers that they may tell. */
+  textOfLine(number) {
+    const text = this.run.lines[number - 1];
+    if (this.told === this.run.steps) return text;
+    const step = this.run.stepAt(number);
+    if (!step) return text[0] === '*' ? '*' : '';
+    return step <= this.told ? text : this.textOfStatement(step).split('\n')[number - this.run.linesOf(step)[0]] ?? '';
   }
 
   listen() {
@@ -119,17 +137,17 @@ class View {
     for (const part of this.parts) part.draw();
     const text = spoken(this);
     if (this.live.textContent !== text) this.live.textContent = text;
+    this.options.moved?.(this);
     this.note();
   }
 
   /** The page that is looked at near by: where something was granted; else the one before, unless another
       has changed and it hasn't, or it has left. */
   turn() {
-    const { granted, pages, pagesBefore } = this.moment;
-    const changed = page => pages.get(page)?.key !== pagesBefore.get(page)?.key;
+    const { granted, pages, changed } = this.moment;
     if (granted) this.chosen = Math.floor(granted.from / PAGE);
-    else if (!pages.has(this.chosen) || !changed(this.chosen)) {
-      const other = [...pages.keys()].find(changed);
+    else if (!pages.has(this.chosen) || !changed.has(this.chosen)) {
+      const other = [...pages.keys()].find(it => changed.has(it));
       this.chosen = other ?? (pages.has(this.chosen) ? this.chosen : [...pages.keys()][0] ?? LOWEST);
     }
   }
@@ -170,6 +188,12 @@ class View {
     this.draw();
   }
 
+  /** The key T: it asks before it shows all answers. */
+  turnTeaching() {
+    if (this.teaching && this.told < this.run.steps) this.asking.showModal();
+    else this.teach();
+  }
+
   /** Shows the answers up to the statement that is shown. */
   ask() {
     if (!this.teaching || this.step <= this.asked) return false;
@@ -205,9 +229,9 @@ class View {
 
 /** Shows a run in an element, in place of what is there, and answers the view, whose close() ends it; null
     where there is a sentence in its place. `data` has `name`, `options` (words), `script` (text),
-    `skipped` (how many answers come before the first map), and what vsm printed for the script with maps
-    put in: `text`, or `output`, gzip'd and in base64. Options: `address` keeps the statement in the page's
-    address; `teacher` begins in the teacher's mode. */
+    `skipped` (how many answers come before the first map), perhaps `question` (the lesson's) and `bytes` (see
+    Run), and what vsm printed for the script with maps put in: `text`, or `output`, gzip'd and in base64. Options: `address` keeps the statement in the page's
+    address; `teacher` begins in the teacher's mode; `moved` is called with the view whenever it's drawn. */
 export async function showRun(container, data, options = {}) {
   try {
     const lack = lackOf();

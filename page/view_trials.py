@@ -16,7 +16,6 @@ import colours
 from bench import option_words
 from chromium import Browser
 from expected import Page
-from on_page import PALE as PALE
 from on_page import READY, try_drawings, try_page
 from trials import Trials
 from vsmtools.lines import split_lines
@@ -52,7 +51,15 @@ AGAIN = b"""\
  BACK 7
  FORWARD 2
 """
+BY_A_GET = b"""\
+ CPOOL BUILD,PCELLCT=1,SCELLCT=1,CSIZE=16,CPID=CP,SP=1
+ STORAGE OBTAIN,LENGTH=8,SP=1
+ STORAGE RELEASE,LENGTH=8,ADDR=X'6010',SP=1
+ CPOOL GET,CPID=CP
+ CPOOL GET,CPID=CP
+"""
 ODD: dict[str, bytes] = {
+    "an extent that a GET makes": BY_A_GET,
     "no line": b"",
     "one line": b" STORAGE OBTAIN,LENGTH=8",
     "only comments": b"* a\n*\n\n",
@@ -87,7 +94,7 @@ def try_odd(trials: Trials, browser: Browser, program: str, folder: Path) -> Non
         trials.equal("the title", browser.evaluate("document.title"), f"{name}.vsm · vsm")
         lines = [line.decode("latin-1") for line in split_lines(script)]
         shown = browser.evaluate("[...document.querySelectorAll('.line .text')].map(it => it.textContent)")
-        trials.equal("the script's text", shown[: len(lines)], lines)
+        trials.equal("the script's text", shown[: len(lines)], [line.rstrip() for line in lines])
     path = TOP / "examples" / "cell-pools.vsm"
     part = made(program, path, folder / "a part.html", "--first", "8", "--last", "20")
     try_page(trials, browser, part, keys=False, looks=False)
@@ -183,6 +190,10 @@ def try_palette(trials: Trials) -> None:
     pairs = re.findall(r"--c\d: light-dark\((#\w{6}), (#\w{6})\);", style)
     trials.equal("how many colours there are", len(pairs), 8)
     grounds = re.findall(r"--ground: light-dark\((#\w{6}), (#\w{6})\);", style)
+    tones = [re.findall(rf"--{name}: light-dark\((#\w{{6}}), (#\w{{6}})\);", style)[0] for name in ("ink", "panel")]
+    for scheme, own, *frame in zip(("light", "dark"), zip(*pairs), *tones):
+        least = min(max(colours.contrast(tone, it) for tone in frame) for it in own)
+        trials.want(f"{scheme}: on each colour one tone of the frame has a contrast of 3", least >= 3, least)
     for scheme, own, ground in zip(("light", "dark"), zip(*pairs), grounds[0]):
         for sight in colours.SIGHTS:
             least = colours.least_distance(list(own), sight)

@@ -17,6 +17,7 @@ from pathlib import Path
 import completions
 import facts
 import manual
+import wheel
 from facts import Commit, Refusal
 
 # What of tools/ and page/ isn't put with the tools: tests, what bench.html is made from, and the library, which has
@@ -41,6 +42,17 @@ Description: bench for the virtual storage of z/OS
  ATTACH, DETACH) over a simulated private region, and answers each with its
  return code and address or its completion code. It steps back and forward
  over what it did, exactly; that is proved. It has a library for C and Python.
+"""
+
+
+# Files of Python's that no package has would stay, with their folders.
+BEFORE_REMOVAL = """\
+#!/bin/sh
+set -e
+modules="$DPKG_ROOT/usr/lib/python3/dist-packages/__pycache__"
+rm -f "$modules"/vsm_bench.*.pyc
+rmdir "$modules" 2>/dev/null || true  # others may have files there
+find "$DPKG_ROOT/usr/share/nilbozad" -name __pycache__ -prune -exec rm -rf {} + || true
 """
 
 
@@ -113,8 +125,8 @@ def put_programs(release: Release, root: Path) -> None:
         copy(release.top / "docs" / "MESSAGES.md", share / "docs" / "MESSAGES.md")
     for name in release.tools:
         (root / "bin" / name).symlink_to(Path("..") / "share" / "nilbozad" / "tools" / name)
-    if (release.top / "dist" / "bench.html").is_file():
-        copy(release.top / "dist" / "bench.html", share / "bench.html")
+    for name in facts.BENCH:
+        copy(release.top / "dist" / name, share / name)
     put(share / "VERSION", f"nilbozad {release.version} ({release.kit})\n")
 
 
@@ -191,13 +203,21 @@ def put_docs(release: Release, root: Path, statement: str) -> None:
     doc = root / "share" / "doc" / "nilbozad"
     for file in release.files:
         if file.removeprefix("docs/") in DOCS or re.fullmatch(
-                r"docs/pictures/.*|conformance/rules|(examples|conformance)/.*(\.(vsm|out|options)|README\.md)", file):
+                r"docs/pictures/.*|conformance/rules|(examples|conformance)/.*(\.(vsm|out)|README\.md)", file):
             put(doc / file.removeprefix("docs/"), moved(file, (release.top / file).read_bytes()))
     for name, data in licences.items():
         put(doc / "licenses" / name, data)
     put(doc / "copyright", copyright_of(release, licences))
     put(doc / "PROVED", statement)
     put(doc / "CHANGELOG.md", released_changes(release))
+
+
+def put_lessons_pages(release: Release, root: Path) -> None:
+    """Each lesson as a page that opens in a browser."""
+    view, program = release.top / "tools" / "vsm-view", str(built(release.top, "vsm"))
+    for script in sorted((release.top / "examples").glob("*.vsm")):
+        page = said(view, "--vsm", program, str(script))
+        put(root / "share/doc/nilbozad/examples" / f"{script.stem}.html", page)
 
 
 def settle(root: Path, seconds: int) -> None:
@@ -242,7 +262,9 @@ def read_me(release: Release, libc: str) -> str:
 
     bin/vsm share/doc/nilbozad/examples/first-steps.vsm     runs a script
     bin/vsm-explain --help                                  explains one
-    man -l share/man/man1/vsm.1.gz                          tells of the program
+    share/nilbozad/bench.html                               the bench in a browser, with the lessons
+    share/doc/nilbozad/examples/*.html                      each lesson as a page
+    man -l share/man/man1/vsm.1.gz                          describes the program
     man -l share/man/man5/vsm-statements.5.gz               what can stand in a script
     man -l share/man/man7/vsm-messages.7.gz                 what is printed
     cc -Iinclude share/doc/nilbozad/examples/example.c -Llib -lvsm
@@ -283,6 +305,7 @@ def package(release: Release, root: Path, file: Path) -> None:
     sums = "".join(f"{hashlib.md5(it.read_bytes()).hexdigest()}  {it.relative_to(root)}\n" for it in found)
     put(root / "DEBIAN" / "control", control(release, root))
     put(root / "DEBIAN" / "md5sums", sums)
+    put(root / "DEBIAN" / "prerm", BEFORE_REMOVAL, 0o755)
     settle(root, release.commit.seconds)
     environment = {**os.environ, "SOURCE_DATE_EPOCH": str(release.commit.seconds)}
     words = ["dpkg-deb", "--root-owner-group", "-Zxz", "--build", str(root), str(file)]
@@ -322,15 +345,17 @@ def made(release: Release, room: Path) -> list[Path]:
     statement = facts.proved(release.top, release.files, statement_head(release), what_was_built(release, root))
     put_manual(release, root, helps, commands)
     put_docs(release, root, statement)
+    put_lessons_pages(release, root)
     shutil.copytree(root, usr, symlinks=True)
     put_completions(root, options, "share/zsh/site-functions")
     put_completions(usr, options, "share/zsh/vendor-completions")
     names = [out / f"nilbozad-{release.version}-linux-x86_64.tar.gz",
-             out / f"nilbozad_{release.version}_amd64.deb"]
+             out / f"nilbozad_{release.version}_amd64.deb",
+             out / f"nilbozad-{release.version}-py3-none-linux_x86_64.whl"]
+    wheel.wheel(release.version, release.tools, least_libc(root), list(PROGRAMS), root, release.commit.seconds, names[2])
     tarball(release, root, names[0])
     package(release, usr.parent, names[1])
     put(out / "PROVED", statement)
-    bench = release.top / "dist" / "bench.html"
-    sums = [*names, out / "PROVED", *([bench] if bench.is_file() else [])]
+    sums = [*names, out / "PROVED", release.top / "dist" / "bench.html"]
     put(out / "SHA256SUMS", "".join(f"{facts.sha256(it)}  {it.name}\n" for it in sums))
     return [*names, out / "PROVED", out / "SHA256SUMS"]

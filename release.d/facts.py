@@ -13,6 +13,8 @@ UNRELEASED = "Not released yet"
 GATE_LINE = re.compile(r"(\d+) passed, (\d+) failed")
 # What the kit says of no crate: its own standard library has no licence file.
 STANDARD = {"core", "std"}
+# The bench in a browser, as page/module and page/bench.py leave it in dist/.
+BENCH = ("bench.html", "vsm.wasm", "vsm.json")
 
 
 class Refusal(Exception):
@@ -121,15 +123,16 @@ def proved(top: Path, files: list[str], head: list[str], built: list[str]) -> st
     sources = [it for it in files if re.fullmatch(r"crates/\w+/src/.*\.rt", it)]
     texts = {it: (top / it).read_text(encoding="utf-8") for it in sources}
     counts = [contracts_in(text) for it, text in texts.items() if it.split("/")[1] in crates]
-    edits = sum(bool(re.fullmatch(r"crates/\w+/must-fail/.*\.edit", it)) for it in files)
+    edits = sum(bool(re.fullmatch(r"crates/\w+/(must-fail|wrong)/.*\.edit", it)) for it in files)
     tests = sum(text.count("#[test]") for text in texts.values())
-    rows = sum(bool(re.fullmatch(r"tests/rows/.*\.vsm", it)) for it in files)
+    rows = sum(bool(re.fullmatch(r"tests/rows/.*\.row", it)) for it in files)
+    scripts = sum(bool(re.fullmatch(r"conformance/.*\.vsm", it)) for it in files)
     lessons = sum(bool(re.fullmatch(r"examples/.*\.vsm", it)) for it in files)
     lines = [*head,
              f"Contracts  {sum(a for a, _ in counts)} functions with {sum(b for _, b in counts)} clauses, "
              f"in {len(crates)} crates: all that vsm, vsm-explain and the library stand on",
              f"Edits      {edits} wrong bodies, each of which the prover has to refuse",
-             f"Tests      {tests} test functions, {rows} worked scripts in tests/rows, {lessons} lessons",
+             f"Tests      {tests} test functions, {scripts} scripts of conformance, {rows} rows in tests/rows, {lessons} lessons",
              *built, "",
              "Gate is the last line of the gate's output, or 'not told' where ./release wasn't given that.",
              "'Proved' says no more than the contracts do: README.md of the repository has what can be relied on,",
@@ -140,6 +143,19 @@ def proved(top: Path, files: list[str], head: list[str], built: list[str]) -> st
 
 def sha256(file: Path) -> str:
     return hashlib.sha256(file.read_bytes()).hexdigest()
+
+
+def refuse_other_bench(dist: Path, program: Path) -> None:
+    """The module and the page of it name the sums of the program and of the module."""
+    anew = "page/module and then page/bench.py make it"
+    for name in BENCH:
+        if not (dist / name).is_file():
+            raise Refusal(f"dist/{name} is missing: {anew}")
+    sums = sha256(program), sha256(dist / "vsm.wasm")
+    for name in ("vsm.json", "bench.html"):
+        text = (dist / name).read_text(encoding="utf-8")
+        if not all(it in text for it in sums):
+            raise Refusal(f"dist/{name} isn't of the program that is built: {anew} anew")
 
 
 def licences(kit: Path, top: Path) -> dict[str, bytes]:

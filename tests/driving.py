@@ -5,9 +5,14 @@ import select
 import shutil
 import signal
 import subprocess
+import sys
 import termios
 import time
 from collections.abc import Callable
+
+sys.path.append(os.path.join(os.path.dirname(os.path.realpath(__file__)), "..", "tools"))
+
+from vsmtools.lines import options_for  # noqa: E402
 
 SECONDS = 20
 
@@ -96,6 +101,12 @@ def make_library(top: str) -> None:
                           stdout=subprocess.DEVNULL, stderr=subprocess.PIPE, text=True)
     if done.returncode:
         raise Failure(done.stderr.strip())
+
+
+def script_words(path: str) -> list[str]:
+    """The options in a lesson's first comment."""
+    with open(path, "rb") as script:
+        return options_for(path, script.read())
 
 
 def copy_listed(top: str, to: str) -> None:

@@ -12,7 +12,7 @@ import pytest
 sys.dont_write_bytecode = True
 TOP = Path(__file__).resolve().parents[2]
 TOOLS = TOP / "tools"
-sys.path.insert(0, str(TOOLS))
+sys.path[:0] = [str(TOOLS), str(TOP / "tests")]
 SECONDS = 120
 Done = subprocess.CompletedProcess
 

@@ -2,25 +2,83 @@
 """Generated scripts whose maps vsm-load has to bring back.
 
 Usage: tools/tests/load_scripts.py PROGRAM KIND FIRST LAST     tries the seeds from FIRST up to LAST; KIND is one of
-KINDS. It tells each map that doesn't come back.
+KINDS. It lists each map that doesn't come back, by its number.
 """
 from __future__ import annotations
 
 import os
 import random
 import sys
-from typing import Callable, Iterable, Optional
+from typing import Callable, Optional
 
 sys.dont_write_bytecode = True
 sys.path.insert(0, os.path.dirname(os.path.dirname(os.path.realpath(__file__))))
 from vsmtools import bench, loading, maps  # noqa: E402
 from vsmtools.command import Fault  # noqa: E402
-from vsmtools.judge import MOST_POOLS, MOST_TASKS  # noqa: E402
-from vsmtools.lines import fold  # noqa: E402
+from vsmtools.judge import MOST_POOLS  # noqa: E402
 
 WIDE = ["--low", "640", "--high", "256", "--history", "16"]
 SMALL = ["--low", "16", "--high", "8", "--history", "16"]
 WIDER = ["--low", "2048", "--high", "1024", "--history", "16"]
+OTHERS = (0, 1, 15)     # registers that don't come back
+
+
+class Plain:
+    """What a person writes: areas, cell pools and tasks that are made, used, and mostly released again."""
+
+    def __init__(self, seed: int) -> None:
+        self.chance, self.tasks, self.lines = random.Random(seed), [1], []
+        self.areas: list[str] = []       # their RELEASEs
+        self.pools: list[str] = []
+        self.made = 0
+
+    def obtain(self) -> None:
+        name, length = "A%d" % self.made, self.chance.choice((8, 24, 80, 256, 1000, 4096, 5000, 12288))
+        rest = "LENGTH=%d,ADDR=%s,SP=%d" % (length, name, self.chance.choice((0, 0, 1, 1, 7)))
+        more = self.chance.choice(("", "", ",LOC=31", ",BNDRY=PAGE", ",ADDR=(%d)" % self.chance.randint(2, 12)))
+        wanted = rest.replace(",ADDR=" + name, more) if "ADDR" in more else rest + more
+        self.lines.append(" STORAGE OBTAIN," + wanted)
+        if wanted != rest and "ADDR" in more:
+            rest = rest.replace("ADDR=" + name, more[1:])
+        self.areas.append(" STORAGE RELEASE," + rest)
+
+    def release(self) -> None:
+        if self.areas:
+            self.lines.append(self.areas.pop(self.chance.randrange(len(self.areas))))
+
+    def pool(self) -> None:
+        if len(self.pools) > 2:
+            self.lines.append(" CPOOL DELETE,CPID=" + self.pools.pop(0))
+        self.pools.append("Q%d" % self.made)
+        self.lines.append(" CPOOL BUILD,PCELLCT=%d,SCELLCT=%d,CSIZE=%d,CPID=%s,SP=%d%s" % (
+            self.chance.randint(1, 20), self.chance.randint(1, 8), 4 * self.chance.randint(1, 300), self.pools[-1],
+            self.chance.choice((0, 3)), self.chance.choice(("", ",LOC=31", ",HDR='X'"))))
+
+    def cell(self) -> None:
+        if self.pools:
+            name = self.chance.choice(self.pools)
+            for _ in range(self.chance.randint(1, 9)):
+                self.lines.append(" CPOOL GET,CPID=%s,CELL=C%d" % (name, self.chance.randrange(6)))
+            self.lines.append(" CPOOL FREE,CPID=%s,CELL=C%d" % (name, self.chance.randrange(6)))
+
+    def task(self) -> None:
+        if len(self.tasks) < 8:
+            self.tasks.append(len(self.tasks) + 1)
+            self.lines.append(" ATTACH EP=WORK" + self.chance.choice(("", ",SHSPV=1", ",GSPV=7", ",SZERO=NO")))
+        self.lines.append(" RUN %d" % self.chance.choice(self.tasks))
+
+    def end(self) -> None:
+        self.lines.append(self.chance.choice((" ENDTASK", " BACK 1", " STORAGE RELEASE,SP=1", " DETACH (1)")))
+
+    def script(self) -> str:
+        steps = [self.obtain] * 6 + [self.release] * 4 + [self.cell] * 3 + [self.pool, self.task, self.task, self.end]
+        for self.made in range(self.chance.randint(10, 60)):
+            self.chance.choice(steps)()
+        return "".join(line + "\n" for line in self.lines)
+
+
+def plain_script(seed: int) -> str:
+    return Plain(seed).script()
 
 
 def family_attach(chance: random.Random, style: str, known: int, owns: float) -> list[str]:
@@ -66,24 +124,6 @@ def family_script(seed: int) -> str:
     return "".join(line + "\n" for line in lines)
 
 
-def address_script(seed: int) -> str:
-    """64 tasks with addresses in registers and names, in pages that other tasks fill before or behind."""
-    chance, known, lines = random.Random(seed), 1, []
-    style, owns = ("chain", "star", "bush", "mixed")[seed % 4], chance.choice((0.1, 0.4, 0.8))
-    stays = chance.choice((0.2, 0.5, 0.9))
-    while known < 64:
-        for _ in range(chance.choice((0, 1, 2, 4))):
-            subpool, side = chance.randint(0, 4), chance.choice((24, 31))
-            length, place = chance.choice((8, 40, 4096, 9000)), chance.choice(("P%d", "(%d)")) % chance.randint(2, 12)
-            lines += [" RUN %d" % chance.randint(max(1, known - 4), known), " STORAGE OBTAIN,LENGTH=%d,SP=%d,COND=YES,"
-                      "LOC=%d,ADDR=%s" % (length, subpool, side, place)]
-            if chance.random() > stays:
-                lines.append(" STORAGE RELEASE,LENGTH=%d,ADDR=(1),SP=%d,COND=YES" % (length, subpool))
-        lines += family_attach(chance, style, known, owns)
-        known += 1
-    return "".join(line + "\n" for line in lines)
-
-
 def pools_script(seed: int) -> str:
     """Cell pools of task 1 that come and go, and then as many as there can be, or nearly."""
     chance, there, lines = random.Random(seed), [], []
@@ -99,150 +139,6 @@ def pools_script(seed: int) -> str:
             lines.append(" CPOOL BUILD,PCELLCT=%d,CSIZE=%d,CPID=C%d,SP=%d,LOC=%d" % (
                 chance.choice((1, 1, 1, 3, 9)), chance.choice(sizes), k, chance.choice(subpools), chance.choice(sides)))
     return "".join(line + "\n" for line in lines)
-
-
-class Requests:
-    """Statements of several tasks."""
-
-    def __init__(self) -> None:
-        self.lines: list[str] = []
-        self.task = 1
-
-    def by(self, task: int, text: str) -> None:
-        if task != self.task:
-            self.lines.append(" RUN %d" % task)
-            self.task = task
-        self.lines += fold(" " + text) or []
-
-    def text(self) -> str:
-        return "".join(line + "\n" for line in self.lines)
-
-
-class Pools:
-    """Cell pools of tasks that only build, some of which pass; and areas of task 1, which come and go."""
-
-    def __init__(self, chance: random.Random) -> None:
-        self.chance, self.requests = chance, Requests()
-        self.tasks = [1] if chance.random() < 0.4 else list(range(2, chance.choice((3, 3, 4))))
-        for _ in range(len(self.tasks) if self.tasks != [1] else 0):
-            self.requests.by(1, "ATTACH SZERO=NO")
-        self.sizes = chance.choice(((8, 4088), (8, 16, 4080, 4088), (8, 1000, 2048, 3000), (40, 2048, 2056, 4000),
-                                    (8, 4096, 2048), (24, 1500, 4088)))
-        self.sides, self.subpools = chance.choice(((24,), (24,), (24, 31))), chance.choice(((0,), (0,), (0, 5)))
-        self.most, self.stays = chance.choice((256, 255, 255, 253, 250, 240, 200)), chance.choice((0.2, 0.5, 0.8))
-        self.kept: list[tuple[int, str]] = []
-        self.passing: list[tuple[int, str]] = []
-        self.areas: list[tuple[str, int]] = []
-
-    def delete(self, pools: list[tuple[int, str]]) -> None:
-        task, name = pools.pop(self.chance.randrange(len(pools)))
-        self.requests.by(task, "CPOOL DELETE,CPID=" + name)
-
-    def build(self, number: int) -> None:
-        chance, is_kept = self.chance, self.chance.random() < self.stays and len(self.kept) < self.most
-        task, name = chance.choice(self.tasks), "%s%d" % ("K" if is_kept else "F", number)
-        self.requests.by(task, "CPOOL BUILD,PCELLCT=1,CSIZE=%d,CPID=%s,SP=%d,LOC=%d" % (
-            chance.choice(self.sizes), name, chance.choice(self.subpools), chance.choice(self.sides)))
-        (self.kept if is_kept else self.passing).append((task, name))
-
-    def area(self, number: int) -> None:
-        chance = self.chance
-        if self.areas and chance.random() < 0.5:
-            self.release(self.areas.pop(chance.randrange(len(self.areas))))
-        else:
-            length = chance.choice((4096, 8192, 20000))
-            self.areas.append(("A%d" % number, length))
-            self.requests.by(1, "STORAGE OBTAIN,LENGTH=%d,ADDR=A%d,LOC=%d" % (
-                length, number, chance.choice(self.sides)))
-
-    def release(self, area: tuple[str, int]) -> None:
-        self.requests.by(1, "STORAGE RELEASE,LENGTH=%d,ADDR=%s" % (area[1], area[0]))
-
-    def script(self) -> str:
-        chance, goes = self.chance, self.chance.choice((0.15, 0.3, 0.45))
-        for number in range(chance.choice((600, 1200, 2000))):
-            kind, is_full = chance.random(), len(self.kept) + len(self.passing) >= MOST_POOLS
-            if kind < 0.1 and self.tasks != [1]:
-                self.area(number)
-            elif self.passing and (is_full or kind < 0.1 + goes):
-                self.delete(self.passing)
-            elif is_full:
-                self.delete(self.kept)
-            else:
-                self.build(number)
-        while self.passing:
-            self.delete(self.passing)
-        for area in self.areas:
-            if chance.random() < 0.7:
-                self.release(area)
-        return self.requests.text()
-
-
-def building_script(seed: int) -> str:
-    """Nearly as many cell pools as there can be, made among others and behind areas of task 1."""
-    return Pools(random.Random(seed)).script()
-
-
-def lists_script(seed: int) -> str:
-    """Tasks in any order of their numbers, with lists of subpools that they are given or share."""
-    chance, requests = random.Random(seed), Requests()
-    tasks, most = chance.choice((12, 24, 40, 63)), chance.choice((3, 10, 40, 127))
-    works = chance.choice((0, 1, 3))
-    gifts, shares, is_star = chance.choice((1, 2, 5)), chance.choice((2, 6, 20)), chance.random() < 0.6
-    requests.by(1, "STORAGE OBTAIN,LENGTH=256,ADDR=L")
-    for _ in range(tasks):
-        requests.by(1, "ATTACH EP=FILLER")
-    numbers, known = list(range(2, tasks + 2)), [1]
-    chance.shuffle(numbers)
-    for number in numbers:
-        requests.by(1, "DETACH %d" % number)
-        parent, given = 1 if is_star else chance.choice(known[-6:] + [1]), chance.randint(0, gifts)
-        subpools = chance.sample(range(1, most + 1), min(most, given + chance.randint(0, shares)))
-        for place, part in (("L", subpools[:given]), ("X'6080'", subpools[given:])):
-            requests.by(parent, "POKE %s,X'%s'" % (place, bytes([len(part), *part]).hex().upper()))
-        requests.by(parent, "ATTACH GSPL=L,SHSPL=X'6080'")
-        known.append(number)
-        for _ in range(chance.choice((0, 0, works, works))):
-            requests.by(chance.choice((parent, parent, chance.choice(known))), lists_request(chance, min(most, 12)))
-    return requests.text()
-
-
-def lists_request(chance: random.Random, most: int) -> str:
-    """A request for storage, or for cells alone."""
-    subpool, name = chance.randint(0, most), "C%d" % chance.randrange(300)
-    return chance.choice((
-        "STORAGE OBTAIN,LENGTH=%d,SP=%d,COND=YES" % (chance.choice((8, 40, 4096)), subpool),
-        "CPOOL BUILD,PCELLCT=1,CSIZE=%d,CPID=%s,SP=%d" % (chance.choice((8, 1000, 4096)), name, subpool)))
-
-
-def attached(requests: Requests, number: int, given: Iterable[int], shared: Iterable[int]) -> None:
-    """An ATTACH by task 1, with lists, of a task that gets the number of one that's there and ends."""
-    requests.by(1, "DETACH %d" % number)
-    for place, part in (("L", bytes(given)), ("X'6080'", bytes(shared))):
-        requests.by(1, "POKE %s,X'%02X%s'" % (place, len(part), part.hex().upper()))
-    requests.by(1, "ATTACH GSPL=L,SHSPL=X'6080'")
-
-
-def orders_script(seed: int) -> str:
-    """Children of task 1, in any order of their numbers: some share a subpool, until one gets it, for many numbers."""
-    chance, requests = random.Random(seed), Requests()
-    tasks, most = chance.choice((40, 55, 63)), chance.choice((4, 10, 20, 40, 60))
-    few, works, ends = chance.choice((4, 6, 10, 20, 40)), chance.choice((0, 0.1, 0.5)), chance.choice((0.5, 0.8, 1))
-    requests.by(1, "STORAGE OBTAIN,LENGTH=256,ADDR=L")
-    for _ in range(tasks):
-        requests.by(1, "ATTACH EP=FILLER")
-    numbers = chance.sample(range(2, tasks + 2), tasks)
-    lists: dict[int, tuple[list[int], list[int]]] = {number: ([], []) for number in numbers}
-    for subpool in range(1, most + 1):
-        is_shared = False
-        for place in sorted(chance.sample(range(tasks), min(few, tasks))):
-            is_shared = not is_shared or chance.random() > ends
-            lists[numbers[place]][is_shared].append(subpool)
-    for number in numbers:
-        attached(requests, number, *lists[number])
-        if chance.random() < works:
-            requests.by(chance.choice((1, number)), lists_request(chance, most))
-    return requests.text()
 
 
 def small_task(chance: random.Random) -> str:
@@ -276,95 +172,49 @@ def small_script(seed: int) -> str:
                    for _ in range(chance.choice((8, 20, 40, 80, 160))))
 
 
-class Helpers:
-    """The last tasks of a chain that leaves few numbers; some only make storage of the task that attached them, behind
-    addresses that others got in its pages, and end."""
-
-    def __init__(self, chance: random.Random) -> None:
-        self.chance, self.requests = chance, Requests()
-        deep = chance.choice((52, 54, 56, 58, 60))
-        self.requests.by(1, "STORAGE OBTAIN,LENGTH=256,ADDR=L")
-        for task in range(1, deep):
-            self.requests.by(task, "ATTACH")
-        self.tasks = [deep]
-        self.left = list(range(deep + 1, MOST_TASKS + 1))     # numbers that are free
-        self.helpers: dict[int, list[int]] = {}               # with the subpools that each sees
-
-    def attach(self) -> None:
-        self.requests.by(self.chance.choice(self.tasks[-6:]), "ATTACH")
-        self.tasks.append(self.left.pop(0))
-
-    def attach_helper(self) -> None:
-        subpools = sorted(self.chance.sample(range(1, 6), self.chance.randint(1, 3)))
-        actor = self.chance.choice(self.tasks[-6:])
-        self.requests.by(actor, "POKE L,X'%s'" % bytes([len(subpools), *subpools]).hex().upper())
-        self.requests.by(actor, "ATTACH SHSPL=L")
-        self.helpers[self.left.pop(0)] = subpools
-
-    def words(self) -> None:
-        """Addresses of the next pages, for a task."""
-        task, registers = self.chance.choice(self.tasks[-4:]), self.chance.sample(range(2, 13), 3)
-        for register in registers:
-            self.requests.by(task, "STORAGE OBTAIN,LENGTH=4096,ADDR=(%d)" % register)
-        for register in registers:
-            self.requests.by(task, "STORAGE RELEASE,LENGTH=4096,ADDR=(%d)" % register)
-
-    def work(self) -> None:
-        """The storage of a helper's subpools, and its end."""
-        helper = self.chance.choice(list(self.helpers))
-        for subpool in self.helpers.pop(helper):
-            self.requests.by(helper, "STORAGE OBTAIN,LENGTH=8,SP=%d" % subpool)
-        self.requests.by(helper, "ENDTASK")
-        self.requests.task = 0
-        self.left = sorted([*self.left, helper])
-
-    def script(self) -> str:
-        goes = self.chance.choice((0.2, 0.4))
-        while self.left or self.helpers:
-            kind = self.chance.random()
-            if self.helpers and (not self.left or kind < goes / 2):
-                self.words()
-                self.work()
-            elif len(self.left) > 1 and kind < goes:
-                self.attach_helper()
-            elif self.left:
-                self.attach()
-        return self.requests.text()
-
-
-def helpers_script(seed: int) -> str:
-    """64 tasks, some of which had their storage made by tasks that ended."""
-    return Helpers(random.Random(seed)).script()
-
-
 KINDS: dict[str, tuple[Callable[[int], str], list[str]]] = {
-    "family": (family_script, WIDE), "address": (address_script, WIDE), "pools": (pools_script, WIDER),
-    "building": (building_script, WIDER), "lists": (lists_script, WIDE), "orders": (orders_script, WIDE),
-    "small": (small_script, SMALL), "helpers": (helpers_script, WIDE),
+    "plain": (plain_script, []), "family": (family_script, WIDE), "pools": (pools_script, WIDER),
+    "small": (small_script, SMALL),
 }
 
 
-def told(program: str, kind: str, seed: int) -> Optional[str]:
-    """What's wrong with the script of a map; None where it makes the map."""
-    write, options = KINDS[kind]
-    answer = bench.run(program, options, (write(seed) + " MAP\n").encode()).answers[-1]
+def without_others(lines: list[str]) -> list[str]:
+    """The lines of a map but HISTORY, with registers 0, 1 and 15 as 0."""
+    found = []
+    for line in lines[:-1]:
+        words = line.split(" ")
+        if line.startswith(("  R0", "  R8")):
+            first = int(words[2][1:])
+            words = words[:3] + ["00000000" if first + k in OTHERS else word for k, word in enumerate(words[3:])]
+        found.append(" ".join(words))
+    return found
+
+
+def told(program: str, options: list[str], lines: list[str]) -> Optional[str]:
+    """What's wrong with the script of a map; None if it makes the map."""
     try:
-        script = loading.Loader(maps.parse_map(answer.rest), "%s %d" % (kind, seed)).load()
+        script = loading.Loader(maps.parse_map(lines), "map").load()
     except Fault as fault:
         return str(fault)
     made = bench.run(program, options, "".join(line + "\n" for line in script + [" MAP"]).encode()).answers
     refused = next((it for it in made if it.is_refused), None)
     if refused is not None:
         return "line %d is answered %s" % (refused.line, refused.text)
-    return None if made[-1].rest[:-1] == answer.rest[:-1] else "another map"
+    return None if without_others(list(made[-1].rest)) == without_others(lines) else "another map"
+
+
+def map_of(program: str, kind: str, seed: int) -> list[str]:
+    """The map after a generated script."""
+    write, options = KINDS[kind]
+    return list(bench.run(program, options, (write(seed) + " MAP\n").encode()).answers[-1].rest)
 
 
 def main(words: list[str]) -> int:
-    """Tries generated scripts from one seed up to another, and tells which maps don't come back."""
+    """Tries generated scripts from one seed up to another, and lists which maps don't come back."""
     program, kind, first, last = words[0], words[1], int(words[2]), int(words[3])
     count = 0
     for seed in range(first, last):
-        wrong = told(program, kind, seed)
+        wrong = told(program, KINDS[kind][1], map_of(program, kind, seed))
         if wrong is not None:
             count += 1
             print("%s %d: %s" % (kind, seed, wrong), flush=True)

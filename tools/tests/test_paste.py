@@ -3,6 +3,7 @@ from __future__ import annotations
 
 import random
 import re
+import time
 from pathlib import Path
 from typing import Callable
 
@@ -86,7 +87,7 @@ def test_a_fragment_without_what_it_lacks(run: Callable, vsm: str) -> None:
         ("21:44: GETMAIN", "MF=(E,GETL) names a list, and neither the source nor --copy has its list form of "
                            "GETMAIN"),
         ("26:21: FREEMAIN", "what register 0 holds here isn't known: line 25 changes it"),
-        ("29:26: STORAGE", "BUF isn't defined"),
+        ("29:26: STORAGE", "BUF isn't defined: --copy or --equ defines it"),
         ("32:17: DETACH", "TCBADDR isn't known to hold a task that an ATTACH before gave")]
     answers = bench.run(vsm, [], done.stdout).answers
     assert done.returncode == 4 and len(answers) == 14
@@ -132,7 +133,9 @@ def test_what_is_worked_out(run: Callable, vsm: str, source: str, expected: str)
 
 @pytest.mark.parametrize("source, line, why", [
     ("A EQU B\nB EQU A\n GETMAIN R,LV=A", 3, "GETMAIN isn't taken: A stands on itself: A B A"),
-    ("A EQU L'A\n GETMAIN R,LV=A", 2, "A stands on itself"),
+    ("A EQU L'A\n GETMAIN R,LV=A", 1, "A stands on itself: A A"),
+    ("A EQU B,L'B\nB EQU A,L'A\n GETMAIN RU,LV=L'A", 1, "A stands on itself: A B A"),
+    ("A EQU 1,L'B\nB EQU 2,L'A\n", 1, "A stands on itself: A B A"),
     ("A EQU A\n", 1, "A stands on itself: A A"),
     (" MACRO\n M &X\n GETMAIN R,LV=&X\n MEND\n M 8\n", 1, "a macro definition isn't taken"),
     (" GETMAIN R,LV=&LEN\n", 1, "it has a variable symbol"),
@@ -146,11 +149,11 @@ def test_what_is_worked_out(run: Callable, vsm: str, source: str, expected: str)
     (" GETMAIN LC,A=A\n", 1, "form LC has its operands in a list"),
     ("L DC F'8,16'\n GETMAIN LC,LA=L,A=A\n", 2, "a line has one statement"),
     ("L DC F'8'\n GETMAIN VC,LA=L,A=A\n", 2, "no list of the least and the greatest length"),
-    ("L DC F'8,16'\n XC L,L\n GETMAIN VC,LA=L,A=A\n", 3, "line 2 stores in L"),
+    ("L DC F'8,16'\n XC L,L\n GETMAIN VC,LA=L,A=A\n", 3, "line 2 may change L"),
     ("L DC F'8,16'\n GETMAIN VC,LA=L,A=(5)\n", 2, "A= names no place"),
     (" GETMAIN RU,LV=8,MF=(E,(1))\n", 1, "MF=(E,(1)) names a list"),
     ("L STORAGE OBTAIN,MF=L\n GETMAIN RU,LV=8,MF=(E,L)\n", 2, "MF=(E,L) names a list"),
-    ("L GETMAIN RU,LV=8,MF=L\n MVI L,0\n GETMAIN RU,MF=(E,L)\n", 3, "line 2 stores in list L"),
+    ("L GETMAIN RU,LV=8,MF=L\n MVI L,0\n GETMAIN RU,MF=(E,L)\n", 3, "what list L holds here isn't known: line 2 stores"),
     ("L GETMAIN RU,LV=8,BNDRY=&B,MF=L\n GETMAIN RU,MF=(E,L)\n", 2, "its list has a variable symbol"),
     ("L GETMAIN RU,LV=8,MF=L\n", 1, "it's a list form, which does nothing by itself"),
     (" GETMAIN VRU,LA=L,SP=1\n", 1, "names a list"),
@@ -162,7 +165,11 @@ def test_what_is_worked_out(run: Callable, vsm: str, source: str, expected: str)
     (" STORAGE OBTAIN,LENGTH=8,LOC=EXPLICIT,INADDR=X\n", 1, "LOC=EXPLICIT isn't read"),
     (" STORAGE OBTAIN,LENGTH=8,WHAT=X\n", 1, "WHAT= is no operand that's known"),
     (" GETMAIN R,LV=(\n", 1, "is no expression"),
-    (" GETMAIN R,LV=9999999999999\n", 1, "no number of a word"),
+    (" GETMAIN R,LV=9999999999999\n", 1, "has more than 32 bits"),
+    ("A0 EQU 999999\n" + "".join("A%d EQU A%d*A%d\n" % (k, k - 1, k - 1) for k in range(1, 40)) + " GETMAIN RU,LV=A39", 41,
+     "has more than 32 bits"),
+    (" GETMAIN RU,LV=-8\n", 1, "no number of a word"), (" GETMAIN RU,LV=" + "-" * 40 + "(" * 9 + "\n", 1, "is no expression"),
+
     (" DETACH\n", 1, "it names no task"),
 ])
 def test_what_is_told(run: Callable, vsm: str, source: str, line: int, why: str) -> None:
@@ -171,6 +178,111 @@ def test_what_is_told(run: Callable, vsm: str, source: str, line: int, why: str)
     found = [note for note in notes if why in note]
     assert found and re.match(r"standard input:%d:\d+: " % line, found[0]), notes
     assert bench.run(vsm, [], "\n".join(script + [""]).encode()).answers == []
+
+
+GET, GO, FREE = " GETMAIN RU,LV=64\n", " BNZ X\n", " FREEMAIN RU,LV=64,A=(4)\n"
+KEPT = GET + " ST 1,W2\n LR 6,1\n"           # W2 has the area of line 1
+DATA = "C CSECT\nW DS 0XL16\nW1 DS A\nW2 DS A\nW3 DS A\nW4 DS A\nP DS A\n"
+LIST = "D DSECT\nNEXT DS A\nOWN DS A\nC CSECT\n USING D,10\n"
+TRAPS = {
+    # What a conditional form leaves where it's answered 4.
+    "RC, and register 1": (" GETMAIN RU,LV=8\n LR 6,1\n GETMAIN RC,LV=1048576\n FREEMAIN RU,LV=8,A=(1)\n"
+                           " FREEMAIN RU,LV=8,A=(6)", {4: "FREEMAIN RU,LV=8,A=AREA3"}, "(1) is taken as AREA3"),
+    "COND=YES, and a name": (" STORAGE OBTAIN,LENGTH=8,ADDR=P\n L 6,P\n STORAGE OBTAIN,LENGTH=1048576,COND=YES,ADDR=P\n L 5,P\n"
+                             " STORAGE RELEASE,LENGTH=8,ADDR=(5)\n STORAGE RELEASE,LENGTH=8,ADDR=(6)",
+                             {3: "STORAGE OBTAIN,LENGTH=1048576,COND=YES,ADDR=P_2", 5: "STORAGE RELEASE,LENGTH=8,ADDR=P_2"},
+                             "ADDR=P is written as P_2"),
+    "COND=YES, and a register": (" STORAGE OBTAIN,LENGTH=8,ADDR=(5)\n LR 6,5\n STORAGE OBTAIN,LENGTH=1048576,COND=YES,ADDR=(5)\n"
+                                 " STORAGE RELEASE,LENGTH=8,ADDR=(5)", {4: "STORAGE RELEASE,LENGTH=8,ADDR=AREA3"}, "is written as AREA3"),
+    "EC, and the register of another": (" GETMAIN EU,LV=8,A=P\n GETMAIN EC,LV=1048576,A=Q\n L 3,Q\n FREEMAIN RU,LV=8,A=(3)",
+                                        {4: "FREEMAIN RU,LV=8,A=Q"}, "taken as Q"),
+    # A new base register: other storage under the same names.
+    "L of a base": (LIST + GET + " ST 1,OWN\n L 10,NEXT\n L 4,OWN\n" + FREE, {10: ""}, "what register 4 holds"),
+    "LR of a base": (LIST + GET + " ST 1,OWN\n LR 10,2\n L 4,OWN\n" + FREE, {10: ""}, "what register 4 holds"),
+    "another USING": (LIST + GET + " ST 1,OWN\n USING D,9\n L 4,OWN\n" + FREE, {10: ""}, "what register 4 holds"),
+    "a base in a loop": (LIST + GET + " ST 1,OWN\nX L 4,OWN\n" + FREE + " L 10,NEXT\n B X", {9: ""}, "what register 4 holds"),
+    # A store over several fields.
+    "MVC": (DATA + KEPT + " MVC W1(8),P\n L 4,W2\n" + FREE, {13: ""}, "what register 4 holds"),
+    "STM": (DATA + KEPT + " STM 7,8,W1\n L 4,W2\n" + FREE, {13: ""}, "what register 4 holds"),
+    "XC of all": (DATA + KEPT + " XC W,W\n L 4,W2\n" + FREE, {13: ""}, "what register 4 holds"),
+    "XC beside it": (DATA + KEPT + " XC W3(8),W3\n L 4,W2\n" + FREE, {13: "FREEMAIN RU,LV=64,A=(1)"}, ""),
+    "ST with an offset": (DATA + KEPT + " ST 7,W1+4\n L 4,W2\n" + FREE, {13: ""}, "what register 4 holds"),
+    "ST by a register": (DATA + KEPT + " ST 7,4(,8)\n L 4,W2\n" + FREE, {13: ""}, "what register 4 holds"),
+    "MVCL by a register": (DATA + KEPT + " MVCL 8,2\n L 4,W2\n" + FREE, {13: ""}, "what register 4 holds"),
+    "a macro's field": (DATA + KEPT + " TIME DEC,W\n L 4,W2\n" + FREE, {13: ""}, "what register 4 holds"),
+    "a byte of an unknown field": (GET + " ST 1,Q\n MVI Q+1,0\n L 4,Q\n" + FREE, {5: ""}, "what register 4 holds"),
+    "a half of it": (DATA + KEPT + " LH 4,W2\n" + FREE, {12: ""}, "what register 4 holds"),
+    # Instructions that change more than one register.
+    "MVCL": (" LA 3,64\n MVCL 2,4\n GETMAIN RU,LV=(3)", {3: ""}, "line 2 changes it"),
+    "CLCL": (" LA 5,64\n CLCL 2,4\n GETMAIN RU,LV=(5)", {3: ""}, "line 2 changes it"),
+    "TRT": (" LA 2,64\n TRT A,B\n GETMAIN RU,LV=(2)", {3: ""}, "line 2 changes it"),
+    "M": (" LA 3,64\n M 2,=F'8'\n GETMAIN RU,LV=(3)", {3: ""}, "line 2 changes it"),
+    "EX": (" LA 3,64\n EX 2,X\n GETMAIN RU,LV=(3)\nX LA 3,0", {3: ""}, "line 2 executes"),
+    "CPOOL by its own registers": (" CPOOL BUILD,PCELLCT=1,CSIZE=8,CPID=P\n LA 3,64\n CPOOL GET,CPID=P,REGS=USE\n GETMAIN RU,LV=(3)",
+                                   {4: ""}, "line 3 changes it"),
+    # What a branch may bring.
+    "DS 0H": (" LA 3,64\n BNZ X\n LA 3,8\nX DS 0H\n GETMAIN RU,LV=(3)", {5: ""}, "a branch to X in line 4 may bring another"),
+    "EQU *": (" LA 3,64\n BNZ X\n LA 3,8\nX EQU *\n GETMAIN RU,LV=(3)", {5: ""}, "a branch to X in line 4 may bring another"),
+    "a macro's label": (" LA 3,64\n BNZ X\n LA 3,8\nX GETMAIN RU,LV=(3)", {4: ""}, "a branch to X in line 4 may bring another"),
+    "a loop": (" LA 3,64\nX GETMAIN RU,LV=(3)\n LA 3,8\n BCT 5,X", {2: ""}, "a branch to X in line 2 may bring another"),
+    "a loop in a loop": (" LA 3,64\nX LR 2,3\nY GETMAIN RU,LV=(2)\n BCT 5,Y\n LA 3,8\n J X", {3: ""}, "may bring another"),
+    "EQU *+4": (" LA 3,64\n BNZ X\nX EQU *+4\n LA 3,8\n GETMAIN RU,LV=(3)", {5: ""}, "may bring another"),
+    "a label by AIF": (" LA 3,64\n BNZ X\n AIF (&A).A\nX DS 0H\n.A ANOP\n LA 3,8\nX DS 0H\n GETMAIN RU,LV=(3)", {8: ""}, "defined twice"),
+    "*+8": (" LA 3,64\n BNZ *+8\n LA 3,8\n GETMAIN RU,LV=(3)", {4: ""}, "a branch to line 4"),
+    "code of one's own": (" LA 3,64\n BAS 14,SUB\n GETMAIN RU,LV=(3)\n B X\nSUB LA 3,8\n BR 14\nX DS 0H", {3: ""}, "line 2 calls SUB"),
+    "an exit": (" LA 3,64\n ESTAE X\n B Y\nX GETMAIN RU,LV=(3)\nY DS 0H", {4: ""}, "other code may lead to X"),
+    "all ways bring the same": (" LA 3,64\n BZ X\n WTO 'NO'\n B Y\nX GETMAIN RU,LV=(3)\nY GETMAIN RU,LV=(3)",
+                                {5: "GETMAIN RU,LV=64", 6: "GETMAIN RU,LV=64"}, ""),
+    "an arm that ends": (" GETMAIN RC,LV=64\n LTR 15,15\n BZ X\n ABEND 1\nX LR 5,1\n FREEMAIN RU,LV=64,A=(5)",
+                         {6: "FREEMAIN RU,LV=64,A=AREA1"}, ""),
+    # No room for a name: what isn't written gave nothing.
+    "no room for a name": (" GETMAIN RU,LV=8\n" + " GETMAIN RU,LV=16,RELATED=(".ljust(70, "R") + ")\n ST 1,P\n GETMAIN RU,LV=8\n L 4,P\n"
+                           " FREEMAIN RU,LV=16,A=(4)", {6: ""}, "line 2 has no room for a name"),
+    "no room for the statement": (" GETMAIN RU,LV=8\n" + " GETMAIN RU,LV=A,RELATED=(".ljust(70, "R") + ")\n FREEMAIN RU,LV=8,A=(1)\nA EQU 800",
+                                  {2: "", 3: ""}, "it would need more lines"),
+    # Conditional assembly.
+    "AGO": (" AGO .X\n GETMAIN RU,LV=8\n.X ANOP\n GETMAIN RU,LV=16", {2: "", 4: "GETMAIN RU,LV=16"}, "it isn't assembled"),
+    "AIF": (" AIF ('&A' EQ 'B').X\n GETMAIN RU,LV=8\n.X ANOP\n GETMAIN RU,LV=16", {2: "", 4: "GETMAIN RU,LV=16"},
+            "whether it's assembled isn't known, by line 1"),
+    "EQU by AIF": (" AIF (&A).X\nL EQU 8\n AGO .Y\n.X ANOP\nL EQU 16\n.Y ANOP\n GETMAIN RU,LV=L", {7: ""}, "whether it's assembled"),
+    "a register by AIF": (" LA 3,8\n AIF (&A).X\n LA 3,64\n.X ANOP\n GETMAIN RU,LV=(3)", {5: ""}, "whether line 3 is assembled"),
+    # Columns.
+    "column 73": (" STORAGE OBTAIN,LENGTH=8,".ljust(72) + "X\n               SP=5", {1: ""}, "line 2 looks like its continuation"),
+    "column 71": (" STORAGE OBTAIN,LENGTH=8,".ljust(70) + "X\n               SP=5", {1: ""}, "line 2 looks like its continuation"),
+    "a comma in the next line": (" STORAGE OBTAIN,LENGTH=8\n               ,SP=5", {1: ""}, "line 2 looks like its continuation"),
+    "a comma at the end": (" STORAGE OBTAIN,LENGTH=8,\n GETMAIN RU,LV=8", {1: "", 2: "GETMAIN RU,LV=8"}, "end with a comma"),
+    # Data.
+    "P of two lengths": ("X DC P'1,12345'\nY DS 0X\n GETMAIN RU,LV=Y-X", {3: "GETMAIN RU,LV=4"}, ""),
+    "X of two lengths": ("X DC X'A,ABCD'\nY DS 0X\n GETMAIN RU,LV=Y-X", {3: "GETMAIN RU,LV=3"}, ""),
+    "a negative length": ("X DC AL(-1)(5)\n GETMAIN RU,LV=8", {2: "GETMAIN RU,LV=8"}, "has a negative number or a length of 0"),
+    "a constant": (" L 3,LEN\n GETMAIN RU,LV=(3)\nLEN DC F'4096'", {2: "GETMAIN RU,LV=4096"}, "LV=(3) is taken as 4096"),
+    "no constant by STCM": (" L 3,LEN\n GETMAIN RU,LV=(3)\n STCM 5,15,LEN\nLEN DC F'4096'", {2: ""}, "what register 3 holds"),
+    "no constant": (" L 3,LEN\n GETMAIN RU,LV=(3)\n ST 5,LEN\nLEN DC F'4096'", {2: ""}, "what register 3 holds"),
+    "a list in a loop": ("L GETMAIN RU,LV=8,MF=L\nX GETMAIN RU,MF=(E,L)\n GETMAIN RU,LV=16,MF=(E,L)\n B X", {2: ""}, "what list L holds"),
+    "ATTACHX": (" ATTACHX EP=A,SVAREA=NO,DISP=NO,SM=SUPV,JSCB=J,JSTCB=NO,TID=1,ALCOPY=YES", {1: "ATTACH EP=A"}, "SVAREA=NO has no meaning"),
+    "ATTACH": (" ATTACH EP=A,ASYNCH=NO,TERM=YES,PURGE=NONE,ERRET=E,NSHSPV=3,RSAPF=YES", {1: "ATTACH EP=A"}, "RSAPF=YES has no meaning"),
+    "BNDRY of a cell pool": (" CPOOL BUILD,PCELLCT=1,CSIZE=8,CPID=P,BNDRY=QDWD\n CPOOL GET,CPID=P",
+                             {1: "CPOOL BUILD,PCELLCT=1,CSIZE=8,CPID=P", 2: "CPOOL GET,CPID=P"}, "BNDRY=QDWD has no meaning"),
+}
+
+
+def as_statement(line: str) -> str:
+    """A script's line without its label and remarks; '' for a comment."""
+    return "" if line.startswith("*") else " ".join(line[line.index(" "):].split("  ")[0].split())
+
+
+@pytest.mark.parametrize("trap", TRAPS)
+def test_traps(vsm: str, trap: str) -> None:
+    """What the source doesn't say isn't in the script, and why is told; and the script never releases what the source
+    doesn't."""
+    source, expected, why = TRAPS[trap]
+    it = Paste([line[:72] for line in source.split("\n")], {}, {})
+    script = it.paste()
+    assert {line: as_statement(script[line - 1]) for line in expected} == expected, it.notes
+    assert any(why in note[2] for note in it.notes) or not why, it.notes
+    answers = bench.run(vsm, [], "".join(line + "\n" for line in script).encode()).answers
+    assert [answer.line - 1 for answer in answers] == sorted(it.written)
+    assert not any(answer.text.startswith(("FAULT", "ABEND")) for answer in answers), answers
 
 
 def test_what_comes_from_elsewhere_is_told(run: Callable) -> None:
@@ -317,6 +429,38 @@ def test_changed_sources_keep_their_lines(vsm: str) -> None:
         if chance.randrange(5) == 0:
             done = bench.run(vsm, [], "".join(line + "\n" for line in script).encode())
             assert [answer.line - 1 for answer in done.answers] == sorted(it.written)
+
+
+LONG = {
+    "apostrophes": lambda n: [" GETMAIN RU,LV=L'A+".ljust(71, "1") + "X"] + [("L'A+" * 14).rjust(71) + "X"] * n,
+    "subpools": lambda n: [" STORAGE OBTAIN,LENGTH=8,SP=%d" % (128 + k) for k in range(n)],
+    "names": lambda n: [" STORAGE OBTAIN,LENGTH=8,COND=YES,ADDR=P"] * n,
+    "fields and loops": lambda n: ["C CSECT"] + ["P%d DS A" % k for k in range(n)] + [
+        line % k for k in range(n) for line in (" GETMAIN RU,LV=8%.0s", " ST 1,P%d", "L%d DS 0H", " BNZ L%d")],
+    "steps back": lambda n: [" GETMAIN RU,LV=8", " BACK 0"] * n,
+    "conditions": lambda n: [" AIF (&A).X", " AGO .X", "X EQU 1"] * n + [".X ANOP"],
+}
+
+
+@pytest.mark.parametrize("name", LONG)
+def test_no_slowness(name: str) -> None:
+    """Four times the lines take no more than ten times as long."""
+    times = []
+    for lines in (300, 1200):
+        begin = time.process_time()
+        Paste(LONG[name](lines), {}, {}).paste()
+        times.append(time.process_time() - begin)
+    assert times[1] < 10 * times[0] + 0.2, times
+
+
+def test_quiet(run: Callable) -> None:
+    """The notes on registers are left out, and the others stay."""
+    source = " LA 5,8\n GETMAIN RU,LV=(5),KEY=9\n LR 6,1\n FREEMAIN RU,LV=8,A=(6)\n FREEMAIN RU,LV=8,A=(7)\n"
+    script, notes, status = paste(run, source)
+    quiet, fewer, other = paste(run, source, "--quiet")
+    assert (quiet, other) == (script, status) and status == 4 and len(notes) > len(fewer) == 3
+    assert "KEY=9 has no meaning" in fewer[0] and "FREEMAIN isn't taken" in fewer[1]
+    assert fewer[2] == "macros taken: 2, not taken: 1; notes on registers left out: 2"
 
 
 def test_expressions() -> None:

@@ -6,6 +6,7 @@ import pty
 import re
 import select
 import signal
+import subprocess
 import sys
 import time
 from pathlib import Path
@@ -32,6 +33,7 @@ class Terminal:
         self.pid, self.end = pty.fork()
         if self.pid == 0:
             os.environ.update({"TERM": "xterm", "INPUTRC": "/dev/null", "COLUMNS": "200", **more})
+            os.environ.pop("XDG_STATE_HOME", None)
             os.execv(sys.executable, [sys.executable, str(TOOLS / TOOL), *words])
         self.seen = b""
 
@@ -97,11 +99,11 @@ class Terminal:
 
 
 @pytest.fixture
-def terminal(vsm: str) -> Iterator[Callable[..., Terminal]]:
+def terminal(vsm: str, tmp_path: Path) -> Iterator[Callable[..., Terminal]]:
     opened: list[Terminal] = []
 
     def start(*words: str) -> Terminal:
-        opened.append(Terminal("--vsm", vsm, *words))
+        opened.append(Terminal("--vsm", vsm, *words, HOME=str(tmp_path)))
         return opened[-1]
     yield start
     for it in opened:
@@ -128,6 +130,36 @@ def test_history_and_editing(terminal: Callable[..., Terminal]) -> None:
     assert "RC=0 A=00006008 L=00000008" in it.ask("", "vsm 2> ")
     it.type("storage obtain,length=89\x7f\x1b[D\x1b[D\x1b[C")
     assert "L=00000008" in it.ask("", "vsm 3> ")
+
+
+def test_the_first_prompt_and_lines_of_earlier_sessions(terminal: Callable[..., Terminal], tmp_path: Path) -> None:
+    """Nothing stands before the prompt. A file that can't be written, or is none, is no fault."""
+    kept = tmp_path / ".local" / "state" / "nilbozad" / "vsm-prompt.history"
+    for before in ("", "storage obtain,length=16\n"):
+        it = terminal()
+        assert it.until("vsm 0> ") == "" and (kept.read_text() if before else "") == before
+        it.type("\x1b[A" if before else "storage obtain,length=16")
+        assert "L=00000010" in it.ask("", "vsm 1> ")
+        it.type("\x04")
+        assert it.status() == 0
+    kept.unlink()
+    os.mkfifo(kept)
+    it = terminal()
+    it.until("vsm 0> ")
+    it.type(".q\n")
+    assert it.status() == 0 and kept.is_fifo()
+
+
+def test_a_caret_at_a_fault(terminal: Callable[..., Terminal], vsm: str) -> None:
+    try:
+        bench.find_explain(vsm)
+    except Fault:
+        return
+    it = terminal()
+    it.until("vsm 0> ")
+    shown = it.ask("storage obtain,length=8,spp=4", "vsm 0> ").splitlines()
+    assert shown[-3:-1] == ["0000001 FAULT OPERAND", "  storage obtain,length=8,spp=4"]
+    assert shown[-1].index("^") == shown[-2].index("spp")
 
 
 def test_completion(terminal: Callable[..., Terminal]) -> None:
@@ -246,11 +278,12 @@ def test_what_is_saved_runs_alike(run: Callable, vsm: str, tmp_path: Path) -> No
 def test_back_until_changes(run: Callable, vsm: str) -> None:
     text = ("storage obtain,length=64,addr=p\npoke p,x'01'\npoke p,x'02'\nstorage obtain,length=8,addr=p\n"
             ".back until x'6000' changes\n.back until x'6000' changes\n.back until x'7000' changes\nforward 4\n")
-    shown, told = talk(run, vsm, text + ".back until p changes\n.back until\n.back until q,0 changes\n")
+    shown, told = talk(run, vsm, text + ".back until p changes\n.back until\n.back until x'6000',0 changes\n"
+                       ".back until q changes\n")
     assert "0000005 KEPT=2" in shown and "  undone last: 3 poke p,x'02'   D=01000000 -> D=02000000" in shown
     assert "0000006 KEPT=1" in shown and "  none of the 1 changes that are kept changes it" in shown
-    assert "REFUSED UNDONE=3" in "\n".join(shown) and len(told) == 2
-    assert "it's .back until P changes" in told[0] and "no address" in told[1]
+    assert "REFUSED UNDONE=3" in "\n".join(shown) and len(told) == 3
+    assert "it's .back until P changes" in told[0] and "no address" in told[1] and "Q isn't defined" in told[2]
 
 
 def test_a_file_to_a_line_and_on(run: Callable, vsm: str) -> None:
@@ -284,16 +317,66 @@ def test_commands_that_are_none(run: Callable, vsm: str) -> None:
     assert any(".back until P changes" in line for line in shown)
 
 
+def test_commands_by_a_beginning(run: Callable, vsm: str) -> None:
+    shown, told = talk(run, vsm, "?\nhelp\n.h\n.?\n.s\n.l\nmap\n.lo\n.q\nmap\n")
+    assert sum(".back until P changes" in line for line in shown) == 4
+    assert told == ["vsm-prompt: .s isn't clear: it may be .step or .save",
+                    "vsm-prompt: .l isn't clear: it may be .log or .list"]
+    assert sum(line.endswith(" MAP") for line in shown) == 1
+
+
+def test_a_file_that_is_read(run: Callable, vsm: str, tmp_path: Path) -> None:
+    wanted = ["%07d %s" % (it.line, it.text) for it in bench.run(vsm, [], FIRST.read_bytes()).answers]
+    shown, told = talk(run, vsm, ".read %s\n.read\n.read %s\n.read -\nmap\n" % (FIRST, tmp_path))
+    assert [line for line in shown if line[:1] == "0"][:len(wanted)] == wanted
+    assert len(told) == 3 and "it's .read FILE" in told[0] and "can't be read" in told[1] and "./-" in told[2]
+    shown, _ = talk(run, vsm, ".read %s\n.run\n" % FIRST, "--stop", 2, FIRST)
+    assert sum(line.endswith(" MAP") for line in shown) == 2     # of the file that's read, then of the first one
+
+
+def test_control_characters_of_a_script(run: Callable, vsm: str, tmp_path: Path) -> None:
+    path = tmp_path / "evil.vsm"
+    path.write_bytes(b" STORAGE OBTAIN,LENGTH=8 \x1b]0;pwned\x07\n* \x1b[2J\r\x9b5m\n")
+    done = run(TOOL, "--vsm", vsm, path, given=b".log\n.list\n.why 1\n.who 24576\n")
+    assert b"pwned" in done.stdout and not re.search(rb"[\0-\x09\x0b-\x1f\x7f]|\xc2[\x80-\x9f]", done.stdout + done.stderr)
+
+
+def test_wide_characters_up_to_the_last_column(run: Callable, vsm: str) -> None:
+    """Columns are counted in bytes, so that no statement waits for a line that doesn't come."""
+    shown, told = talk(run, vsm, "map %s\nmap\n" % ("\u00e4" * 40))
+    assert [line[:11] for line in shown if "MAP" in line] == ["0000001 MAP", "0000003 MAP"] and not told
+
+
+def test_nothing_is_replaced_unasked(run: Callable, vsm: str, tmp_path: Path) -> None:
+    old, fifo, link = tmp_path / "precious.vsm", tmp_path / "fifo", tmp_path / "link"
+    old.write_text("precious\n")
+    os.mkfifo(fifo)
+    link.symlink_to(tmp_path / "nowhere" / "x")
+    for command in (".view", ".save"):
+        _, told = talk(run, vsm, "map\n%s %s\n%s a b\n" % (command, old, command))
+        assert len(told) == 2 and "there is one already" in told[0] and "it's " + command in told[1]
+        assert old.read_text() == "precious\n"
+    ways = ["%s%s" % (over, path) for path in (fifo, link, tmp_path) for over in ("", "--over ")]
+    assert len(talk(run, vsm, "map\n" + "".join(".save %s\n" % way for way in ways))[1]) == len(ways)
+    limited = "import resource; resource.setrlimit(resource.RLIMIT_FSIZE, (4096, 4096))"
+    session = "* %s\n" % ("x" * 900) * 9
+    done = subprocess.run([sys.executable, "-c", "%s; import os; os.execv(%r, %r)" % (limited, str(TOOLS / TOOL), [
+        TOOL, "--vsm", vsm])], input=("%s.save --over %s\n" % (session, old)).encode(), capture_output=True)
+    assert b"can't be written: File too large" in done.stderr and old.read_text() == "precious\n"
+    assert sorted(it.name for it in tmp_path.iterdir()) == ["fifo", "link", "precious.vsm"]
+
+
 def test_what_vsm_explain_says(run: Callable, vsm: str, tmp_path: Path) -> None:
     """By vsm-explain where it's there; a word that it isn't where not."""
     typed = "storage obtain,length=8,addr=p\npoke p,x'ff'\nstorage obtain,lenght=8\n"
-    shown, told = talk(run, vsm, typed + ".who p\n.why 1\n.why\n.list\n.why 77\n.why x\n.who\n")
+    shown, told = talk(run, vsm, typed + ".who p\n.who (1)\n.who nothing\n.why 1\n.why\n.list\n.why 77\n.why x\n.who\n")
     try:
         bench.find_explain(vsm)
     except Fault:
-        assert len(told) == 7 and "vsm-explain isn't there" in told[0]
+        assert len(told) == 9 and "no program vsm-explain is found" in told[0]
         return
     text = "\n".join(shown)
+    assert told.pop(0) == "vsm-prompt: NOTHING isn't defined"
     assert "D=00000000 -> D=FF000000" in text and "ABEND S0C4 -> D=00000000" in text
     assert "line 1: 8 bytes (X'8'), subpool 0" in text and "answered: FAULT OPERAND" in text
     assert "LENGTH?" in text and "[2]" in text

@@ -3,14 +3,18 @@ lie."""
 from __future__ import annotations
 
 import os
+import re
 import shutil
 import subprocess
+import time
 from pathlib import Path
 from typing import Callable
 
 import pytest
+import stored
 from conftest import SECONDS, TOOLS, TOP, one_line
 
+import vsmtools
 from vsmtools import bench, lines, maps
 from vsmtools.command import Fault
 
@@ -101,12 +105,12 @@ def test_closed_streams(tool: str, vsm: str) -> None:
 @pytest.mark.parametrize("tool", ALL)
 def test_by_the_systems_python_and_another_name(tool: str, vsm: str, tmp_path: Path) -> None:
     """As a link of another folder, as installed, and by /usr/bin/python3."""
-    installed = tmp_path / "lib" / "nilbozad"
+    installed = tmp_path / "share" / "nilbozad" / "tools"
     shutil.copytree(TOOLS / "vsmtools", installed / "vsmtools")
     shutil.copy(TOOLS / tool, installed / tool)
     (tmp_path / "bin").mkdir()
     (tmp_path / "bin" / "vsm").symlink_to(vsm)
-    (tmp_path / "bin" / tool).symlink_to(Path("..") / "lib" / "nilbozad" / tool)
+    (tmp_path / "bin" / tool).symlink_to(Path("..") / "share" / "nilbozad" / "tools" / tool)
     (tmp_path / "link").symlink_to(tmp_path / "bin" / tool)
     expected = subprocess.run([TOOLS / tool, *words(tool, vsm)], input=GIVEN[tool], capture_output=True,
                               timeout=SECONDS)
@@ -119,34 +123,29 @@ def test_by_the_systems_python_and_another_name(tool: str, vsm: str, tmp_path: P
 
 # The package.
 
-def scripts() -> list[tuple[Path, list[str]]]:
-    """The scripts of rows and examples, with their options."""
-    found = []
-    for path in sorted((TOP / "tests" / "rows").glob("*.vsm")) + sorted((TOP / "examples").glob("*.vsm")):
-        options = path.with_suffix(".options")
-        found.append((path, options.read_text().split("\n")[:-1] if options.exists() else []))
-    return found
+def test_each_module_has_a_sentence() -> None:
+    there = {path.stem for path in (TOOLS / "vsmtools").glob("*.py")} - {"__init__"}
+    assert there == set(re.findall(r"^(\w+)  +\S", vsmtools.__doc__ or "", re.M))
 
 
 def test_statements_begin_where_vsm_answers(vsm: str) -> None:
     compared = 0
-    for path, options in scripts():
-        script = path.read_bytes()
+    for name, options, script in stored.scripts():
         done = bench.run_anyhow(vsm, options, script)
         if done.status in (0, 4):
             begins = [it.first for it in lines.statements(lines.split_lines(script))]
-            assert begins == [answer.line for answer in done.answers], path.name
+            assert begins == [answer.line for answer in done.answers], name
             compared += 1
     assert compared > 150
 
 
 def test_maps_are_read_and_written_alike(vsm: str) -> None:
     compared = 0
-    for path, options in scripts():
-        done = bench.run_anyhow(vsm, options, path.read_bytes())
+    for name, options, script in stored.scripts():
+        done = bench.run_anyhow(vsm, options, script)
         for answer in done.answers if done.status in (0, 4) else []:
             if answer.is_map:
-                assert maps.map_lines(maps.parse_map(answer.rest)) == list(answer.rest), path.name
+                assert maps.map_lines(maps.parse_map(answer.rest)) == list(answer.rest), name
                 compared += 1
     assert compared > 80
 
@@ -186,3 +185,30 @@ def test_a_session_answers_as_a_run_does(vsm: str) -> None:
     assert [(answer.text, answer.rest) for answer in got] == [(answer.text, answer.rest)
                                                               for answer in expected]
     assert len(asked) > 10
+
+
+@pytest.mark.parametrize("asked", [
+    [], [""], ["* a comment"], [" BACK 0\n BACK 0"], [" BACK 0", " BACK 0"], ["", " BACK 0"], [" BACK 0", "* a comment"],
+    [" STORAGE OBTAIN,LENGTH=8,".ljust(71) + "X"]])
+def test_a_session_takes_one_statement(vsm: str, asked: list[str]) -> None:
+    start = time.monotonic()
+    with bench.Session(vsm) as session:
+        with pytest.raises(Fault, match="one statement at a time|no line follows"):
+            session.say(asked)
+        assert session.say([" BACK 0"]).text == "KEPT=0"
+    with pytest.raises(Fault, match="the session is closed"):
+        session.say([" BACK 0"])
+    assert time.monotonic() - start < bench.SECONDS / 4
+
+
+def test_what_an_answer_has(vsm: str) -> None:
+    script = (" STORAGE OBTAIN,LENGTH=10,ADDR=P\n POKE P,X'C1C2'\n PEEK P,2\n ATTACH\n STORAGE OBTAIN,LENGTH=0\n"
+              " STORAGE OBTAIN,SIZE=8\n BACK 9\n GETMAIN RC,LV=9999999\n MAP\n")
+    got = bench.run(vsm, [], script.encode()).answers
+    fields = ("rc", "address", "length", "task", "code", "data")
+    assert [tuple(getattr(it, field) for field in fields) for it in got] == [
+        (0, 0x6000, 16, None, None, None), (None,) * 6, (None,) * 5 + (b"\xc1\xc2",), (0, None, None, 2, None, None),
+        (None,) * 4 + (got[4].text[6:], None), (None,) * 4 + ("OPERAND", None), (None,) * 4 + ("KEPT=3", None),
+        (4, None, None, None, None, None), (None,) * 6]
+    shown = got[-1].map
+    assert shown and shown.tasks[0].number == 1 and got[0].map is None

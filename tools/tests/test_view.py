@@ -276,6 +276,14 @@ def test_modules_are_joined_once_and_in_order() -> None:
     assert not re.search(r"^(import|export) ", script, re.MULTILINE)
 
 
+def test_what_needs_no_browser(tmp_path: Path) -> None:
+    """page/pure.test.js in node: replies, meanings, and the parts of pages."""
+    script = tmp_path / "pure.test.mjs"
+    script.write_text(build.joined_script("pure.test.js"), encoding="utf-8")
+    done = subprocess.run(["node", "--test", str(script)], capture_output=True, text=True, timeout=60)
+    assert done.returncode == 0, done.stdout
+
+
 def test_names_that_are_declared_twice(tmp_path: Path, monkeypatch: pytest.MonkeyPatch) -> None:
     (tmp_path / "a.js").write_text("import { b } from './b.js';\nconst one = 1, two = 2;\n")
     (tmp_path / "b.js").write_text("export function two() {}\nexport const b = 1;\n")

@@ -185,6 +185,26 @@ def test_write_goes_ahead_where_nothing_can_stand_behind(tool: Tool, put: Put) -
         assert tool("lesson.vsm").status == 0
 
 
+def test_an_exercise_without_its_answers(tool: Tool, put: Put) -> None:
+    put("all/exercise.vsm", OBTAIN, RIGHT, OBTAIN, b"*> RC=4\n", OBTAIN, b"*> ?\n MAP\n*> MAP\n*>  TASK 2\n", OBTAIN)
+    put("all/right.vsm", OBTAIN, RIGHT)
+    done = tool("--no-answers", "--junit", "report.xml", "all")
+    assert (done.status, done.errors) == (1, "")
+    assert done.lines == ["all/exercise.vsm:4: line 3 is answered otherwise",
+                          "all/exercise.vsm:6: the answer to line 5 is to be filled in",
+                          "all/exercise.vsm:9: line 7 is answered otherwise", "all/exercise.vsm: 1 of 4",
+                          "all/right.vsm: 1 of 1", "1 passed, 1 failed"]
+    assert "RC=0" not in (put("x").parent / "report.xml").read_text()
+    for word in ("--write", "--hide"):
+        assert tool("--no-answers", word, "all/right.vsm").status == 16
+
+
+def test_a_fifo_in_a_folder_stops_nothing(tool: Tool, put: Put) -> None:
+    os.mkfifo(put("all/a.vsm", OBTAIN, RIGHT).parent / "f.vsm")
+    done = tool("all")
+    assert done.status == 8 and done.lines == ["all/f.vsm: it's no regular file", "1 passed, 1 failed"]
+
+
 def test_write_and_hide_go_round(tool: Tool, put: Put) -> None:
     before = {put("all/%s-%s" % (script.parent.name, script.name), script.read_bytes()): script.read_bytes()
               for script in sorted(SUITE.rglob("*.vsm"))[::24]}

@@ -1,8 +1,17 @@
-"""What the programs of this folder share: the command's frame, running vsm, its answers, statements' lines,
-and maps.
+"""What the programs of this folder share.
 
-command     one-line errors, closed pipes, full disks, reading of files, words of the command line
-bench       finding and running vsm, its answers, vsm as a partner over pipes
-lines       which lines of a script make one statement, and how a statement is written over lines
-maps        the lines of a MAP as data
+assembler     assembler source: its statements and operands, and what its symbols stand for
+bench         finding and running vsm, its answers, and vsm as a partner over pipes
+command       the frame of a tool: its options, errors of one line, files that are read and written
+contents      what registers and fields hold at a macro of a source, for vsm-paste
+expectations  scripts that say in comments what they're answered, for vsm-test
+family        the order in which vsm-load attaches the tasks of a map
+judge         whether the lines of a map agree, for vsm-load
+lines         which lines of a script make one statement, and how a statement is written over lines
+lists         list forms of macros, for vsm-paste
+loading       the script that makes the region of a map, for vsm-load
+maps          the lines of a MAP as data
+pasting       macros of a source as statements, for vsm-paste
+prompting     a session at a prompt: its lines, its changes and its commands
+words         the words of a script, for completion
 """

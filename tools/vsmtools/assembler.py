@@ -9,21 +9,23 @@ from __future__ import annotations
 import re
 from collections import Counter
 from dataclasses import dataclass, field
-from typing import NoReturn, Optional
+from functools import cached_property
+from typing import NoReturn, Optional, Sequence
 
 SYMBOL = r"[A-Za-z$#@_][\w$#@]*"
-# What a statement of these leaves of its section's place.
-WITHOUT_CODE = {"EQU", "USING", "DROP", "TITLE", "EJECT", "SPACE", "PRINT", "AMODE", "RMODE", "ENTRY",
-                "EXTRN", "WXTRN", "PUSH", "POP", "END", "ALIAS", "XATTR", "OPSYN", "ACONTROL", "ADATA",
-                "REPRO", "PUNCH", "MNOTE", "LCLA", "LCLB", "LCLC", "GBLA", "GBLB", "GBLC", "SETA", "SETB",
-                "SETC", "AIF", "AGO", "ANOP", "YREGS", "SYSSTATE", "DSECT", "CSECT", "RSECT", "START",
-                "COM", "LOCTR"}
 SECTIONS = {"DSECT", "CSECT", "RSECT", "START", "COM"}
+# Statements that leave the place in their section as it is.
+WITHOUT_CODE = SECTIONS | set("EQU USING DROP TITLE EJECT SPACE PRINT AMODE RMODE ENTRY EXTRN WXTRN PUSH POP END ALIAS "
+                              "XATTR OPSYN ACONTROL ADATA REPRO PUNCH MNOTE LCLA LCLB LCLC GBLA GBLB GBLC SETA SETB SETC "
+                              "AIF AGO ANOP YREGS SYSSTATE LOCTR".split())
 LENGTHS = {"A": 4, "Y": 2, "S": 2, "V": 4, "Q": 4, "J": 4, "R": 4, "F": 4, "H": 2, "E": 4, "D": 8, "L": 16,
            "AD": 8, "FD": 8, "VD": 8, "JD": 8, "RD": 8, "EB": 4, "DB": 8, "LB": 16, "EH": 4, "DH": 8,
            "LH": 16, "ED": 4, "DD": 8, "LD": 16}
 TO_THE_BYTE = ("C", "X", "B", "P", "Z", "CA", "CE")
 MOST_DEPTH = 100
+MOST_NUMBER = 0xFFFFFFFF      # numbers have 32 bits, with or without a sign
+END = 1 << 30                 # beyond all statements
+BRANCHES = {"AIF", "AIFB", "AGO", "AGOB"}    # of conditional assembly
 
 
 class Unknown(Exception):
@@ -49,6 +51,14 @@ class Statement:
     operands: str = ""
     places: list[tuple[int, int]] = field(default_factory=list)   # line from 0, column from 1
     is_comment: bool = False
+    is_skipped: bool = False      # by AGO: it isn't assembled
+    doubt: int = 0                # the line of the AIF or AGO that decides whether it's assembled
+    misplaced: str = ""           # why its last operand may go on in the next line
+
+    @cached_property
+    def parts(self) -> list[str]:
+        """The operands."""
+        return [text for _, text in split_operands(self.operands)]
 
     def place(self, at: int) -> tuple[int, int]:
         """Where a character of the operands stands: its line and column, both from 1."""
@@ -58,7 +68,7 @@ class Statement:
 
 def is_quote(text: str, at: int) -> bool:
     """Whether an apostrophe begins or ends a text, and isn't that of an attribute as L'NAME."""
-    return not (re.search(r"(?:^|[^\w$#@'])[LTKNDIS]$", text[:at].upper())
+    return not (re.fullmatch(r"(?:|.*[^\w$#@'])[LTKNDIS]", text[max(at - 2, 0):at].upper(), re.S)
                 and re.match(r"[A-Za-z$#@_&*]", text[at + 1:at + 2]))
 
 
@@ -94,7 +104,57 @@ def read_statement(lines: list[str], first: int) -> Statement:
         it.places += [(number, start + 1 + k) for k in range(end)]
         if end < len(part) and not it.operands.endswith(","):
             break
+    it.misplaced = misplaced(it, lines)
     return it
+
+
+def read_statements(lines: list[str]) -> list[Statement]:
+    found, at = [], 0
+    while at < len(lines):
+        found.append(read_statement(lines, at))
+        at = found[-1].last + 1
+    return found
+
+
+def misplaced(it: Statement, lines: list[str]) -> str:
+    """Why a statement's operands may go on in the next line, though column 72 doesn't say so."""
+    after = lines[it.last + 1] if it.last + 1 < len(lines) else ""
+    is_operand = not after[:15].strip() and re.match(r"\S*[^\w$#@\s]", after[15:71])
+    if lines[it.last][71:72].strip() or not it.operands.endswith(",") and not is_operand:
+        return ""
+    if is_operand:
+        return "line %d looks like its continuation, but only a character in column 72 continues a line" % (it.last + 2)
+    return "its operands end with a comma, and no line continues them"
+
+
+def targets(it: Statement, lines: list[str], labels: dict[str, int]) -> list[int]:
+    """Where an AIF or AGO may lead: the end of the source where it has no such name."""
+    text = " ".join(line[:71] for line in lines[it.first:it.last + 1]).upper().partition(it.operation)[2]
+    named = re.findall(r"[\s),](\.[A-Z$#@_][\w$#@]*)", text)
+    return [labels[name] for name in named if name in labels] or [END]
+
+
+def mark_assembled(statements: Sequence[Statement], lines: list[str]) -> None:
+    """Marks what AGO skips, and what is between an AIF or AGO and its target: it may be assembled or not."""
+    labels = {it.name: k for k, it in enumerate(statements) if it.name.startswith(".")}
+    edges = {k: targets(it, lines, labels) for k, it in enumerate(statements) if it.operation in BRANCHES}
+    back = {to: k for k, ends in edges.items() for to in ends if to <= k}
+    reached: set[int] = set()
+    skip, doubt = (0, 0), (0, 0)      # up to which statement, and by which
+    for k, it in enumerate(statements):
+        if k in reached or k in back:
+            doubt, skip = max(doubt, skip, (back.get(k, 0), back.get(k, 0))), (0, 0)
+        it.is_skipped = k < skip[0]
+        if it.is_skipped:
+            continue
+        it.doubt = statements[doubt[1]].first + 1 if k < doubt[0] else 0
+        if k in edges:
+            reached.update(edges[k])
+            last = (max(edges[k]), k)
+            if it.operation.startswith("AGO") and not it.operands.startswith("(") and last[0] > k:
+                skip = last
+            else:
+                doubt = max(doubt, last)
 
 
 def split_operands(text: str) -> list[tuple[int, str]]:
@@ -111,6 +171,13 @@ def split_operands(text: str) -> list[tuple[int, str]]:
     return found + ([(start, text[start:])] if text else [])
 
 
+def bounded(number: int) -> int:
+    """The number, where it has at most 32 bits."""
+    if not -1 << 31 <= number <= MOST_NUMBER:
+        raise Unknown("a number of it has more than 32 bits")
+    return number
+
+
 Place = tuple[str, int]       # a section, and which part of it between instructions
 
 
@@ -124,7 +191,7 @@ class Value:
         places = Counter(self.places)
         for place, count in other.places.items():
             places[place] += sign * count
-        return Value(self.number + sign * other.number, Counter({k: n for k, n in places.items() if n}))
+        return Value(bounded(self.number + sign * other.number), Counter({k: n for k, n in places.items() if n}))
 
 
 @dataclass
@@ -134,18 +201,6 @@ class Section:
     offset: int = 0
     alignment: int = 8
     highest: int = 0
-
-    def begin_part(self, alignment: int) -> None:
-        self.part, self.offset, self.alignment, self.highest = self.part + 1, 0, alignment, 0
-
-    def align(self, to: int) -> None:
-        if to > self.alignment:
-            self.begin_part(to)
-        self.offset = -(-self.offset // to) * to
-
-    def advance(self, length: int) -> None:
-        self.offset += length
-        self.highest = max(self.highest, self.offset)
 
 
 @dataclass
@@ -169,6 +224,9 @@ class Symbols:
         self.given = set(given)
         self.sections: dict[str, Section] = {}
         self.section = ""
+        self.dummies: set[str] = set()         # sections by DSECT
+        self.sizes: dict[Place, int] = {}      # of parts of sections that are ended
+        self.depth = 0                         # of expressions at work
         self.registers_taken = False
 
     def define(self, name: str, symbol: Symbol) -> None:
@@ -180,20 +238,24 @@ class Symbols:
     def read(self, statements: list[Statement]) -> list[tuple[Statement, str]]:
         """Takes all definitions; answers with what couldn't be worked out."""
         told: list[tuple[Statement, str]] = []
+        statements = [it for it in statements if not it.is_skipped]
         for it in statements:
-            if it.operation == "EQU":
+            if it.operation == "EQU" and not it.doubt:
                 self.equate(it, None)
         for it in statements:
             try:
                 self.take(it)
+                if it.doubt and it.name in self.known and it.operation not in SECTIONS:
+                    raise Unknown("whether it's assembled isn't known, by line %d" % it.doubt)
             except Unknown as why:
                 told.append((it, "%s %s can't be worked out: %s" % (it.operation, it.operands, why)))
                 self.define(it.name, Symbol(why=str(why)))
-                self.here_section().begin_part(1)
+                self.begin_part(1)
         for it in statements:
             if it.operation == "EQU" and it.name in self.known and it.name not in self.given:
                 try:
                     self.symbol(it.name, ())
+                    self.length(it.name, ())
                 except Circular as why:
                     told.append((it, str(why)))
                 except Unknown:
@@ -203,10 +265,15 @@ class Symbols:
     def here_section(self) -> Section:
         return self.sections.setdefault(self.section, Section())
 
+    def begin_part(self, alignment: int) -> None:
+        section = self.here_section()
+        self.sizes[self.section, section.part] = section.highest
+        section.part, section.offset, section.alignment, section.highest = section.part + 1, 0, alignment, 0
+
     def leave_section(self) -> None:
         """What follows is another source: how far it is from what was read isn't known."""
         self.section = ""
-        self.here_section().begin_part(8)
+        self.begin_part(8)
 
     def here(self) -> Value:
         it = self.here_section()
@@ -217,6 +284,8 @@ class Symbols:
             return
         if it.operation in SECTIONS:
             self.section = it.name
+            if it.operation == "DSECT":
+                self.dummies.add(it.name)
             self.define(it.name, Symbol(Value(0, Counter({(it.name, 0): 1})), length=1))
         elif it.operation == "EQU":
             self.equate(it, self.here())
@@ -226,41 +295,47 @@ class Symbols:
             self.origin(it)
         elif it.operation not in WITHOUT_CODE:
             self.define(it.name, Symbol(self.here(), why="the length of an instruction isn't known"))
-            self.here_section().begin_part(2)
+            self.begin_part(2)
 
     def equate(self, it: Statement, here: Optional[Value]) -> None:
-        operands = [text for _, text in split_operands(it.operands)]
-        self.define(it.name, Symbol(expression=operands[0] if operands else "", here=here,
-                                    length_text=operands[1] if len(operands) > 1 else "",
-                                    why="" if operands else "its EQU has no operand"))
+        expression, length, *_ = *it.parts, "", ""
+        self.define(it.name, Symbol(expression=expression, here=here, length_text=length,
+                                    why="" if it.parts else "its EQU has no operand"))
 
     def origin(self, it: Statement) -> None:
         section = self.here_section()
         if not it.operands:
             section.offset = section.highest
             return
-        value = self.evaluate(split_operands(it.operands)[0][1], self.here())
+        value = self.evaluate(it.parts[0], self.here())
         if value.places != Counter({(self.section, section.part): 1}):
             raise Unknown("it leads to a place that isn't known")
         section.offset = value.number
 
     def data(self, it: Statement) -> None:
         section, is_first = self.here_section(), True
-        for _, operand in split_operands(it.operands):
-            count, kind, length, is_explicit, values, data = self.constant(operand)
+        for operand in it.parts:
+            count, kind, length, is_explicit, whole, data = self.constant(operand)
             if not is_explicit and kind not in TO_THE_BYTE:
-                section.align(8 if kind == "L" else LENGTHS[kind])
+                self.align(8 if kind == "L" else LENGTHS[kind])
             data = data * count if count <= MOST_DEPTH else b""
             if is_first:
                 self.define(it.name, Symbol(self.here(), length=length, data=data))
             elif it.name in self.known:
                 self.known[it.name].data += data
             is_first = False
-            section.advance(count * length * values)
+            section.offset += count * whole
+            section.highest = max(section.highest, section.offset)
+
+    def align(self, to: int) -> None:
+        section = self.here_section()
+        if to > section.alignment:
+            self.begin_part(to)
+        section.offset = -(-section.offset // to) * to
 
     def constant(self, text: str) -> tuple[int, str, int, bool, int, bytes]:
-        """A DS or DC operand: how often, its type, the length of one, whether that's written, how many, and
-        its bytes."""
+        """A DS or DC operand: how often, its type, the length of the first value, whether that's written, of all
+        values, and their bytes."""
         found = re.match(r"(\d+|\([^()]*\))?([A-Z]D?|[A-Z][BHAE])(?=[L('\s]|$)(L(\d+|\([^()]*\)))?(.*)$",
                          text, re.I | re.S)
         if not found or found[2].upper() not in LENGTHS and found[2].upper() not in TO_THE_BYTE:
@@ -270,12 +345,12 @@ class Symbols:
         if nominal and not re.fullmatch(r"\(.*\)|'.*'", nominal, re.S):
             raise Unknown("'%s' isn't read" % nominal[:20])
         inner = nominal[1:-1] if nominal else ""
-        values = 1 if kind in ("C", "CA", "CE") or not nominal else len(split_operands(inner))
-        if found[4]:
-            length = self.modifier(found[4])
-        else:
-            length = LENGTHS.get(kind) or natural_length(kind, inner, bool(nominal))
-        return count, kind, length, bool(found[4]), values, self.bytes_of(kind, length, inner)
+        values = [inner] if kind in ("C", "CA", "CE") or not nominal else [part for _, part in split_operands(inner)]
+        fixed = self.modifier(found[4]) if found[4] else LENGTHS.get(kind)
+        if count < 0 or fixed is not None and fixed < 1:
+            raise Unknown("'%s' has a negative number or a length of 0" % text[:20])
+        lengths = [natural_length(kind, part, bool(nominal)) if fixed is None else fixed for part in values or [""]]
+        return count, kind, lengths[0], bool(found[4]), sum(lengths), self.bytes_of(kind, lengths[0], inner)
 
     def modifier(self, text: str) -> int:
         return self.number(text[1:-1] if text.startswith("(") else text, self.here())
@@ -296,17 +371,18 @@ class Symbols:
 
     # Values.
 
-    def number(self, text: str, here: Optional[Value] = None) -> int:
+    def number(self, text: str, here: Optional[Value] = None, stack: tuple[str, ...] = ()) -> int:
         """The number that an expression stands for."""
-        value = self.evaluate(text, here)
+        value = self.evaluate(text, here, stack)
         if value.places:
-            raise Unknown("'%s' isn't a number but an address of the program" % text if len(value.places) == 1
-                          else
-                          "how far '%s' is isn't known: instructions lie between, or two sections" % text)
+            raise Unknown(("'%s' isn't a number but an address of the program" if len(value.places) == 1 else
+                           "how far '%s' is isn't known: instructions lie between, or two sections") % text)
         return value.number
 
     def evaluate(self, text: str, here: Optional[Value] = None, stack: tuple[str, ...] = ()) -> Value:
-        return Expression(self, text, here, stack).whole()
+        expression = Expression(self, text, here, stack)
+        value = expression.sum()
+        return expression.wrong() if expression.tokens[expression.at] else value
 
     def symbol(self, name: str, stack: tuple[str, ...]) -> Value:
         name = name.upper()
@@ -316,29 +392,34 @@ class Symbols:
             if register:
                 self.registers_taken = True
                 return Value(int(register[1]))
-            raise Unknown("%s isn't defined" % name)
+            raise Unknown("%s isn't defined: --copy or --equ defines it" % name)
         if it.value is not None:
             return it.value
         if not it.expression:
             raise Unknown("%s can't be worked out: %s" % (name, it.why))
+        it.value = self.evaluate(it.expression, it.here, self.deeper(name, stack))
+        return it.value
+
+    def deeper(self, name: str, stack: tuple[str, ...]) -> tuple[str, ...]:
+        """The symbols that are at work, with one that another stands on."""
         if name in stack:
             raise Circular("%s stands on itself: %s" % (name, " ".join((*stack[stack.index(name):], name))))
         if len(stack) > MOST_DEPTH:
             raise Unknown("%s stands on more than %d others" % (stack[0], MOST_DEPTH))
-        it.value = self.evaluate(it.expression, it.here, (*stack, name))
-        return it.value
+        return (*stack, name)
 
     def length(self, name: str, stack: tuple[str, ...]) -> int:
         it = self.known.get(name.upper())
         if it is None:
-            raise Unknown("%s isn't defined" % name.upper())
-        if it.length is None and it.length_text:
-            it.length = self.number(it.length_text, it.here)
-        if it.length is None and it.expression:
+            raise Unknown("%s isn't defined: --copy or --equ defines it" % name.upper())
+        if it.length is not None:
+            return it.length
+        stack = self.deeper(name.upper(), stack)
+        if it.length_text:
+            it.length = self.number(it.length_text, it.here, stack)
+        elif it.expression:
             first = re.match(SYMBOL + r"(?!')", it.expression)
-            if name.upper() in stack:
-                raise Unknown("%s stands on itself" % name.upper())
-            it.length = self.length(first[0], (*stack, name.upper())) if first else 1
+            it.length = self.length(first[0], stack) if first else 1
         if it.length is None:
             raise Unknown("L'%s isn't known: %s" % (name.upper(), it.why))
         return it.length
@@ -350,8 +431,7 @@ def natural_length(kind: str, inner: str, is_given: bool) -> int:
         return 1
     if kind in ("C", "CA", "CE"):
         return len(inner.replace("''", "'").replace("&&", "&"))
-    part = split_operands(inner)[0][1] if inner else ""
-    digits = len(re.sub(r"[^0-9A-Fa-f]", "", part))
+    digits = len(re.sub(r"[^0-9A-Fa-f]", "", inner))
     return {"X": (digits + 1) // 2, "B": (digits + 7) // 8, "P": digits // 2 + 1, "Z": digits}[kind]
 
 
@@ -370,74 +450,68 @@ class Expression:
                 raise Unknown("'%s' isn't read" % text[at:at + 20], at)
             self.tokens.append(found[0])
             at = found.end()
-        self.at, self.depth = 0, 0
+        self.tokens.append("")       # the end
+        self.at = 0
 
     def wrong(self) -> NoReturn:
         raise Unknown("'%s' is no expression" % self.text[:40])
 
-    def peek(self) -> str:
-        return self.tokens[self.at] if self.at < len(self.tokens) else ""
-
     def next(self) -> str:
         self.at += 1
-        return self.tokens[self.at - 1] if self.at <= len(self.tokens) else self.wrong()
-
-    def whole(self) -> Value:
-        value = self.sum()
-        return value if self.at == len(self.tokens) else self.wrong()
+        return self.tokens[self.at - 1] or self.wrong()
 
     def sum(self) -> Value:
-        value = self.product()
-        while self.peek() in ("+", "-"):
-            sign = 1 if self.next() == "+" else -1
-            value = value.plus(self.product(), sign)
-        return value
+        if self.symbols.depth >= MOST_DEPTH:
+            raise Unknown("'%s' is nested too deeply" % self.text[:40])
+        self.symbols.depth += 1
+        try:
+            value = self.product()
+            while self.tokens[self.at] in ("+", "-"):
+                sign = 1 if self.next() == "+" else -1
+                value = value.plus(self.product(), sign)
+            return value
+        finally:
+            self.symbols.depth -= 1
 
     def product(self) -> Value:
         value = self.term()
-        while self.peek() in ("*", "/"):
+        while self.tokens[self.at] in ("*", "/"):
             is_product, other = self.next() == "*", self.term()
             if value.places or other.places:
                 raise Unknown("'%s' multiplies or divides an address" % self.text[:40])
             if is_product:
-                value = Value(value.number * other.number)
+                value = Value(bounded(value.number * other.number))
             else:
                 quotient = abs(value.number) // abs(other.number) if other.number else 0
                 value = Value(quotient if (value.number < 0) == (other.number < 0) else -quotient)
         return value
 
     def term(self) -> Value:
-        token = self.next()
-        if token in ("+", "-"):
-            return Value(0).plus(self.term(), 1 if token == "+" else -1)
+        token, sign = self.next(), 1
+        while token in ("+", "-"):
+            token, sign = self.next(), sign if token == "+" else -sign
+        return self.unsigned(token) if sign > 0 else Value(0).plus(self.unsigned(token), -1)
+
+    def unsigned(self, token: str) -> Value:
         if token == "(":
-            self.depth += 1
-            if self.depth > MOST_DEPTH:
-                self.wrong()
             value = self.sum()
-            self.depth -= 1
             return value if self.next() == ")" else self.wrong()
         if token == "*":
             if self.here is None:
                 raise Unknown("where '*' is isn't known")
             return self.here
-        return self.simple(token)
-
-    def simple(self, token: str) -> Value:
-        if len(token) > MOST_DEPTH:
+        if len(token) > MOST_DEPTH or token in (")", "/"):
             self.wrong()
         if token.isdigit():
-            return Value(int(token))
+            return Value(bounded(int(token)))
         if token[1:2] == "'":
             kind, text = token[0].upper(), token[2:].rstrip("'") if token[0] not in "Ll" else token[2:]
             if kind == "L":
                 return Value(self.symbols.length(text, self.stack))
             if kind == "C":
-                return Value(int.from_bytes(text.replace("''", "'").encode("cp037", "replace"), "big"))
+                return Value(bounded(int.from_bytes(text.replace("''", "'").encode("cp037", "replace"), "big")))
             try:
-                return Value(int(text, 16 if kind == "X" else 2))
+                return Value(bounded(int(text, 16 if kind == "X" else 2)))
             except ValueError:
                 self.wrong()
-        if token in (")", "/"):
-            self.wrong()
         return self.symbols.symbol(token, self.stack)

@@ -3,25 +3,42 @@ from __future__ import annotations
 
 import argparse
 import os
+import re
 import select
 import shutil
+import signal
 import subprocess
+import sysconfig
 import tempfile
 import time
 from dataclasses import dataclass
-from typing import NamedTuple, Optional, Sequence
+from typing import IO, NamedTuple, Optional, Sequence, Union
 
 from .command import WORDS, Fault, reason
+from .lines import is_continued, statements
+from .maps import Map, parse_map
 
 TOOLS = os.path.dirname(os.path.dirname(os.path.realpath(__file__)))
-BUILT = os.path.join(os.path.dirname(TOOLS), "crates", "vsm", "out", "vsm")
-BUILT_EXPLAIN = os.path.join(os.path.dirname(TOOLS), "crates", "vsm_explain_program", "out", "vsm_explain_program")
+TOP = os.path.dirname(TOOLS)
+BUILT = os.path.join(TOP, "crates", "vsm", "out", "vsm")
+BUILT_EXPLAIN = os.path.join(TOP, "crates", "vsm_explain_program", "out", "vsm_explain_program")
 SECONDS = 120  # the longest that a run may take, and that an answer may be waited for
+MOST_OUTPUT = 256 << 20    # bytes that a program may print
 BENCH_OPTIONS = ("--low", "--high", "--residence", "--history")
 
 
+class Overrun(Fault):
+    """A program takes longer, or prints more, than it may."""
+
+
+class TooMuch(Overrun):
+    """A program prints more than it may."""
+
+
 class Answer(NamedTuple):
-    """One answer: the number of its statement's first line, its text, and the lines of a map behind it."""
+    """One answer: the number of its statement's first line, its text, and the lines of a map behind it.
+
+    What the text doesn't have is None."""
     line: int
     text: str
     rest: tuple[str, ...] = ()
@@ -41,8 +58,36 @@ class Answer(NamedTuple):
 
     @property
     def kept(self) -> Optional[int]:
-        """How many changes are kept behind a step; None of any other answer."""
+        """How many changes are kept behind a step."""
         return int(self.text[5:]) if self.text.startswith("KEPT=") else None
+
+    def _value(self, key: str) -> Optional[str]:
+        found = re.search(r"(?:^| )%s=(\w+)" % key, self.text)
+        return found[1] if found and not self.is_refused else None
+
+    def _number(self, key: str, base: int) -> Optional[int]:
+        value = self._value(key)
+        return None if value is None else int(value, base)
+
+    rc = property(lambda it: it._number("RC", 10), doc="The return code.")
+    address = property(lambda it: it._number("A", 16))
+    length = property(lambda it: it._number("L", 16))
+    task = property(lambda it: it._number("T", 10))
+
+    @property
+    def code(self) -> Optional[str]:
+        """What stands behind ABEND, FAULT or REFUSED, as S878 or OPERAND."""
+        return self.text.partition(" ")[2] if self.is_refused else None
+
+    @property
+    def data(self) -> Optional[bytes]:
+        """The bytes that PEEK shows."""
+        value = self._value("D")
+        return None if value is None else bytes.fromhex(value)
+
+    @property
+    def map(self) -> Optional[Map]:
+        return parse_map(self.rest) if self.is_map else None
 
 
 @dataclass(frozen=True)
@@ -73,30 +118,46 @@ def options_of(given: argparse.Namespace) -> list[str]:
     return [word for option, value in pairs if value is not None for word in (option, value)]
 
 
+def is_program(place: str) -> bool:
+    return os.path.isfile(place) and os.access(place, os.X_OK)
+
+
+def compiled(launcher: str, words: Sequence[str] = ()) -> str:
+    """A repository's ./vsm or ./vsm-explain, after a run of it over no input: the first one compiles a program,
+    and standard error says so."""
+    status = subprocess.run([launcher, *words], stdin=subprocess.DEVNULL, stdout=subprocess.DEVNULL).returncode
+    if status:
+        raise Fault("%s ended with status %d; ./prove builds a proved program" % (launcher, status), status=WORDS)
+    return launcher
+
+
 def find_program(named: Optional[str] = None) -> str:
-    """The path of vsm: the one that is named, else the built one, else one beside the installed tools or on
-    the PATH."""
+    """The path of vsm: the one that is named, else the built one, else a repository's ./vsm, one with the
+    installed tools, or one on the PATH."""
     if named:
         found = named if os.path.dirname(named) else shutil.which(named) or named
-        places = [found]
-    else:
-        # /usr/lib/nilbozad/vsm-.. goes with /usr/bin/vsm.
-        places = [BUILT, os.path.join(TOOLS, "..", "..", "bin", "vsm"), shutil.which("vsm") or ""]
-    for place in places:
-        if os.path.isfile(place) and os.access(place, os.X_OK):
-            return os.path.abspath(place)
-    if named:
-        raise Fault("no program %s, or none that can be started" % named, status=WORDS)
-    raise Fault("vsm isn't built: ./prove builds it, or --vsm names a program", status=WORDS)
+        if not is_program(found):
+            raise Fault("no program %s, or none that can be started" % named, status=WORDS)
+        return os.path.abspath(found)
+    launcher = os.path.join(TOP, "vsm")
+    # Installed tools are in lib/nilbozad or share/nilbozad/tools, and vsm in bin; or pip installed both.
+    beside = [*(os.path.join(TOP, up, "bin", "vsm") for up in ("..", "../..")),
+              os.path.join(sysconfig.get_path("scripts"), "vsm")]
+    for place in (BUILT, launcher, *beside, shutil.which("vsm") or ""):
+        if is_program(place):
+            return compiled(place) if place == launcher else os.path.abspath(place)
+    raise Fault("no program vsm is found: --vsm names one", status=WORDS)
 
 
 def find_explain(vsm: str) -> str:
-    """The path of vsm-explain: the one beside vsm, else the built one, else one on the PATH."""
-    places = [os.path.join(os.path.dirname(vsm), "vsm-explain"), BUILT_EXPLAIN, shutil.which("vsm-explain") or ""]
-    for place in places:
-        if os.path.isfile(place) and os.access(place, os.X_OK):
-            return place
-    raise Fault("vsm-explain isn't there: ./prove builds it", status=WORDS)
+    """The path of vsm-explain: the one beside vsm, else the built one, a repository's ./vsm-explain, or one on
+    the PATH."""
+    launcher, beside = (os.path.join(it, "vsm-explain") for it in (TOP, os.path.dirname(vsm)))
+    places = [BUILT_EXPLAIN, launcher, shutil.which("vsm-explain") or ""]
+    for place in places if beside == launcher else [beside, *places]:
+        if is_program(place):
+            return compiled(place, ["why", "OK"]) if place == launcher else place
+    raise Fault("no program vsm-explain is found: it goes beside vsm, or on the PATH", status=WORDS)
 
 
 def answers(output: bytes) -> list[Answer]:
@@ -112,11 +173,6 @@ def answers(output: bytes) -> list[Answer]:
     return [Answer(line, text, tuple(rest)) for line, text, rest in found]
 
 
-def started(fault: OSError, program: str) -> Fault:
-    """That a program can't be started, as a fault."""
-    return Fault("%s can't be started: %s" % (program, reason(fault)), status=WORDS)
-
-
 def ended(program: str, status: int, errors: str) -> Fault:
     """That a program ended otherwise than at the end of its script, as a fault of one line."""
     said = next((line for line in errors.splitlines() if line.strip()), "")
@@ -125,23 +181,75 @@ def ended(program: str, status: int, errors: str) -> Fault:
                  status=status if status in (8, WORDS) else WORDS)
 
 
-def run_anyhow(program: str, options: Sequence[str], script: bytes, seconds: float = SECONDS) -> Run:
-    """A run over a script on standard input, however it ended."""
+def start(program: str, words: Sequence[str], given: Union[int, IO[bytes]], out: Union[int, IO[bytes]],
+          errors: IO[bytes]) -> subprocess.Popen[bytes]:
+    """Starts a program in a session of its own, so that Ctrl+C at a terminal doesn't end it."""
     try:
-        done = subprocess.run([program, *options], input=script, capture_output=True, timeout=seconds)
-    except subprocess.TimeoutExpired:
-        raise Fault("%s didn't end within %d seconds" % (program, seconds), status=WORDS) from None
-    except (OSError, ValueError) as fault:
-        raise started(fault if isinstance(fault, OSError) else OSError(0, str(fault)), program) from None
-    return Run(done.stdout, done.stderr.decode("utf-8", "replace"), done.returncode)
+        return subprocess.Popen([program, *words], stdin=given, stdout=out, stderr=errors, bufsize=0,
+                                start_new_session=True)
+    except (OSError, ValueError, subprocess.SubprocessError) as fault:
+        raise Fault("%s can't be started: %s" % (program, reason(fault)), status=WORDS) from None
 
 
-def run(program: str, options: Sequence[str], script: bytes, seconds: float = SECONDS) -> Run:
+def run_anyhow(program: str, words: Sequence[str], given: bytes, seconds: float = SECONDS,
+               most: int = MOST_OUTPUT) -> Run:
+    """A run with bytes on standard input, however it ended, within limits of time and output; no process is left."""
+    new = tempfile.TemporaryFile
+    with new() as script, new() as out, new() as errors:
+        script.write(given)
+        script.seek(0)
+        child = start(program, words, script, out, errors)
+        try:
+            wait_for(child, (out, errors), seconds, most)
+        finally:
+            end_group(child)
+        out.seek(0)
+        errors.seek(0)
+        return Run(out.read(), errors.read(1 << 16).decode("utf-8", "replace"), child.returncode)
+
+
+def wait_for(child: subprocess.Popen[bytes], outputs: Sequence[IO[bytes]], seconds: float, most: int) -> None:
+    """Waits for a program's end; a fault if it takes longer, or prints more."""
+    name, last = os.path.basename(str(child.args[0])), time.monotonic() + seconds  # type: ignore[index]
+    while child.returncode is None:
+        left = last - time.monotonic()
+        try:
+            child.wait(max(0.0, min(0.1, left)))
+        except subprocess.TimeoutExpired:
+            if left <= 0:
+                raise Overrun("%s didn't end within %g seconds" % (name, seconds), status=WORDS) from None
+        if sum(os.fstat(file.fileno()).st_size for file in outputs) > most:
+            raise TooMuch("%s printed more than %d MiB" % (name, most >> 20), status=WORDS)
+
+
+def end_group(child: subprocess.Popen[bytes]) -> None:
+    """Ends a program and what it started; its group bears its number."""
+    try:
+        os.killpg(child.pid, signal.SIGKILL)
+    except (ProcessLookupError, PermissionError):
+        pass
+    child.wait()
+
+
+def run(program: str, options: Sequence[str], script: bytes, seconds: float = SECONDS,
+        most: int = MOST_OUTPUT) -> Run:
     """A run that came to the script's end (status 0 or 4); any other is a fault with vsm's own words."""
-    done = run_anyhow(program, options, script, seconds)
+    done = run_anyhow(program, options, script, seconds, most)
     if done.status not in (0, 4):
         raise ended(program, done.status, done.errors)
     return done
+
+
+def check_is_one(lines: Sequence[str]) -> None:
+    """Refuses lines that aren't just one whole statement, which a session would wait for, or answer too late."""
+    texts = [line.encode("utf-8", "surrogateescape") for line in lines]
+    found = statements(texts)
+    if any(b"\n" in text for text in texts):
+        raise Fault("a session takes one statement at a time, each line of it by itself")
+    if len(found) != 1 or found[0].last - found[0].first + 1 != len(texts):
+        raise Fault("a session takes one statement at a time: these lines have %d, and comments are none" % len(found))
+    if is_continued(texts[-1]):
+        raise Fault("column 72 isn't blank, so the statement goes on, and no line follows")
 
 
 class Session:
@@ -152,12 +260,10 @@ class Session:
         self.gathered = b""
         self.errors = tempfile.TemporaryFile()
         try:
-            # A session of its own, so that Ctrl+C at a terminal doesn't end it.
-            self.child = subprocess.Popen([program, *options], stdin=subprocess.PIPE, stdout=subprocess.PIPE,
-                                          stderr=self.errors, bufsize=0, start_new_session=True)
-        except (OSError, ValueError) as fault:
+            self.child = start(program, options, subprocess.PIPE, subprocess.PIPE, self.errors)
+        except Fault:
             self.errors.close()
-            raise started(fault if isinstance(fault, OSError) else OSError(0, str(fault)), program) from None
+            raise
 
     def __enter__(self) -> Session:
         return self
@@ -167,6 +273,9 @@ class Session:
 
     def say(self, lines: Sequence[str]) -> Answer:
         """Writes the lines of one statement, and waits for its answer."""
+        check_is_one(lines)
+        if self.errors.closed:
+            raise Fault("the session is closed")
         text = "".join(line + "\n" for line in lines).encode("utf-8", "surrogateescape")
         first = self.line + 1
         self.line += len(lines)

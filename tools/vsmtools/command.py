@@ -4,7 +4,9 @@ from __future__ import annotations
 import argparse
 import errno
 import os
+import stat
 import sys
+import tempfile
 from pathlib import Path
 from typing import Callable, NoReturn, Optional
 
@@ -67,9 +69,9 @@ def say(name: str, text: str) -> None:
         pass
 
 
-def reason(fault: OSError) -> str:
+def reason(fault: Exception) -> str:
     """Why a system call failed, in words."""
-    return fault.strerror or os.strerror(fault.errno or errno.EIO)
+    return fault.strerror or os.strerror(fault.errno or errno.EIO) if isinstance(fault, OSError) else str(fault)
 
 
 def read_input(path: Optional[str]) -> tuple[str, bytes]:
@@ -84,11 +86,37 @@ def read_input(path: Optional[str]) -> tuple[str, bytes]:
             with open(str(path), "rb") as file:
                 data = file.read(MOST_INPUT + 1)
     except (OSError, ValueError) as fault:
-        raise Fault("can't be read: %s" % (reason(fault) if isinstance(fault, OSError) else fault),
-                    name) from None
+        raise Fault("can't be read: %s" % reason(fault), name) from None
     if len(data) > MOST_INPUT:
         raise Fault("it has more than %d MiB" % (MOST_INPUT >> 20), name)
     return name, data
+
+
+def write_file(path: str, data: bytes, is_over: bool = True) -> None:
+    """Puts bytes in a file's place at once: it keeps what it had if that fails. A file that's there is replaced only
+    if it may be, and what is no file never."""
+    whole, made = os.path.realpath(path), ""
+    if not is_over and os.path.lexists(path):
+        raise Fault("there is one already: --over %s replaces it" % path, path)
+    try:
+        before = os.stat(whole) if os.path.exists(whole) else None
+        if before and not stat.S_ISREG(before.st_mode):
+            raise Fault("can't be written: it's no regular file", path)
+        mask = os.umask(0)
+        os.umask(mask)
+        number, made = tempfile.mkstemp(prefix=".vsm-", dir=os.path.dirname(whole))
+        with os.fdopen(number, "wb") as file:
+            file.write(data)
+        os.chmod(made, before.st_mode & 0o7777 if before else 0o666 & ~mask)
+        if before and os.geteuid() == 0:
+            os.chown(made, before.st_uid, before.st_gid)
+        os.replace(made, whole)
+        made = ""
+    except (OSError, ValueError) as fault:
+        raise Fault("can't be written: %s" % reason(fault), path) from None
+    finally:
+        if made:
+            os.unlink(made)
 
 
 def write(text: str) -> None:

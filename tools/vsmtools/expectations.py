@@ -13,20 +13,15 @@ from __future__ import annotations
 import difflib
 import os
 import re
-import signal
-import subprocess
-import tempfile
-import time
 from dataclasses import dataclass, field
-from typing import IO, Iterable, Iterator, Optional, Sequence
+from typing import Iterable, Iterator, Optional, Sequence
 
-from .bench import Answer, Run, answers, started
+from .bench import Answer, Overrun, Run, answers, run_anyhow
 from .command import Fault
 from .lines import Extent, is_continued, is_passed_over, split_lines, statements
 
 SECONDS = 60.0             # the longest that a script may take
 FAILED = 1                 # the exit status where something differs
-MOST_OUTPUT = 256 << 20    # bytes that a program may print
 NOTHING = "nothing is expected in this script; --write fills in what it's answered"
 EXPECTED, AT_END, OPTIONS, BLANK = "*>", "*>end", "*!", "?"
 
@@ -94,27 +89,19 @@ def read_script(name: str, data: bytes) -> Script:
     for number, line in enumerate(lines, 1):
         text = line.decode("latin-1")
         current = begins.get(number, current)
+        found = re.match(r" +(\*[>!])", text)
         if number in begins:
-            check_operation(script, number, text)
+            if found:
+                raise script.wrong("'%s' stands in column 1, or it begins a statement" % found[1],
+                                   number, found.start(1) + 1)
         elif current and number <= current.extent.last:
-            check_continuation(script, current, number, text)
+            if text.startswith((EXPECTED, OPTIONS)):
+                raise script.wrong("'%s' can't stand here: column 72 of line %d isn't blank, so it continues the "
+                                   "statement of line %d" % (text[:2], number - 1, current.extent.first), number, 1)
         elif is_passed_over(line):
             take_comment(script, current, ahead, number, text)
     place_ahead(script, ahead)
     return script
-
-
-def check_operation(script: Script, number: int, text: str) -> None:
-    found = re.match(r" +(\*[>!])", text)
-    if found:
-        raise script.wrong("'%s' stands in column 1, or it begins a statement" % found[1],
-                           number, found.start(1) + 1)
-
-
-def check_continuation(script: Script, current: Tested, number: int, text: str) -> None:
-    if text.startswith((EXPECTED, OPTIONS)):
-        raise script.wrong("'%s' can't stand here: column 72 of line %d isn't blank, so it continues the "
-                           "statement of line %d" % (text[:2], number - 1, current.extent.first), number, 1)
 
 
 def take_comment(script: Script, current: Optional[Tested], ahead: list[ExpectedLine], number: int,
@@ -179,58 +166,13 @@ def place_ahead(script: Script, ahead: Sequence[ExpectedLine]) -> None:
     last.expected, last.is_ahead = list(ahead), True
 
 
-def run_apart(program: str, script: Script, seconds: float) -> Run:
-    """A run over a script on standard input, with limits of time and output; no process is left behind."""
-    name = os.path.basename(program)
-    new = tempfile.TemporaryFile
-    with new() as given, new() as out, new() as errors:
-        given.write(script.data)
-        given.seek(0)
-        try:
-            child = subprocess.Popen([program, *script.options], stdin=given, stdout=out, stderr=errors,
-                                     start_new_session=True)
-        except (OSError, ValueError, subprocess.SubprocessError) as fault:
-            raise started(fault if isinstance(fault, OSError) else OSError(0, str(fault)), program) from None
-        try:
-            status = wait_for(child, (out, errors), seconds)
-        except subprocess.TimeoutExpired:
-            raise script.wrong("%s didn't end within %g seconds" % (name, seconds)) from None
-        except OverflowError:
-            raise script.wrong("%s printed more than %d MiB" % (name, MOST_OUTPUT >> 20)) from None
-        finally:
-            end_group(child)
-        out.seek(0)
-        errors.seek(0)
-        return Run(out.read(), errors.read(1 << 16).decode("utf-8", "replace"), status)
-
-
-def wait_for(child: subprocess.Popen[bytes], outputs: Sequence[IO[bytes]], seconds: float) -> int:
-    """A program's status; TimeoutExpired where it takes longer, OverflowError where it prints too much."""
-    last = time.monotonic() + seconds
-    while True:
-        left = max(0.0, last - time.monotonic())
-        try:
-            return child.wait(min(0.5, left))
-        except subprocess.TimeoutExpired:
-            if sum(os.fstat(file.fileno()).st_size for file in outputs) > MOST_OUTPUT:
-                raise OverflowError from None
-            if not left:
-                raise
-
-
-def end_group(child: subprocess.Popen[bytes]) -> None:
-    """Ends a program and what it started; its group bears its number."""
-    try:
-        os.killpg(child.pid, signal.SIGKILL)
-    except (ProcessLookupError, PermissionError):
-        pass
-    child.wait()
-
-
 def told(program: str, script: Script, seconds: float) -> list[Answer]:
     """The answers of a program to a script. Whatever is no whole run of answers is a fault of the script."""
     name = os.path.basename(program)
-    done = run_apart(program, script, seconds)
+    try:
+        done = run_anyhow(program, script.options, script.data, seconds)
+    except Overrun as fault:
+        raise script.wrong(fault.text) from None
     said = next((line for line in done.errors.splitlines() if line.strip()), "")
     if not done.output.isascii():
         raise script.wrong("%s printed bytes above X'7F', which no answer has" % name)
@@ -328,7 +270,7 @@ def must_be_ahead(script: Script, tested: Tested, last: bytes) -> bool:
 
 def replace_expectations(script: Script, wanted: dict[int, list[str]]) -> bytes:
     """The script with these texts as expectations of the statements of these first lines; all else stays."""
-    lines = split_keeping(script.data)
+    lines = [line for line in re.split(rb"(?<=\n)", script.data) if line]     # with their ends
     end = next((line_end(line) for line in lines if line_end(line)), b"\n")
     dropped: set[int] = set()
     before: dict[int, list[bytes]] = {}
@@ -349,11 +291,6 @@ def replace_expectations(script: Script, wanted: dict[int, list[str]]) -> bytes:
     made = join_lines(lines, before, behind, dropped, end)
     # A last line without an end that was an expectation stays one without an end.
     return made[:-len(end)] if len(lines) in dropped and not line_end(lines[-1]) else made
-
-
-def split_keeping(data: bytes) -> list[bytes]:
-    """The lines with their ends."""
-    return [line for line in re.split(rb"(?<=\n)", data) if line]
 
 
 def join_lines(lines: Sequence[bytes], before: dict[int, list[bytes]], behind: dict[int, list[bytes]],

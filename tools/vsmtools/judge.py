@@ -1,5 +1,4 @@
-"""Whether the lines of a map agree with each other and with the regions: what no list of statements makes is
-refused."""
+"""Whether the lines of a map agree with each other and with the regions, for vsm-load."""
 from __future__ import annotations
 
 from bisect import bisect_right
@@ -13,15 +12,6 @@ MOST_TASKS, MOST_POOLS, MOST_NAMES, MOST_CELLS, MOST_SUBPOOL = 64, 256, 1024, 40
 
 def rounded(length: int) -> int:
     return -(-length // 8) * 8
-
-
-class Refused(Fault):
-    """No list of statements makes what a line of the map says."""
-
-
-def refuse(source: str, line: int, why: str) -> NoReturn:
-    """That no list of statements makes what a line of the map says."""
-    raise Refused("no list of statements makes this: %s" % why, source, line)
 
 
 class Judge:
@@ -43,7 +33,7 @@ class Judge:
         self.names()
 
     def refuse(self, line: int, why: str) -> NoReturn:
-        refuse(self.source, line, why)
+        raise Fault("the map is wrong: %s" % why, self.source, line)
 
     def side(self, area: Area) -> bool:
         """Whether an area lies in one region."""
@@ -58,10 +48,6 @@ class Judge:
             if (task.number == 1) != (task.parent == 0) or task.parent and task.parent not in parents:
                 self.refuse(task.line, "no task %d attached it" % task.parent)
             self.ancestors(task.number, task.line, parents)
-            self.registers(task.registers, task.line, parents, task.number)
-            if task.registers[1] in self.line_of(task.number, parents):
-                self.refuse(task.line + 1, "register 1 has the number of a task that it attached, and task %d was "
-                            "there before that" % task.registers[1])
             before = task.number
         if self.map.tasks[0].number != 1:
             self.refuse(self.map.tasks[0].line, "there is always a task 1")
@@ -75,35 +61,6 @@ class Judge:
             if number == 0:
                 return
         self.refuse(line, "its parents lead round in a circle")
-
-    def line_of(self, number: int, parents: dict[int, int]) -> list[int]:
-        """A task and all that it descends from."""
-        return [number, *(self.line_of(parents[number], parents) if parents.get(number) else [])]
-
-    def registers(self, words: Sequence[int], line: int, parents: dict[int, int], task: int) -> None:
-        longest = max(self.low.length, self.high.length)
-        for register, word in enumerate(words):
-            # R0 to R7 stand one line below the task, R8 to R15 two lines.
-            place = line + (1 if register < 8 else 2)
-            if register in (13, 14) and word:
-                self.refuse(place, "no statement sets register %d" % register)
-            if register == 15 and word not in (0, 4):
-                self.refuse(place, "register 15 is 0 or 4")
-            if register == 0 and (word % 8 or word > longest):
-                self.refuse(place, "register 0 gets a length: a multiple of 8 that has a place in a region")
-            if 1 <= register <= 12 and word and not (register == 1 and 2 <= word <= MOST_TASKS):
-                self.address(word, place, "register %d" % register)
-        if not words[1] and any(words[:13]):
-            self.refuse(line + 1,
-                        "register 1 is 0, and each statement that sets another register sets it too")
-        if not words[1] and task in parents.values():
-            self.refuse(line + 1, "register 1 is 0, and the task attached one")
-
-    def address(self, word: int, line: int, what: str) -> None:
-        """An address that an obtain or a GET of a cell can give."""
-        if word % 4 or not self.side(Area(word - word % 8, 8)):
-            self.refuse(line, "%s gets the address of an area or a cell, and X'%08X' can't be one"
-                        % (what, word))
 
     def subpools(self) -> None:
         seen: dict[tuple[int, int], int] = {}
@@ -138,11 +95,14 @@ class Judge:
                 runs.append((extent.start, extent.end, line))
             for k, free in enumerate(it.free):
                 self.free_area(it, free, it.line + 1 + len(it.extents) + k)
+        self.apart(runs, "a page of it is in the extent of line %d too")
+
+    def apart(self, runs: list[tuple[int, int, int]], why: str) -> None:
+        """That no two runs share a byte; each is its begin, its end and its line."""
         runs.sort()
         for one, other in zip(runs, runs[1:]):
             if one[1] > other[0]:
-                self.refuse(max(one[2], other[2]), "a page of it is in the extent of line %d too"
-                            % min(one[2], other[2]))
+                self.refuse(max(one[2], other[2]), why % min(one[2], other[2]))
 
     def ascending(self, subpool: Subpool, areas: Sequence[Area], what: str, first: int) -> None:
         for k, (one, other) in enumerate(zip(areas, areas[1:])):
@@ -202,10 +162,7 @@ class Judge:
                  for pool in self.map.cell_pools for k, extent in enumerate(pool.extents)]
         free = [(area.start, area.end, it.line + 1 + len(it.extents) + k)
                 for it in self.map.subpools for k, area in enumerate(it.free)]
-        both = sorted(taken + free)
-        for one, other in zip(both, both[1:]):
-            if one[1] > other[0]:
-                self.refuse(max(one[2], other[2]), "it has storage of line %d" % min(one[2], other[2]))
+        self.apart(taken + free, "it has storage of line %d")
 
     def totals(self) -> None:
         it = self.map
@@ -226,19 +183,22 @@ class Judge:
         for name in self.map.names:
             if name.name in seen or len(seen) == MOST_NAMES:
                 self.refuse(name.line, "a name is defined once, and at most %d are" % MOST_NAMES)
-            if not self.map.tasks[0].registers[1]:
-                self.refuse(name.line,
-                            "what defines a name sets register 1 of its task, and that of task 1 is 0")
             seen.add(name.name)
-            self.address(name.word, name.line, "a name")
+            if not self.is_address(name.word):
+                self.refuse(name.line, "a name has the address of an area or a cell, and X'%08X' can't be one"
+                            % name.word)
+
+    def is_address(self, word: int) -> bool:
+        """Whether an obtain or a GET of a cell can give this address."""
+        return word % 4 == 0 and self.side(Area(word - word % 8, 8))
 
 
 def judge_options(shown: Map, options: dict[str, str], source: str) -> None:
     """That the regions of the map are those that the options of vsm make."""
     for option, pages in (("--low", shown.low_pages), ("--high", shown.high_pages)):
         given = options.get(option, "64").lstrip("+")
-        if not given.isdecimal():
-            raise Fault("%s takes a number of units of 1,024 bytes, not '%s'" % (option, given), status=WORDS)
+        if not given.isdecimal() or len(given) > 10:
+            raise Fault("%s takes a number of units of 1,024 bytes, not '%s'" % (option, given[:60]), status=WORDS)
         if int(given) != 4 * pages:
             raise Fault("the map is of other options: its region has %d pages, which is %s %d, not %s %s"
                         % (pages, option, 4 * pages, option, given), source, shown.pages_line)

@@ -1,8 +1,11 @@
 """Which lines of a script make one statement, and how a statement is written over lines."""
 from __future__ import annotations
 
+import re
 from dataclasses import dataclass
-from typing import Optional, Sequence
+from typing import Iterator, Optional, Sequence
+
+from .command import Fault
 
 LAST_COLUMN = 71       # operands end there; column 72 says that the next line continues them
 CONTINUED_FROM = 16    # the column in which operands go on
@@ -47,6 +50,22 @@ def statements(lines: Sequence[bytes]) -> list[Extent]:
     return found
 
 
+def options_for(name: str, script: bytes, given: Sequence[str] = ()) -> list[str]:
+    """The options of vsm for a script, as a list of names and values: those that are given, and the others of the
+    comments before its first statement ('*! --residence 31')."""
+    found = list(given)
+    for number, line in enumerate(split_lines(script), 1):
+        if not is_passed_over(line):
+            break
+        words = line.decode("latin-1")[2:].replace("=", " ").split() if line.startswith(b"*! ") else []
+        if len(words) % 2 or not all(re.match("--[a-z]", word) for word in words[::2]):
+            raise Fault("not options of vsm, such as '*! --residence 31'", name, number, 1)
+        for option, value in zip(words[::2], words[1::2]):
+            if option not in given:
+                found += [option, value]
+    return found
+
+
 def fold(text: str, most: int = MOST_LINES) -> Optional[list[str]]:
     """A statement's text, with its blanks in front, over at most so many lines; None where they're too few.
 
@@ -66,14 +85,21 @@ def fold(text: str, most: int = MOST_LINES) -> Optional[list[str]]:
     return None
 
 
-def comma_ends(text: str) -> set[int]:
-    """The places behind commas that split operands: outside of parentheses and apostrophes."""
-    found, depth, quoted = set(), 0, False
-    for at, char in enumerate(text):
-        if char == "'":
+def unquoted(text: str, start: int = 0) -> Iterator[tuple[int, str]]:
+    """The characters outside of apostrophes, each with its place, from a place on."""
+    quoted = False
+    for at in range(start, len(text)):
+        if text[at] == "'":
             quoted = not quoted
         elif not quoted:
-            depth += (char == "(") - (char == ")")
-            if char == "," and depth == 0:
-                found.add(at + 1)
+            yield at, text[at]
+
+
+def comma_ends(text: str) -> set[int]:
+    """The places behind commas that split operands: outside of parentheses and apostrophes."""
+    found, depth = set(), 0
+    for at, char in unquoted(text):
+        depth += (char == "(") - (char == ")")
+        if char == "," and depth == 0:
+            found.add(at + 1)
     return found

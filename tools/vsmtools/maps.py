@@ -101,7 +101,7 @@ PATTERNS = {
     "TASK": re.compile(" TASK %s PARENT %s( CURRENT)?" % (NUMBER, NUMBER)),
     "R0": re.compile("  R0" + (" " + HEX) * 8),
     "R8": re.compile("  R8" + (" " + HEX) * 8),
-    "SUBPOOL": re.compile(" SUBPOOL %s OWNER %s SHARERS (NONE|[0-9]+(?:,[0-9]+)*)" % (NUMBER, NUMBER)),
+    "SUBPOOL": re.compile(" SUBPOOL %s OWNER %s SHARERS (NONE|[0-9]{1,10}(?:,[0-9]{1,10})*)" % (NUMBER, NUMBER)),
     "EXTENT": re.compile("  EXTENT %s %s" % (HEX, HEX)),
     "FREE": re.compile("  FREE %s %s" % (HEX, HEX)),
     "CELLPOOL": re.compile(" CELLPOOL %s SUBPOOL %s OWNER %s SIZE %s PRIMARY %s SECONDARY %s LOC (24|31)"
@@ -146,61 +146,35 @@ class Reader:
         if not found:
             self.fault("not a whole line %s of a map: '%s'" % (word, line[:60]))
         self.before = known
-        TAKERS[known](self, found)
-
-    def task(self, found: re.Match[str]) -> None:
-        self.map.tasks.append(Task(int(found[1]), int(found[2]), bool(found[3]), line=self.line))
-
-    def registers(self, found: re.Match[str]) -> None:
-        self.map.tasks[-1].registers += [int(word, 16) for word in found.groups()]
-
-    def subpool(self, found: re.Match[str]) -> None:
-        sharers = [] if found[3] == "NONE" else [int(it) for it in found[3].split(",")]
-        self.map.subpools.append(Subpool(int(found[1]), int(found[2]), sharers, line=self.line))
-
-    def extent(self, found: re.Match[str]) -> None:
-        self.map.subpools[-1].extents.append(area_of(found))
-
-    def free(self, found: re.Match[str]) -> None:
-        self.map.subpools[-1].free.append(area_of(found))
-
-    def cell_pool(self, found: re.Match[str]) -> None:
-        numbers = [int(it) for it in found.groups()[1:7]]
-        self.map.cell_pools.append(CellPool(found[1], *numbers, found[8], line=self.line))
-
-    def pool_extent(self, found: re.Match[str]) -> None:
-        self.map.cell_pools[-1].extents.append(area_of(found))
-
-    def free_cell(self, found: re.Match[str]) -> None:
-        self.map.cell_pools[-1].free_cells.append(int(found[1], 16))
-
-    def pages(self, found: re.Match[str]) -> None:
-        it = self.map
-        numbers = [int(word) for word in found.groups()]
-        it.low_assigned, it.low_pages, it.high_assigned, it.high_pages = numbers
-        it.pages_line = self.line
-
-    def bytes(self, found: re.Match[str]) -> None:
-        self.map.taken, self.map.free, self.map.bytes_line = int(found[1]), int(found[2]), self.line
-
-    def name(self, found: re.Match[str]) -> None:
-        self.map.names.append(Name(found[1], int(found[2], 16), self.line))
-
-    def history(self, found: re.Match[str]) -> None:
-        self.map.kept, self.map.history, self.map.history_line = int(found[1]), int(found[2]), self.line
-
-
-TAKERS: dict[str, Callable[[Reader, re.Match[str]], None]] = {
-    "TASK": Reader.task, "R0": Reader.registers, "R8": Reader.registers, "SUBPOOL": Reader.subpool,
-    "EXTENT": Reader.extent, "FREE": Reader.free, "CELLPOOL": Reader.cell_pool,
-    "POOLEXTENT": Reader.pool_extent,
-    "FREECELL": Reader.free_cell, "PAGES": Reader.pages, "BYTES": Reader.bytes, "NAME": Reader.name,
-    "HISTORY": Reader.history,
-}
+        if known in FIELDS:
+            for name, word in zip(FIELDS[known], found.groups()):
+                setattr(self.map, name, int(word))
+            setattr(self.map, known.lower() + "_line", self.line)
+        else:
+            TAKERS[known](self.map, found, self.line)
 
 
 def area_of(found: re.Match[str]) -> Area:
     return Area(int(found[1], 16), int(found[2], 16))
+
+
+# What a map has of each line: numbers of its own, or one thing more.
+FIELDS = {"PAGES": ("low_assigned", "low_pages", "high_assigned", "high_pages"), "BYTES": ("taken", "free"),
+          "HISTORY": ("kept", "history")}
+TAKERS: dict[str, Callable[[Map, re.Match[str], int], None]] = {
+    "TASK": lambda it, found, line: it.tasks.append(Task(int(found[1]), int(found[2]), bool(found[3]), line=line)),
+    **dict.fromkeys(("R0", "R8"), lambda it, found, _: it.tasks[-1].registers.extend(
+        int(word, 16) for word in found.groups())),
+    "SUBPOOL": lambda it, found, line: it.subpools.append(
+        Subpool(int(found[1]), int(found[2]), [int(task) for task in re.findall("[0-9]+", found[3])], line=line)),
+    "EXTENT": lambda it, found, _: it.subpools[-1].extents.append(area_of(found)),
+    "FREE": lambda it, found, _: it.subpools[-1].free.append(area_of(found)),
+    "CELLPOOL": lambda it, found, line: it.cell_pools.append(
+        CellPool(found[1], *map(int, found.groups()[1:7]), found[8], line=line)),
+    "POOLEXTENT": lambda it, found, _: it.cell_pools[-1].extents.append(area_of(found)),
+    "FREECELL": lambda it, found, _: it.cell_pools[-1].free_cells.append(int(found[1], 16)),
+    "NAME": lambda it, found, line: it.names.append(Name(found[1], int(found[2], 16), line)),
+}
 
 
 def parse_map(lines: Sequence[str], source: str = "the map", first: int = 1) -> Map:

@@ -1,7 +1,7 @@
 """Storage macros of assembler source as statements of a script, one line for each line.
 
 A number is worked out, or a macro isn't taken, with the reason; nothing that isn't known is written. What a
-register holds is followed through the text in its order.
+register or field holds is followed along all branches; the script has the macros in the text's order.
 """
 from __future__ import annotations
 
@@ -9,22 +9,26 @@ import re
 from dataclasses import dataclass, field
 from typing import Optional, Sequence
 
-from .assembler import SYMBOL, Statement, Symbols, Unknown, read_statement, split_operands
-from .contents import LINKAGE, Content, Contents
+from .assembler import BRANCHES, SYMBOL, Statement, Symbols, Unknown, mark_assembled, read_statements, split_operands
+from .contents import LINKAGE, OWN_MACROS as MACROS, Content, Contents, State, Ways, join, lost
 from .lines import fold
 from .lists import SINGLE, Lists, keyed, list_name, single
 
-MACROS = {"STORAGE", "GETMAIN", "FREEMAIN", "CPOOL", "ATTACH", "ATTACHX", "DETACH"}
 OWN = {"RUN", "ENDTASK", "POKE", "PEEK", "MAP", "BACK", "FORWARD"}
 NUMBERS = {"LENGTH", "LV", "SP", "PCELLCT", "SCELLCT", "CSIZE", "GSPV", "SHSPV"}
 NO_MEANING = {"KEY", "CALLRKY", "TCBADDR", "OWNER", "EXECUTABLE", "CHECKZERO", "STARTBDY", "CONTBDY",
               "RTCD", "BRANCH", "TCB", "ECB", "ETXR", "EPLOC", "DE", "DCB", "PARAM", "VL", "LPMOD", "DPMOD",
-              "ESTAI", "STAI", "TASKLIB", "STAE"}
-AS_THEY_STAND = {"COND", "BNDRY", "SZERO", "RELATED", "LINKAGE", "REGS"}
+              "ESTAI", "STAI", "TASKLIB", "STAE", "SVAREA", "DISP", "SM", "JSCB", "JSTCB", "TID", "ALCOPY", "PURGE",
+              "ASYNCH", "TERM", "ERRET", "NSHSPV", "NSHSPL", "RSAPF", "MULTIHDR"}
+ROUNDS = 4             # along later branches, before nothing is known where one leads
+AS_THEY_STAND = {"EP", "COND", "BNDRY", "SZERO", "RELATED", "LINKAGE", "REGS"}
+# The keyword of what gets the address.
+GIVING = {("STORAGE", "OBTAIN"): "ADDR", ("CPOOL", "GET"): "CELL",
+          **{("GETMAIN", form): "ADDR" for form in ("R", "RC", "RU", "VRC", "VRU")}}
 LIST_FORMS = {"FREEMAIN": {"V", "VC", "VU"}, "CPOOL": {"LIST"}}
 LOCATIONS = re.compile(r"(BELOW|24|ANY|31|RES)|\((BELOW|24|ANY|31|RES)(,(BELOW|ANY|24|31|64))?\)")
 NAME = re.compile(r"[A-Z$#@_][A-Z0-9$#@_]{0,62}")
-CONDITIONAL = {"EXITM", "AIF", "AGO", "COPY", "SETA", "SETB", "SETC"}
+CONDITIONAL = {"EXITM", "SETA", "SETB", "SETC", *BRANCHES}
 
 
 @dataclass
@@ -32,6 +36,7 @@ class Macro:
     """A macro that is taken: its operands in turn, and what gets the address that it obtains."""
     statement: Statement
     operation: str
+    form: str = ""
     operands: list[str] = field(default_factory=list)
     place: str = ""               # what ADDR, A or CELL names: a name, or a register in parentheses
     keyword: str = ""             # ADDR, A or CELL, where the address can go somewhere
@@ -44,6 +49,27 @@ class Macro:
     @property
     def line(self) -> int:
         return self.statement.first + 1
+
+    @property
+    def register(self) -> int:
+        """The register that its place is; 0 if that's a name, or it has none."""
+        return int(self.place[1:-1]) if self.place.startswith("(") else 0
+
+    @property
+    def is_conditional(self) -> bool:
+        """Whether out of storage is an answer 4."""
+        return "COND=YES" in self.operands or bool({"RC", "VRC", "EC", "C", "COND"} & set(self.operands[:2]))
+
+    def folded(self, more: int = 0) -> Optional[list[str]]:
+        """Its lines, at most as many as the source has for it; None if it, or it with so much more, needs more."""
+        return fold(self.text() + "_" * more, self.statement.last - self.statement.first + 1)
+
+    def lines(self) -> list[str]:
+        """Its lines with the remarks that have room."""
+        lines = self.folded() or []
+        if lines and self.remarks and len(lines[-1]) < 50:
+            lines[-1] = (lines[-1].ljust(40) + " " + "; ".join(self.remarks))[:71]
+        return lines
 
     def text(self) -> str:
         operation, operands = self.operation, list(self.operands)
@@ -81,103 +107,144 @@ class Paste:
 
     def __init__(self, lines: list[str], equates: dict[str, int], subpools: dict[int, int],
                  copies: Sequence[tuple[str, list[str]]] = (), given: Sequence[Given] = ()) -> None:
-        self.lines, self.subpools, self.chosen = lines, dict(subpools), set(subpools.values())
-        self.given, self.lists = list(given), Lists()
-        self.notes: list[tuple[int, int, str]] = []
-        self.left = 0                           # macros that aren't taken
+        self.lines, self.given_subpools = lines, subpools
+        self.all_given, self.lists = list(given), Lists()
+        self.told: list[tuple[int, int, str]] = []      # of the source, before any macro
+        self.notes = self.told
+        self.of_registers: set[tuple[int, int, str]] = set()
+        self.lost_lines = 0                     # macros that a continuation hides
+        self.own_macros: set[str] = set()
         self.statements = self.read()
+        self.code = [it for it in self.statements if not it.is_comment and it.operation != ".MACRO"]
+        mark_assembled(self.code, lines)
         self.symbols = Symbols(equates)
         for name, copy in copies:
             self.copy(name, copy)
-        for it, why in self.symbols.read([it for it in self.statements if not self.in_macro(it)]):
+        for it, why in self.symbols.read(self.code):
             self.note(it.first + 1, 1, why)
-        for it in self.statements:
-            if it.operation in MACROS:
+        for it in self.code:
+            if it.operation in MACROS and not it.is_skipped and not it.doubt:
                 self.lists.define(it)
-        self.contents = Contents(self.symbols)
-        self.macros: list[Macro] = []
+        self.ways = Ways(self.symbols, self.code, self.own_macros)
+        self.literal = {int(text) for line in lines for text in re.findall(r"SPV?=(\d{1,3})(?!\d)", line[:71])}
+        self.literal |= {symbol.value.number for symbol in self.symbols.known.values() if symbol.value is not None
+                         and not symbol.value.places}      # one of them may be a subpool
+        self.begin({})
+
+    def begin(self, assumed: dict[int, State]) -> None:
+        """A round over the source, from its begin."""
+        self.notes, self.left = list(self.told), self.lost_lines
+        self.subpools, self.chosen = dict(self.given_subpools), set(self.given_subpools.values())
+        self.given = list(self.all_given)
+        self.lists.begin()
+        self.contents = Contents(self.ways, assumed)
+        for name in self.lists.known:
+            self.contents.state[self.contents.list_key(name)] = Content("list", 0, 0)
+        self.macros: dict[int, Macro] = {}      # by their first lines, from 0
+        self.since = 0                          # the line from which on macros' addresses are known
         self.held: dict[int, int] = {}          # which macro's address vsm's registers have
         self.names: dict[str, int] = {}         # and names
-        self.pools: set[str] = set()
+        self.used: dict[str, int] = {}          # all names of the script, and how many others were made of each
         self.tasks, self.are_tasks_known = {1}, True
         self.written: dict[int, list[str]] = {}
 
-    def note(self, line: int, column: int, text: str) -> None:
+    def note(self, line: int, column: int, text: str, is_of_register: bool = False) -> None:
         self.notes.append((line, column, text))
+        if is_of_register:
+            self.of_registers.add((line, column, text))
 
     # The source.
 
     def read(self) -> list[Statement]:
         """The statements; the lines of macro definitions are marked by the operation '.MACRO'."""
-        found: list[Statement] = []
-        at, depth = 0, 0
-        while at < len(self.lines):
-            it = read_statement(self.lines, at)
+        found = read_statements(self.lines)
+        depth, is_prototype = 0, False
+        for it in found:
             for number in range(it.first + 1, it.last + 1):
                 if self.lines[number][:15].strip():
-                    self.note(number, 72,
-                              "a character in column 72 says that line %d continues this one, and columns "
+                    self.note(number, 72, "a character in column 72 says that line %d continues this one, and columns "
                               "1 to 15 there aren't blank" % (number + 1))
                     hidden = re.match(r"\S*\s+(\w+)", self.lines[number])
-                    self.left += bool(hidden and hidden[1].upper() in MACROS)
+                    self.lost_lines += bool(hidden and hidden[1].upper() in MACROS)
             if it.operation == "MACRO":
-                self.note(it.first + 1, 1,
-                          "a macro definition isn't taken, nor are calls of its macro worked out")
+                self.note(it.first + 1, 1, "a macro definition isn't taken, nor are calls of its macro worked out")
                 depth += 1
             if depth and not it.is_comment:
+                if is_prototype:
+                    self.own_macros.add(it.operation)
+                is_prototype = it.operation == "MACRO"
                 depth -= it.operation == "MEND"
                 it.operation = ".MACRO"
-            found.append(it)
-            at = it.last + 1
         return found
 
     def copy(self, name: str, lines: list[str]) -> None:
         """Takes the definitions and list forms of another source; its macros aren't taken."""
         found: list[Statement] = []
-        at, depth = 0, 0
-        while at < len(lines):
-            it = read_statement(lines, at)
+        depth = 0
+        for it in read_statements(lines):
             depth += (it.operation == "MACRO") - (it.operation == "MEND" and depth > 0)
             if it.operation == "MACRO" or not depth and it.operation in MACROS and not self.lists.define(it):
-                self.note(1, 1, "--copy %s, line %d: %s isn't taken from there"
-                          % (name, at + 1, it.operation))
+                self.note(1, 1, "--copy %s, line %d: %s isn't taken from there" % (name, it.first + 1, it.operation))
             elif not depth and it.operation != "MEND":
                 found.append(it)
-            at = it.last + 1
+        mark_assembled(found, lines)
         for it, why in self.symbols.read(found):
             self.note(1, 1, "--copy %s, line %d: %s" % (name, it.first + 1, why))
         self.symbols.leave_section()
 
-    def in_macro(self, it: Statement) -> bool:
-        return it.operation == ".MACRO"
-
     def paste(self) -> list[str]:
-        """The lines of the script, as many as the source has."""
-        for it in self.statements:
-            if it.is_comment or self.in_macro(it):
-                continue
-            self.take_given(it)
-            if it.operation in MACROS and list_name(it) is not None:
-                self.note(it.first + 1, 1, "it's a list form, which does nothing by itself")
-            elif it.operation in MACROS:
-                self.macro(it)
-            elif it.operation in OWN:
-                self.own(it)
-            else:
-                if it.operation in CONDITIONAL:
-                    self.note(it.first + 1, 1, "%s isn't carried out" % it.operation)
-                self.store(it)
-                self.contents.take(it)
-                copy = self.lists.copy(it)
-                if copy:
-                    self.note(it.first + 1, 1, "%s is taken as a copy of list %s" % copy)
+        """The lines of the script, as many as the source has. What a later branch brings to a statement is what the
+        round before found; once that stays the same it's right, and where it doesn't nothing is known there."""
+        for rounds in range(ROUNDS + 1):
+            assumed, changed = self.contents.assumed, len(self.lists.changed)
+            self.round()
+            if rounds == ROUNDS or self.contents.back == assumed and len(self.lists.changed) == changed:
+                break
+            assumed = self.contents.back
+            if rounds == ROUNDS - 1:
+                assumed = {k: lost("a later branch may bring another") for k in assumed}
+                self.lists.changed.update(self.lists.known)
+            self.begin(assumed)
         for word in self.given:
             self.note(word.line, 1, "--at %s isn't used: that line has no statement" % word.word)
-        for macro in self.macros:
-            self.write(macro)
+        self.written.update((first, macro.lines()) for first, macro in self.macros.items())
         if self.symbols.registers_taken:
-            self.note(1, 1, "R0 to R15 that the source doesn't define are taken as registers 0 to 15")
+            self.note(1, 1, "R0 to R15 that the source doesn't define are taken as registers 0 to 15", True)
         return self.whole()
+
+    def round(self) -> None:
+        for k, it in enumerate(self.code):
+            if it.is_skipped:
+                if it.operation in MACROS:
+                    self.note(it.first + 1, 1, "%s isn't written: it isn't assembled, as AGO says" % it.operation)
+                continue
+            self.contents.arrive(k)
+            before = dict(self.contents.state) if it.doubt else {}
+            self.statement(k, it)
+            if before:
+                self.contents.state = join(self.contents.state, before, Content(
+                    "lost", "whether line %d is assembled isn't known" % (it.first + 1), it.first + 1))
+                self.contents.is_reached = True
+
+    def statement(self, k: int, it: Statement) -> None:
+        self.take_given(it)
+        if it.operation in MACROS and list_name(it) is not None:
+            self.note(it.first + 1, 1, "it's a list form, which does nothing by itself")
+        elif it.operation in MACROS:
+            self.macro(it)
+        elif it.operation in OWN:
+            self.own(it)
+        else:
+            if it.operation in CONDITIONAL:
+                self.note(it.first + 1, 1, "%s isn't carried out" % it.operation)
+            elif it.operation == "COPY":
+                self.note(it.first + 1, 1, "COPY %s isn't carried out: --copy FILE takes its definitions" % it.operands)
+            self.store(it)
+            copy = self.lists.copy(it, self.contents)
+            self.contents.take(k)
+            if copy:
+                self.lists.copied(*copy, it.first + 1, self.contents)
+                self.note(it.first + 1, 1, "%s is taken as a copy of list %s" % copy)
 
     def take_given(self, it: Statement) -> None:
         """What the words of --at say of registers and fields before a statement."""
@@ -188,11 +255,10 @@ class Paste:
             except Unknown as why:
                 self.note(word.line, 1, "--at %s isn't used: %s" % (word.word, why))
                 continue
-            register = re.fullmatch(r"R(\d{1,2})", word.what)
-            if register:
-                self.contents.set(int(register[1]), content, word.line)
+            if re.fullmatch(r"R\d{1,2}", word.what):
+                self.contents.set(int(word.what[1:]), content, word.line)
             else:
-                self.contents.fields[word.what] = content
+                self.contents.set_field(word.what, content)
             self.note(word.line, 1, "%s holds %s here, as --at says" % (
                 word.what, content.what if word.value[0] != "@" else "what line %s gave" % word.value[1:]))
 
@@ -200,7 +266,8 @@ class Paste:
         if word.value[0] != "@":
             return Content("number", self.symbols.number(word.value) & 0xFFFFFFFF, word.line)
         line = word.value[1:]
-        gave = next((macro.gave for macro in self.macros if str(macro.line) == line), None)
+        macro = self.macros.get(int(line) - 1)
+        gave = macro.gave if macro and macro.line > self.since else None
         if gave is None:
             raise Unknown("line %s is no macro before, nor behind a RUN, ENDTASK, BACK or FORWARD, that gives an "
                           "area, a cell pool or a task" % line)
@@ -210,79 +277,71 @@ class Paste:
         """A statement of the bench's own. Behind one that leads to another task or time nothing is known."""
         self.written[it.first] = self.lines[it.first:it.last + 1]
         if it.operation in ("RUN", "ENDTASK", "BACK", "FORWARD"):
-            for macro in self.macros:
-                macro.gave = None
-            stored = self.contents.stored
-            self.contents, self.held, self.names = Contents(self.symbols), {}, {}
-            self.contents.stored = stored
-            self.are_tasks_known = False
+            self.since = it.first + 1
+            self.contents.state = lost("line %d leads to another task or time" % self.since, self.since)
+            self.held, self.names, self.are_tasks_known = {}, {}, False
 
     def whole(self) -> list[str]:
         found: list[str] = []
         for it in self.statements:
             lines = self.written.get(it.first, [])
-            if lines and it.operation in MACROS and it.name and NAME.fullmatch(it.name):
-                lines = [self.with_name(it, lines[0])] + lines[1:]
-            found += lines
-            for number in range(it.first + len(lines), it.last + 1):
-                found.append(as_comment(self.lines[number]))
+            if lines and it.operation in MACROS and NAME.fullmatch(it.name) and len(it.name + lines[0]) <= 71:
+                lines = [it.name + lines[0], *lines[1:]]
+            found += lines + [as_comment(line) for line in self.lines[it.first + len(lines):it.last + 1]]
         return found
-
-    def with_name(self, it: Statement, line: str) -> str:
-        """A statement's line with the name that the source has there, where there's room."""
-        longer = it.name + line
-        return longer if len(line) < 71 and len(longer) <= 71 else line
 
     def store(self, it: Statement) -> None:
         """Remembers the field in which a macro's address is stored, for its name."""
-        operands = split_operands(it.operands)
-        if it.operation in ("ST", "STG", "STY") and len(operands) == 2:
-            register = self.contents.register(operands[0][1])
-            content = self.contents.registers.get(register) if register is not None else None
-            if content and content.kind == "area" and NAME.fullmatch(operands[1][1].upper()):
+        if it.operation in ("ST", "STG", "STY") and len(it.parts) == 2 and NAME.fullmatch(it.parts[1].upper()):
+            register = self.contents.register(it.parts[0])
+            content = self.contents.known(register) if register is not None else None
+            if content and content.kind == "area" and int(content.what) in self.macros:
                 macro = self.macros[int(content.what)]
-                macro.wish = macro.wish or operands[1][1].upper()
+                macro.wish = macro.wish or it.parts[1].upper()
 
     # Macros.
 
     def macro(self, it: Statement) -> None:
-        number = len(self.macros)
         try:
+            if it.doubt:
+                raise Unknown("whether it's assembled isn't known, by line %d" % it.doubt)
+            if it.misplaced:
+                raise Unknown(it.misplaced)
             found = self.taken(it)
         except Unknown as why:
             self.left += 1
             line, column = it.place((why.column or 1) - 1)
             self.note(line, column, "%s isn't taken: %s" % (it.operation, why))
-            self.forget(it.first + 1)
+            self.contents.take_macro(it)
             return
-        self.macros.append(found)
+        self.macros[it.first] = found
         for text in found.notes:
             self.note(found.line, 1, text)
-        self.behind(found, number)
-
-    def forget(self, line: int) -> None:
-        for register in LINKAGE:
-            self.contents.set(register, None, line)
+        self.behind(found, it.first)
 
     def behind(self, it: Macro, number: int) -> None:
         """What registers and names hold behind a macro that is taken."""
-        self.forget(it.line)
+        self.contents.lose(LINKAGE, it.line)
         if it.keyword:
             it.gave = Content("area", number, it.line)
             self.contents.set(1, None if it.is_list else it.gave, it.line)
             self.held[1] = number
-            if it.place.startswith("("):
-                register = int(it.place[1:-1])
-                self.held[register] = number
-                self.contents.set(register, Content("area", number, it.line), it.line)
+            if it.register:
+                self.held[it.register] = number
+                self.contents.set(it.register, it.gave, it.line)
             elif it.place:
+                self.contents.forget_stored(it.place, 8 if it.is_list else 4, False, it.line)
+                self.contents.set_field(it.place, it.gave)
+            if it.is_conditional:
+                self.after_conditional(it)
+            if it.place and not it.register:
                 self.names[it.place] = number
-                self.contents.fields[it.place] = Content("area", number, it.line)
+                self.used.setdefault(it.place, 0)
             if any(text.startswith(("LENGTH=(", "LV=(")) and "," in text for text in it.operands):
                 length = Content("length", number, it.line)
                 self.contents.set(0, None if it.is_list else length, it.line)
                 if it.is_list:
-                    self.contents.fields[it.place + "+4"] = length
+                    self.contents.set_field(it.wish + "+4", length)
                 self.held[0] = number
         elif it.operation == "ATTACH":
             task = min(set(range(1, 65)) - self.tasks, default=65)
@@ -292,45 +351,52 @@ class Paste:
             self.held[1] = number
         elif it.operation == "DETACH":
             self.tasks.discard(int(it.operands[0]))
+        if "REGS=USE" in it.operands:
+            self.contents.lose((2, 3, 4), it.line)
+
+    def after_conditional(self, it: Macro) -> None:
+        """An answer 4 leaves register 1 and a place as they were. So a name that nothing else has gets the address: then
+        no other area is released through it."""
+        self.held.pop(1, None)
+        if not it.place:
+            return
+        self.held.pop(it.register or 1, None)
+        name = self.unused("AREA%d" % it.line if it.register else it.place)
+        if name != it.place:
+            self.note(it.line, 1, "%s=%s is written as %s: it gets nothing else, where this is answered 4"
+                      % (it.keyword, it.place, name), it.register > 0)
+        it.place = name
 
     def taken(self, it: Statement) -> Macro:
         """A macro with its operands as a script has them; a fault says why it isn't taken."""
         found = Macro(it, single(it.operation))
         if "&" in re.sub(r"'[^']*'", "", it.operands):
             raise Unknown("it has a variable symbol", it.operands.index("&") + 1)
-        operands = self.lists.merged(it, self.contents.stored)
-        form = operands[0][1].upper() if operands and "=" not in operands[0][1] else ""
-        if form in SINGLE.get(it.operation, ()):
-            form, operands = self.of_one(found, form, operands)
-        if form in LIST_FORMS.get(it.operation, ()):
-            raise Unknown("form %s has its operands in a list" % form)
+        operands = self.lists.merged(it, self.contents)
+        found.form = operands[0][1].upper() if operands and "=" not in operands[0][1] else ""
+        if found.form in SINGLE.get(it.operation, ()):
+            operands = self.of_one(found, operands)
+        if found.form in LIST_FORMS.get(it.operation, ()):
+            raise Unknown("form %s has its operands in a list" % found.form)
         for at, text in operands:
             if "&" in re.sub(r"'[^']*'", "", text):
                 raise Unknown("its list has a variable symbol", at + 1)
             try:
-                self.operand(found, form, text)
+                self.operand(found, text)
             except Unknown as why:
                 raise Unknown(str(why), at + 1) from None
-        self.finish(found, form)
-        return found
-
-    def finish(self, found: Macro, form: str) -> None:
-        """What a macro whose operands are taken gets besides."""
+        found.keyword = GIVING.get((found.operation, found.form), found.keyword)
         if found.operation == "DETACH" and not any(text.isdigit() for text in found.operands[:1]):
             raise Unknown("it names no task")
-        if found.operation == "GETMAIN" and form in ("R", "RC", "RU", "VRC", "VRU"):
-            found.keyword = "ADDR"
-        elif found.operation == "STORAGE" and form == "OBTAIN":
-            found.keyword = "ADDR"
-        elif found.operation == "CPOOL" and form == "GET":
-            found.keyword = "CELL"
-        if found.operation == "GETMAIN" and form == "R" and "LV=(0)" in found.operands:
+        if found.operation == "GETMAIN" and found.form == "R" and "LV=(0)" in found.operands:
             raise Unknown("form R takes no length from register 0")
+        if found.folded(8 if found.place else 0) is None:
+            raise Unknown("it would need more lines than the source has for it")
+        return found
 
-    def of_one(self, it: Macro, form: str,
-               operands: list[tuple[int, str]]) -> tuple[str, list[tuple[int, str]]]:
+    def of_one(self, it: Macro, operands: list[tuple[int, str]]) -> list[tuple[int, str]]:
         """A form with a list of lengths as the one with that length, where the list has one."""
-        to = SINGLE[it.operation][form]
+        form, to = it.form, SINGLE[it.operation][it.form]
         at, text = next(((at, keyed(text)[1]) for at, text in operands if keyed(text)[0] == "LA"), (0, ""))
         if not text:
             raise Unknown("form %s has its operands in a list, and there's no LA=" % form)
@@ -347,38 +413,33 @@ class Paste:
         it.notes.append("%s has its lengths in list %s, and is taken as %s,LV=%s" % (form, text, to, length))
         found = [(0, to)] + [(k, "LV=" + length if keyed(other)[0] == "LA" else other)
                              for k, other in operands[1:]]
-        it.is_list = it.operation == "GETMAIN"
-        if to.startswith("V"):
-            found = self.with_answer(it, found) + [(at, "LOC=BELOW")]
-        return to, found
+        it.form, it.is_list = to, it.operation == "GETMAIN"
+        return self.with_answer(it, found) + [(at, "LOC=BELOW")] if to.startswith("V") else found
 
     def with_answer(self, it: Macro, operands: list[tuple[int, str]]) -> list[tuple[int, str]]:
         """The operands of VC and VU without A, whose two words get the address and the length."""
         answer = next((text[2:].upper() for _, text in operands if keyed(text)[0] == "A"), "")
         if not NAME.fullmatch(answer):
             raise Unknown("A= names no place for the address and the length")
-        it.place = answer
-        it.notes.append("it's written as STORAGE OBTAIN, which has ADDR=%s; its abend codes end in 78 then, "
-                        "not 04" % answer)
+        it.place = it.wish = answer
+        it.notes.append("it's written as STORAGE OBTAIN, which has ADDR=%s; its abend codes end in 78 then, not 04" % answer)
         return [(at, text) for at, text in operands if keyed(text)[0] != "A"]
 
     def words(self, name: str, column: int) -> list[int]:
         """The words of a list that the source defines."""
         data = self.data_of(name, column)
         if len(data) < 4:
-            raise Unknown("%s is no list whose words are known: a DC of the source or --copy has them" % name,
-                          column)
+            raise Unknown("%s is no list whose words are known: a DC of the source or --copy has them" % name, column)
         return [int.from_bytes(data[at:at + 4], "big") for at in range(0, len(data) - 3, 4)]
 
     def data_of(self, name: str, column: Optional[int] = None) -> bytes:
         """The bytes that DC gives a field, where no line before stores in it."""
-        line = self.contents.stored.get(name.upper())
-        if line:
-            raise Unknown("line %d stores in %s" % (line, name), column)
+        if name.upper() in self.ways.changeable:
+            raise Unknown("line %d may change %s" % (self.ways.changeable[name.upper()], name), column)
         symbol = self.symbols.known.get(name.upper())
         return symbol.data if symbol else b""
 
-    def operand(self, it: Macro, form: str, text: str) -> None:
+    def operand(self, it: Macro, text: str) -> None:
         """Adds one operand, or drops it with a word."""
         head = re.match(r"([A-Za-z]\w*)=(.*)$", text, re.S)
         if not head:
@@ -386,55 +447,52 @@ class Paste:
             return
         key, value = head[1].upper(), head[2]
         if key == "LA" and it.operation == "GETMAIN":
-            raise Unknown("form %s has no LA=, which names a list: VC, VU, LC and LU have it" % form)
+            raise Unknown("form %s has no LA=, which names a list: VC, VU, LC and LU have it" % it.form)
         if key in ("MF", "LA", "SF", "INADDR"):
             raise Unknown("%s= names a list or place in the program's storage" % key)
-        if key in NO_MEANING:
+        if key in NO_MEANING or key == "BNDRY" and it.operation == "CPOOL":
             it.remarks.append("%s dropped" % key)
             self.note(it.line, 1, "%s=%s has no meaning here and is dropped" % (key, value))
-        elif key in NUMBERS:
-            it.operands.append("%s=%s" % (key, self.length(it, key, value)))
-        elif key == "CPID":
-            it.operands.append("CPID=" + self.pool(it, form, value))
-        elif key in ("ADDR", "A", "CELL"):
-            self.address_operand(it, form, key, value)
-        elif key in ("GSPL", "SHSPL"):
-            it.operands.append("%sV=%s" % (key[:-1], self.subpool_list(it, value)))
-        elif key == "LOC":
-            it.operands.append("LOC=" + self.location(value.upper()))
-        elif key == "HDR":
-            self.header(it, value)
-        elif key == "EP":
-            it.operands.append("EP=" + value.upper())
-        elif key in AS_THEY_STAND:
-            it.operands.append("%s=%s" % (key, value.upper()))
-        else:
+            return
+        taken = self.value(it, key, value)
+        if taken is not None:
+            it.operands.append("%s=%s" % (key[:-1] + "V" if key in ("GSPL", "SHSPL") else key, taken))
+
+    def value(self, it: Macro, key: str, text: str) -> Optional[str]:
+        """What an operand has in the script; None if it isn't written."""
+        if key in AS_THEY_STAND or key == "LOC" and LOCATIONS.fullmatch(text.upper()):
+            return text.upper()
+        if key == "LOC":
+            raise Unknown("LOC=%s isn't read" % text.upper())
+        known = {**dict.fromkeys(NUMBERS, self.length), "CPID": self.pool, "HDR": self.header, "GSPL": self.subpool_list,
+                 "SHSPL": self.subpool_list, **dict.fromkeys(("ADDR", "A", "CELL"), self.address_operand)}
+        if key not in known:
             raise Unknown("%s= is no operand that's known" % key)
+        return known[key](it, key, text)
 
     def positional(self, it: Macro, text: str) -> str:
         if it.operation != "DETACH" or it.operands:
             return text.upper()
-        content = self.content(text)
+        content = self.content(it, text)
         if content is None or content.kind != "task":
             raise Unknown("%s isn't known to hold a task that an ATTACH before gave" % text)
         it.remarks.append("%s: line %d" % (text.upper(), content.line))
-        self.note(it.line, 1, "%s is taken as task %s, of line %d" % (text, content.what, content.line))
+        self.note(it.line, 1, "%s is taken as task %s, of line %d" % (text, content.what, content.line), True)
         return str(content.what)
 
     # Values.
 
     def in_parentheses(self, text: str) -> Optional[int]:
         """The register of an operand as (R5) or (5)."""
-        if not re.fullmatch(r"\([^(),]+\)", text):
-            return None
-        return self.contents.register(text[1:-1])
+        return self.contents.register(text[1:-1]) if re.fullmatch(r"\([^(),]+\)", text) else None
 
-    def content(self, text: str) -> Optional[Content]:
+    def content(self, it: Macro, text: str) -> Optional[Content]:
         """What a register in parentheses or a field holds."""
         register = self.in_parentheses(text)
-        if register is not None:
-            return self.contents.in_register(register)
-        return self.contents.fields.get(text.upper())
+        found = self.contents.in_register(register) if register is not None else self.contents.in_field(text)
+        if found and found.kind != "number" and found.line >= it.line:
+            raise Unknown("%s holds what line %d gives, which is later in the text" % (text, found.line))
+        return found
 
     def length(self, it: Macro, key: str, text: str) -> str:
         """A number, or for a length a pair of them."""
@@ -451,22 +509,18 @@ class Paste:
         else:
             content = self.contents.in_register(register)
             if content.kind == "length" and self.held.get(0) == content.what:
-                self.note(it.line, 1, "%s=%s is the length that line %d gets, in register 0" % (key, text, content.line))
+                self.note(it.line, 1, "%s=%s is the length that line %d gets, in register 0" % (key, text, content.line),
+                          True)
                 return "(0)"
             if content.kind != "number":
                 raise Unknown("register %d holds an address or a name of line %d" % (register, content.line))
             number = int(content.what)
-            self.tell_register(it, "%s=%s" % (key, text), number, content.line)
+            label, name = self.contents.label
+            between = "; a branch to %s in line %d may bring another" % (name, label) if content.line <= label else ""
+            self.note(it.line, 1, "%s=%s is taken as %d, of line %d%s" % (key, text, number, content.line, between), True)
         if not 0 <= number <= 0xFFFFFFFF:
             raise Unknown("%d is no number of a word" % number)
         return str(self.subpool(it, number) if key in ("SP", "GSPV", "SHSPV") else number)
-
-    def tell_register(self, it: Macro, what: str, number: int, line: int) -> None:
-        label = self.contents.label
-        between = ""
-        if line < label[0]:
-            between = "; a branch to %s in line %d may bring another" % (label[1], label[0])
-        self.note(it.line, 1, "%s is taken as %d, of line %d%s" % (what, number, line, between))
 
     def subpool(self, it: Macro, number: int) -> int:
         """A subpool's number; one above 127 gets a free one."""
@@ -475,10 +529,7 @@ class Paste:
         elif number <= 127:
             return number
         else:
-            literal = {int(text) for line in self.lines
-                       for text in re.findall(r"SPV?=(\d{1,3})(?!\d)", line[:71])}
-            free = [k for k in range(127, 0, -1) if k not in self.chosen and k not in literal
-                    and k not in self.equated()]
+            free = [k for k in range(127, 0, -1) if k not in self.chosen and k not in self.literal]
             if not free:
                 raise Unknown("no number up to 127 is free for subpool %d" % number)
             chosen = self.subpools[number] = free[0]
@@ -487,12 +538,7 @@ class Paste:
         self.note(it.line, 1, "subpool %d is taken as %d" % (number, chosen))
         return chosen
 
-    def equated(self) -> set[int]:
-        """The numbers that symbols of the source stand for: one of them may be a subpool."""
-        return {symbol.value.number for symbol in self.symbols.known.values() if symbol.value is not None
-                and not symbol.value.places}
-
-    def subpool_list(self, it: Macro, text: str) -> str:
+    def subpool_list(self, it: Macro, _key: str, text: str) -> str:
         """The one number of a list that the source defines."""
         data = self.data_of(text)
         if len(data) < 2 or data[0] + 1 > len(data):
@@ -502,60 +548,55 @@ class Paste:
                           "POKE" % data[0])
         return str(self.subpool(it, data[1]))
 
-    def location(self, text: str) -> str:
-        if not LOCATIONS.fullmatch(text):
-            raise Unknown("LOC=%s isn't read" % text)
-        return text
-
-    def header(self, it: Macro, text: str) -> None:
+    def header(self, it: Macro, _key: str, text: str) -> Optional[str]:
         inner = re.fullmatch(r"'(.*)'", text, re.S)
         if not inner:
             self.note(it.line, 1, "HDR=%s is a place in the program and is dropped" % text)
-            return
+            return None
         shown = "".join(c if " " <= c <= "~" else "?" for c in inner[1].replace("''", "").replace("&&", "&"))
         if shown != inner[1] or len(shown) > 24:
             self.note(it.line, 1, "HDR=%s has at most 24 characters, and no apostrophe" % text)
-        if shown:
-            it.operands.append("HDR='%s'" % shown[:24])
+        return "'%s'" % shown[:24] if shown else None
 
-    def pool(self, it: Macro, form: str, text: str) -> str:
+    def pool(self, it: Macro, _key: str, text: str) -> str:
         """The name of a cell pool: that of the field, or one for the register."""
         register = self.in_parentheses(text)
-        if form != "BUILD":
-            content = self.content(text)
+        if it.form != "BUILD":
+            content = self.content(it, text)
             if content is None or content.kind != "pool":
                 raise Unknown("%s isn't known to name a cell pool that a BUILD before made" % text)
             if content.what != text.upper():
                 self.note(it.line, 1, "CPID=%s is taken as %s, of line %d"
-                          % (text, content.what, content.line))
+                          % (text, content.what, content.line), True)
             return str(content.what)
         name = text.upper() if register is None else "CPID%d" % register
         if not NAME.fullmatch(name):
             raise Unknown("%s is no name" % text)
         if register is not None:
             name = self.unused(name)
-            self.note(it.line, 1, "CPID=%s is taken as %s" % (text, name))
+            self.note(it.line, 1, "CPID=%s is taken as %s" % (text, name), True)
             self.contents.set(register, Content("pool", name, it.line), it.line)
         else:
-            self.contents.fields[name] = Content("pool", name, it.line)
+            self.contents.set_field(name, Content("pool", name, it.line))
         it.gave = Content("pool", name, it.line)
-        self.pools.add(name)
+        self.used.setdefault(name, 0)
         return name
 
     def unused(self, name: str) -> str:
-        """The name, or with a number behind it, so that nothing else has it."""
-        known = self.pools | set(self.names) | {macro.place for macro in self.macros}
-        if name not in known:
-            return name
-        return next(longer for k in range(2, 1 << 21) if (longer := "%s_%d" % (name[:50], k)) not in known)
+        """The name, or with a number after it, so that nothing else has it."""
+        found, k = name, self.used.get(name, 0)
+        while found in self.used:
+            k += 1
+            found = "%s_%d" % (name[:50], k + 1)
+        self.used[name] = k
+        self.used[found] = 0
+        return found
 
-    def address_operand(self, it: Macro, form: str, key: str, text: str) -> None:
-        gets = {"STORAGE": "OBTAIN", "CPOOL": "GET"}.get(it.operation) == form or it.operation == "GETMAIN"
-        if not gets:
-            it.operands.append("%s=%s" % (key, self.address(it, form, text)))
-            return
-        if it.operation == "GETMAIN" and form not in ("EC", "EU"):
-            raise Unknown("A= isn't one of form %s" % form)
+    def address_operand(self, it: Macro, key: str, text: str) -> Optional[str]:
+        if it.operation != "GETMAIN" and (it.operation, it.form) not in GIVING:
+            return self.address(it, text)
+        if it.operation == "GETMAIN" and it.form not in ("EC", "EU"):
+            raise Unknown("A= isn't one of form %s" % it.form)
         register = self.in_parentheses(text)
         it.keyword = key
         if register is None and NAME.fullmatch(text.upper()):
@@ -564,22 +605,22 @@ class Paste:
             it.place = "(%d)" % register
         else:
             raise Unknown("%s=%s isn't a name or one of the registers 1 to 12" % (key, text))
+        return None
 
-    def address(self, it: Macro, form: str, text: str) -> str:
+    def address(self, it: Macro, text: str) -> str:
         """What stands for the address of an area or cell: a register or name that has it."""
-        content = self.content(text)
+        content = self.content(it, text)
         if content is None:
             if re.fullmatch(SYMBOL, text):
                 raise Unknown("%s isn't known to hold an address that a macro before gave" % text)
             return str(self.symbols.number(text))
         if content.kind == "number":
-            raise Unknown("%s holds the number %s, of line %d, and no address"
-                          % (text, content.what, content.line))
+            raise Unknown("%s holds the number %s, of line %d, and no address" % (text, content.what, content.line))
         if content.kind != "area":
             raise Unknown("%s holds no area, but what line %d gave" % (text, content.line))
         number = int(content.what)
         macro = self.macros[number]
-        is_name_wanted = it.operation == "FREEMAIN" and form in ("E", "EC", "EU")
+        is_name_wanted = it.operation == "FREEMAIN" and it.form in ("E", "EC", "EU")
         holding = [register for register, other in self.held.items() if other == number]
         wanted = self.in_parentheses(text)
         if holding and not is_name_wanted:
@@ -587,36 +628,21 @@ class Paste:
         else:
             found = self.name_of(macro, number)
         if found not in (text.upper(), "(%s)" % wanted):
-            self.note(it.line, 1, "%s is taken as %s, which has the address of line %d"
-                      % (text, found, macro.line))
+            self.note(it.line, 1, "%s is taken as %s, which has the address of line %d" % (text, found, macro.line), True)
         return found
 
     def name_of(self, macro: Macro, number: int) -> str:
         """A name that has the address of a macro before; it's given one where it has none."""
-        if macro.place.startswith("(") or macro.place and self.names.get(macro.place) != number:
+        if macro.register or macro.place and self.names.get(macro.place) != number:
             raise Unknown("the address of line %d is in %s no more" % (macro.line, macro.place))
         if not macro.place:
             macro.place = self.unused(macro.wish or "AREA%d" % macro.line)
+            if macro.folded() is None:
+                macro.place = ""
+                raise Unknown("line %d has no room for a name that gets its address" % macro.line)
             self.names[macro.place] = number
-            also = ""
-            if macro.operation == "GETMAIN":
-                also = ", and written as STORAGE OBTAIN, which has %s" % macro.keyword
-                if macro.operands[0] == "R":
-                    also += "; want of storage is S878 then, not S80A"
+            also = ", and written as STORAGE OBTAIN, which has %s" % macro.keyword if macro.operation == "GETMAIN" else ""
+            if also and macro.operands[0] == "R":
+                also += "; want of storage is S878 then, not S80A"
             self.note(macro.line, 1, "it's given %s=%s%s" % (macro.keyword, macro.place, also))
         return macro.place
-
-    # Lines.
-
-    def write(self, it: Macro) -> None:
-        """The lines of a macro, at most as many as the source has for it."""
-        most = it.statement.last - it.statement.first + 1
-        lines = fold(it.text(), most)
-        if lines is None:
-            self.left += 1
-            self.note(it.line, 1, "%s isn't taken: it would need more than the %d lines of the source"
-                      % (it.operation, most))
-            return
-        if it.remarks and len(lines[-1]) < 50:
-            lines[-1] = (lines[-1].ljust(40) + " " + "; ".join(it.remarks))[:71]
-        self.written[it.statement.first] = lines

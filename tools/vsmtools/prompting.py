@@ -5,14 +5,13 @@ from __future__ import annotations
 import os
 import re
 import signal
-import subprocess
 import tempfile
 from types import FrameType
 from typing import Callable, Optional, Sequence
 
-from .bench import TOOLS, Answer, Session, find_explain
-from .command import Fault, one_line, reason
-from .lines import LAST_COLUMN, fold, is_continued, is_passed_over, statements
+from .bench import TOOLS, Answer, Session, check_is_one, find_explain, run_anyhow
+from .command import Fault, one_line, read_input, write_file
+from .lines import LAST_COLUMN, fold, is_continued, is_passed_over, statements, unquoted
 from .maps import Map, parse_map
 from .words import FORMS
 
@@ -20,14 +19,20 @@ HELP = """  STATEMENT                  no blank is needed in column 1; behind a 
   .back until P changes      steps back to before the last change of the 4 bytes at P; P,N: of N bytes
   .until ABEND               goes on in FILE until an answer has this text
   .step [N], .run            goes on in FILE by N statements, or to its end
+  .read FILE                 carries out all statements of FILE
   .log                       the statements that are kept, and those that are undone
   .save FILE                 writes all lines as a script (.save --over FILE replaces one)
-  .view [PAGE]               a page that shows the session, by vsm-view
+  .view [PAGE]               a page that shows the session, by vsm-view (.view --over PAGE replaces one)
   .restart                   runs all lines again, in a new vsm
   .who P                     who changed the 4 bytes at P, newest first, by vsm-explain; P,N: N bytes
   .why [LINE]                why the statement of that line (else the last one) was answered so
   .list                      the session as a listing, with a caret at each fault
-  .quit                      ends, as Ctrl+D does; Ctrl+C drops the line that is open"""
+  .help, ?                   these lines
+  .quit                      ends, as Ctrl+D does; Ctrl+C drops the line that is open
+  P is a name, an address or a register. A command may be shortened as far as it stays clear: .sa, .q"""
+COMMANDS = {text.split()[0]: text for text in (
+    "back until ", "until ", "step", "run", "read ", "log", "save ", "view", "restart", "who ", "why", "list", "help",
+    "quit")}     # with what Tab makes of each
 SECONDS = 30.0
 
 
@@ -54,11 +59,11 @@ def operand_text(text: str) -> str:
         return text.rstrip()
     if found[2].upper() in ("MAP", "ENDTASK"):   # all behind these is remarks
         return text[:found.end(2)]
-    at, quoted = found.end(), False
-    while at < len(text) and (quoted or text[at] != " "):
-        quoted ^= text[at] == "'"
-        at += 1
-    return text[:at]
+    return text[:next((at for at, char in unquoted(text, found.end()) if char == " "), len(text))]
+
+
+def text_of(lines: Sequence[str]) -> bytes:
+    return "".join(line + "\n" for line in lines).encode("utf-8", "surrogateescape")
 
 
 def is_open(text: str) -> bool:
@@ -95,12 +100,12 @@ class Bench:
         if self.session is None:
             raise Fault("vsm has ended (%s); .save FILE keeps the lines, .restart runs them again"
                         % self.ended)
+        check_is_one(lines)
         try:
             return self.session.say(lines)
         except Fault as fault:
             self.ended = str(fault)
-            self.session.close()
-            self.session = None
+            self.close()
             raise
 
     def carry_out(self, lines: Sequence[str]) -> Answer:
@@ -163,6 +168,7 @@ class Prompt:
         self.is_raw = False              # they stand as in a file
         self.ended = False
         self.is_interrupted = False      # Ctrl+C came, and its line isn't ended yet
+        self.has_carets = False          # at a fault of a statement that is typed
         self.rest: list[list[str]] = []  # of the file: statements, and lines that are passed over
 
     @property
@@ -178,7 +184,9 @@ class Prompt:
             self.go_on(line)
         elif line.startswith("."):
             self.command(line)
-        elif is_passed_over(line.encode("utf-8", "replace")):
+        elif line.strip().lower() in ("?", "help"):
+            self.help([])
+        elif not line.strip() or is_passed_over(line.encode("utf-8", "replace")):
             if line.strip():
                 self.bench.log.append(line)
         elif len(line) == LAST_COLUMN + 1 and line.startswith(" ") and line[LAST_COLUMN] != " ":
@@ -202,15 +210,29 @@ class Prompt:
     def send(self) -> None:
         lines, self.open = self.open, []
         if self.is_raw:
-            self.bench.carry_out(lines)
+            self.carry_out(lines)
         else:
             self.statement(with_blank(lines[0]))
 
     def statement(self, text: str) -> None:
-        lines = fold(text)
+        # Columns are counted in bytes.
+        lines = fold(text.encode("utf-8", "surrogateescape").decode("latin-1"))
         if lines is None:
             raise Fault("a statement has at most ten lines: this one of %d characters takes more" % len(text))
-        self.bench.carry_out(lines)
+        self.carry_out([line.encode("latin-1").decode("utf-8", "surrogateescape") for line in lines])
+
+    def carry_out(self, lines: Sequence[str]) -> None:
+        """One statement that was typed, with a caret at its fault if vsm-explain is there."""
+        if not self.bench.carry_out(lines).text.startswith("FAULT ") or not self.has_carets:
+            return
+        try:
+            listing = self.over(find_explain(self.bench.program), lambda path: ["list", path], lines)
+        except Fault:
+            return
+        for one, other in zip(listing, listing[1:]):
+            if other.strip().startswith("^ "):
+                self.show(one[8:])
+                self.show(other[8:])
 
     def drop(self) -> None:
         """Forgets the statement that is open."""
@@ -264,13 +286,17 @@ class Prompt:
     def command(self, line: str) -> None:
         words = line[1:].split()
         name = words[0].lower() if words else "help"
-        known = {"help": self.help, "quit": self.quit, "back": self.back, "until": self.until,
-                 "step": self.steps,
-                 "run": self.run, "log": self.list_kept, "save": self.save, "view": self.view,
+        found = [it for it in COMMANDS if it == name] or [it for it in COMMANDS if it.startswith(name)]
+        if name == "?":
+            found = ["help"]
+        if len(found) > 1:
+            raise Fault(".%s isn't clear: it may be %s" % (name, " or ".join("." + it for it in found)))
+        known = {"help": self.help, "quit": self.quit, "back": self.back, "until": self.until, "step": self.steps,
+                 "run": self.run, "read": self.read, "log": self.list_kept, "save": self.save, "view": self.view,
                  "who": self.who, "why": self.why, "list": self.listing, "restart": self.restart}
-        if name not in known:
-            raise Fault("no command .%s; .help tells them" % name)
-        known[name](words[1:])
+        if not found:
+            raise Fault("no command .%s; .help lists them" % name)
+        known[found[0]](words[1:])
 
     def help(self, _words: list[str]) -> None:
         self.show(HELP)
@@ -294,7 +320,8 @@ class Prompt:
                 if was != now:
                     self.bench.log.append(" BACK %d" % steps)
                     self.show("%07d KEPT=%d" % (len(self.bench.log), len(self.bench.kept)))
-                    self.show("  undone last: %s   %s -> %s" % (self.bench.text(begin).strip(), was, now))
+                    self.show("  undone last: %s   %s -> %s" % (self.bench.text(begin).strip(), *(
+                        "unassigned" if it.startswith("ABEND") else it for it in (was, now))))
                     return
         except KeyboardInterrupt:
             self.bench.step("FORWARD %d" % (kept - len(self.bench.kept)))
@@ -303,11 +330,17 @@ class Prompt:
         self.show("  none of the %d changes that are kept changes it" % kept)
 
     def place(self, text: str) -> str:
-        """An address that stays the same while names change, with a number of bytes."""
-        name, _, count = text.partition(",")
-        for known in self.bench.map().names:
-            if known.name == name.upper():
-                name = "X'%X'" % known.word
+        """An address that stays the same while names and registers change, with a number of bytes."""
+        name, _, count = text.upper().partition(",")
+        shown = self.bench.map()
+        words = {it.name: it.word for it in shown.names}
+        for task in shown.tasks:
+            if task.is_current:
+                words.update(("(%d)" % k, word) for k, word in enumerate(task.registers))
+        if name in words:
+            name = "X'%X'" % words[name]
+        elif re.fullmatch(r"[A-Z$#@_][\w$#@]*", name):
+            raise Fault("%s isn't defined" % name)
         return "%s,%s" % (name, count or "4")
 
     def until(self, words: list[str]) -> None:
@@ -341,65 +374,59 @@ class Prompt:
         self.need_file()
         self.go(lambda answer: False)
 
+    def read(self, words: list[str]) -> None:
+        if len(words) != 1:
+            raise Fault("it's .read FILE")
+        rest, self.rest = self.rest, []
+        try:
+            self.load(*read_input("./-" if words[0] == "-" else words[0]), None)
+        finally:
+            self.rest += rest
+
     def list_kept(self, _words: list[str]) -> None:
         for begin in self.bench.kept:
             self.show(self.bench.text(begin))
         for begin in reversed(self.bench.undone):
             self.show(self.bench.text(begin) + "   (undone)")
 
-    def script(self) -> bytes:
-        return "".join(line + "\n" for line in self.bench.log).encode("utf-8", "surrogateescape")
+    def write(self, words: list[str], command: str, data: bytes) -> str:
+        """Writes a file that a command names, and answers with its name."""
+        over = words[:1] == ["--over"]
+        if len(words) != 1 + over:
+            raise Fault("it's .%s, or .%s" % (command, command.replace(" ", " --over ")))
+        write_file(words[-1], data, over)
+        return words[-1]
 
     def save(self, words: list[str]) -> None:
-        over = words[:1] == ["--over"]
-        names = words[1:] if over else words
-        if len(names) != 1:
-            raise Fault("it's .save FILE, or .save --over FILE")
-        try:
-            with open(names[0], "wb" if over else "xb") as file:
-                file.write(self.script())
-        except FileExistsError:
-            raise Fault("there is one already: .save --over %s replaces it" % names[0], names[0]) from None
-        except (OSError, ValueError) as fault:
-            raise Fault("can't be written: %s" % (reason(fault) if isinstance(fault, OSError) else fault),
-                        names[0]) from None
-        self.show("  %d lines in %s" % (len(self.bench.log), names[0]))
+        self.show("  %d lines in %s" % (len(self.bench.log), self.write(words, "save FILE", text_of(self.bench.log))))
 
-    def over_session(self, program: str, words: Callable[[str], list[str]]) -> bytes:
-        """What a program prints over the session as a file; its words go around the path."""
-        if not self.bench.log:
+    def over(self, program: str, words: Callable[[str], list[str]], lines: Sequence[str]) -> list[str]:
+        """What a program prints over lines in a file; its words go around the path."""
+        if not lines:
             raise Fault("there is nothing to show yet")
         with tempfile.TemporaryDirectory(prefix="vsm-prompt-") as folder:
             path = os.path.join(folder, "session.vsm")
             with open(path, "wb") as file:
-                file.write(self.script())
-            try:
-                done = subprocess.run([program, *words(path)], stdin=subprocess.DEVNULL, capture_output=True,
-                                      timeout=120)
-            except (OSError, subprocess.TimeoutExpired) as fault:
-                raise Fault("%s came to no end: %s" % (os.path.basename(program), fault)) from None
-        if done.returncode not in (0, 4):
-            raise Fault(one_line(done.stderr.decode("utf-8", "replace").strip()))
-        return done.stdout
+                file.write(text_of(lines))
+            done = run_anyhow(program, words(path), b"")
+        if done.status not in (0, 4):
+            raise Fault(one_line(done.errors.strip()) or "%s ended with status %d" % (program, done.status))
+        return done.output.decode("utf-8", "surrogateescape").split("\n")[:-1]
 
     def view(self, words: list[str]) -> None:
         program = os.path.join(TOOLS, "vsm-view")
         if not os.access(program, os.X_OK):
             raise Fault("vsm-view isn't there, beside vsm-prompt")
-        text = self.over_session(program, lambda path: ["--vsm", self.bench.program, *self.bench.options, path])
-        page = words[0] if words else os.path.join(tempfile.mkdtemp(prefix="vsm-view-"), "session.html")
-        try:
-            with open(page, "wb") as file:
-                file.write(text)
-        except OSError as fault:
-            raise Fault("can't be written: %s" % reason(fault), page) from None
+        lines = self.over(program, lambda path: ["--vsm", self.bench.program, *self.bench.options, path],
+                          self.bench.log)
+        page = self.write(words or [os.path.join(tempfile.mkdtemp(prefix="vsm-view-"), "session.html")],
+                          "view PAGE", text_of(lines))
         self.show("  %s" % os.path.abspath(page))
 
     def explain(self, subcommand: str, words: list[str]) -> None:
         """Shows what vsm-explain says of the session."""
-        text = self.over_session(find_explain(self.bench.program),
-                                 lambda path: [subcommand, *self.bench.options, path, *words])
-        for line in text.decode("utf-8", "replace").splitlines():
+        for line in self.over(find_explain(self.bench.program),
+                              lambda path: [subcommand, *self.bench.options, path, *words], self.bench.log):
             self.show(line)
 
     def who(self, words: list[str]) -> None:
@@ -410,7 +437,7 @@ class Prompt:
     def why(self, words: list[str]) -> None:
         if len(words) > 1 or words and not (words[0].isdecimal() and len(words[0]) < 8):
             raise Fault("it's .why, or .why LINE")
-        found = statements(self.script().splitlines())
+        found = statements(text_of(self.bench.log).splitlines())
         if not words and not found:
             raise Fault("there is no statement yet")
         self.explain("why", words or [str(found[-1].first)])
@@ -423,6 +450,5 @@ class Prompt:
         self.bench.close()
         self.bench.start()
         rest, self.rest = self.rest, []
-        self.load("the session", "".join(line + "\n" for line in lines).encode("utf-8", "surrogateescape"),
-                  None)
+        self.load("the session", text_of(lines), None)
         self.rest = rest

@@ -5,3 +5,4 @@ pub mod Accepted
 pub mod Supplied
 pub mod NameLines
 pub mod WholeMap
+mod Wanting

@@ -1,4 +1,4 @@
--- Which refusals take no memory: all but that for want of it; and how much is made for a statement that is accepted.
+-- How much memory is made for a statement: none where it's refused for anything but want of memory.
 use Rattle.std.specs.Prelude.{Ok}
 use Rattle.macro_statements.specs.Requests.{Act}
 use Rattle.vsm_machine.specs.declared.machine.Machine.{Machine}
@@ -9,12 +9,13 @@ use Rattle.vsm_machine.specs.Changes.{shown, HasSameMemory}
 use Rattle.vsm_machine.specs.Planned.{IsPlanned}
 use Rattle.vsm_machine.specs.Supplies.{MakesFor}
 
--- no element and no frame was made, and as many are spare, unless memory was wanting
-abbrev pub TakesNoMemory : Machine → Machine → Refusal → Type 0
-TakesNoMemory m n Name = HasSameMemory m n
-TakesNoMemory m n (Abend code) = HasSameMemory m n
-TakesNoMemory m n NoMemory = Unit {0}
-
--- it was carried out by a plan of it, for which no more was made than this
+-- there is a plan of it, for which no more was made than this
 abbrev pub MakesForStatement : Machine → Act → Machine → Type 0
 MakesForStatement m x n = (p : Planned) × IsPlanned (shown m) x (Ok p) × MakesFor m x p n
+
+-- For one that is refused no element and no frame was made, and as many are spare; where memory was wanting, no more
+-- was made than for one that is accepted.
+abbrev pub Spares : Machine → Act → Machine → Refusal → Type 0
+Spares m x n Name = HasSameMemory m n
+Spares m x n (Abend code) = HasSameMemory m n
+Spares m x n NoMemory = MakesForStatement m x n

@@ -5,6 +5,7 @@ use Rattle.vsm_model.specs.declared.replies.Reply.{Reply}
 use Rattle.vsm_model.specs.Regions.{settings_valid}
 use Rattle.vsm_model.specs.Names.{NamedState, first_named_state}
 use Rattle.vsm_model.specs.Standing as plain
+use Rattle.storage_swap.specs.Fresh.{StartsSmall}
 use Rattle.vsm_machine.specs.Meaning.{settings_of}
 use Rattle.step_history.specs.Trail.{Trail, trail_of}
 use Rattle.step_history.specs.declared.too_far.TooFar.{TooFar}
@@ -51,9 +52,11 @@ abbrev pub answer_to_forward : Result (Unit {0}) TooFarAhead → plain.Answer Re
 answer_to_forward (Ok u) = plain.Moved
 answer_to_forward (Err e) = plain.TooFar e.undone
 
--- A new bench is in the first state, under the settings; or one of them is out of its limits; or there was no memory.
+-- A new bench is in the first state, under the settings, and at most a block of elements was made for it, and no frame;
+-- or one of the settings is out of its limits; or there was no memory.
 abbrev pub IsNew : Settings → Result Bench NewFault → Type 0
 IsNew settings (Ok b) =
     (settings_valid settings ≡ true) × (bench_of b ≡ plain.new_bench first_named_state) × (settings_in b ≡ settings)
+    × StartsSmall b.machine.storage.parts
 IsNew settings (Err Setting) = settings_valid settings ≡ false
 IsNew settings (Err new_fault.NoMemory) = settings_valid settings ≡ true

@@ -10,7 +10,7 @@ ghost use Rattle.vsm_machine.specs.Machine.{shown_at};
 ghost use Rattle.vsm_machine.specs.Refusals.{IsRefusedFor};
 ghost use Rattle.vsm_machine.specs.Supplies.{FindsMemory, IsSupplied, MakesFor};
 ghost use Rattle.vsm_machine.specs.declared.refusals.Refusal.TheVariants.{NoMemory};
-ghost use Rattle.bench_core.specs.Sparing.{MakesForStatement, TakesNoMemory};
+ghost use Rattle.bench_core.specs.Sparing.{MakesForStatement, Spares};
 
 use macro_statements::{Family, Statement};
 use operand_texts::Value;
@@ -44,7 +44,8 @@ impl Bench {
     ghost use Rattle.bench_core.specs.Stands.{bench_of, settings_in, IsNew, answer_to_apply, answer_to_back};
     ghost use Rattle.bench_core.specs.Stands.{answer_to_forward};
 
-    /// A bench in the first state, under these settings: task 1 is current and owns an empty subpool 0.
+    /// A bench in the first state, under these settings: task 1 is current and owns an empty subpool 0. At most a block
+    /// of elements is made for it, and no frame.
     ///
     /// Refused with `Setting` where a setting is out of its limits, and with `NoMemory` where there is no memory for
     /// it.
@@ -76,9 +77,10 @@ impl Bench {
     /// weighs (subpools that it gives or shares, cells that it makes, and what leaves by it), or fewer frames, or
     /// tables, than it newly assigns pages, or where there is no room for a name that it defines.
     ///
-    /// A statement that is refused for anything else takes no memory. For one that is accepted, at most a block of
-    /// elements is made beyond the live ones and those of its weight, and no frame beyond those of the pages that it
-    /// newly assigns.
+    /// A statement that is refused for anything else takes no memory. For one that is accepted or refused with
+    /// `NoMemory`, at most a block of elements is made beyond the live ones and those of its weight, and no frame beyond
+    /// those of the pages that it newly assigns. What was made for one that is refused stays, as spare elements and
+    /// frames.
     ///
     /// It's a call of its own, so that no other line of a script pays for the room of a plan.
     #[inline(never)]
@@ -88,7 +90,7 @@ impl Bench {
             (Apply (act_in statement.now)) (answer_to_apply result) (bench_of self.new) }
         ensures settings { settings_in self.new ≡ settings_in self.old }
         ensures needless { IsSupplied self.old.machine (act_in statement.now) → FindsMemory result }
-        ensures sparing { IfErr result (TakesNoMemory self.old.machine self.new.machine) }
+        ensures sparing { IfErr result (Spares self.old.machine (act_in statement.now) self.new.machine) }
         ensures made { IfOk result (λ _. MakesForStatement self.old.machine (act_in statement.now) self.new.machine) }
     {
         match plan_of(&self.machine, statement) {
@@ -107,8 +109,8 @@ impl Bench {
         ensures needless { (x : Act) → CanCarryOut (shown self.old.machine) x planned
             → IsSupplied self.old.machine x → FindsMemory result }
         ensures wants { IfErr result (λ refusal. refusal ≡ NoMemory) }
-        ensures made { IfOk result (λ _. (x : Act) → CanCarryOut (shown self.old.machine) x planned
-            → MakesFor self.old.machine x planned self.new.machine) }
+        ensures made { (x : Act) → CanCarryOut (shown self.old.machine) x planned
+            → MakesFor self.old.machine x planned self.new.machine }
     {
         fresh_pages_are_newly_assigned();
         let reply = planned.plan.reply();

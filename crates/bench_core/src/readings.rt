@@ -1,7 +1,6 @@
 //! What a bench shows of its present state: its storage, the words of its names, the words of values, and what a
 //! statement would ask for there, with the first cause for which it would be refused.
-ghost use Rattle.std.specs.Prelude.{◌≡◌, option_map, slice_get};
-ghost use Rattle.vsm_machine.specs.NameTable.{row_of};
+ghost use Rattle.std.specs.Prelude.{◌≡◌, option_map};
 ghost use Rattle.vsm_machine.specs.Machine.{looked_up, service_asked};
 ghost use Rattle.vsm_machine.specs.Meaning.{settings_of, state_of};
 ghost use Rattle.vsm_model.specs.Meaning.{service_in};
@@ -37,20 +36,6 @@ impl Bench {
         ensures { result ≡ word_of (bench_of self.now).present.names name.now.bytes }
     {
         self.machine.names.word(name)
-    }
-
-    /// The defined name of this index with its word, in the order in which names were defined; `None` past the last.
-    pub fn name_at(&self, index: usize) -> Option<(Name, u32)>
-        ensures { option_map row_of result ≡ slice_get (bench_of self.now).present.names index }
-    {
-        self.machine.names.name_at(index)
-    }
-
-    /// The task that makes the requests.
-    pub fn current(&self) -> u8
-        ensures { result ≡ (bench_of self.now).present.storage.current }
-    {
-        self.machine.storage.current()
     }
 
     /// The word of a register of a task: 0 where there is no such task, and for a number past 15.

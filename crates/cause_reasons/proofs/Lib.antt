@@ -1,3 +1,2 @@
 -- Lemmas on the words of causes.
-pub mod LastCause
 pub mod OneOf

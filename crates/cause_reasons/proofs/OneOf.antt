@@ -3,7 +3,7 @@ use Rattle.std.proofs.Common.{◌≡◌, ◌⊎◌, ◌↔◌, inr, ℕ, zero, s
 use Rattle.std.specs.Prelude.{codes, slice_get}
 use Rattle.std.proofs.lemmas.List.{append-nil}
 use Rattle.vsm_model.specs.declared.causes.Cause.{Cause}
-use Rattle.vsm_model.specs.declared.causes.Cause.TheVariants.{UnsupportedSubpool, SubpoolNotAllowed, BadLength, TooManyNames, NoStorage}
+use Rattle.vsm_model.specs.declared.causes.Cause.TheVariants.{NoStorage}
 use Rattle.vsm_model.specs.declared.services.Obtain.{Obtain}
 use Rattle.vsm_model.specs.Causes.{Causes, first_cause}
 use Rattle.vsm_model.specs.Obtaining.{longest, obtain_causes}
@@ -19,7 +19,6 @@ use Rattle.place_reasons.specs.Told.{place_text, PutsEnding, PutsSome, TellsPlac
 use Rattle.place_reasons.proofs.NoPlace.{no_place_is_want_of_storage}
 use Rattle.cause_reasons.specs.Told.{PutsOneOf}
 use Rattle.cause_reasons.specs.Words.{Words, no_place_words, obtain_words}
-use Rattle.cause_reasons.proofs.LastCause.{only_last}
 
 pub some_of_one : (words : Words) (old new : Option (List ℕ)) (a b : Gathered) → PutsOneOf words old new a b → PutsSome old new a b
 some_of_one words old new a b (i, w, e, (front, behind, h)) = (front ++ (w ++ behind), h)
@@ -82,11 +81,8 @@ module _ (s : Storage) (o : Obtain) (full : Bool) where
       let (its, count, place, fixed, nowhere, ending) = told asks in
       no_place_told its old new a b (behind_iff nowhere (behind_iff none first)) ending
 
-  pub want_told : (c : Cause) (old new : Option (List ℕ)) (a b : Gathered)
-      → (c ≡ UnsupportedSubpool → ⊥) × (c ≡ SubpoolNotAllowed → ⊥) × (c ≡ BadLength → ⊥) × (c ≡ TooManyNames → ⊥)
-      → first_cause rows ≡ Some c → TellsPlace s o old new a b → PutsOneOf (obtain_words c) old new a b
-  want_told c old new a b (d, e, f, g) first told =
-      let want = only_last rows NoStorage c (d, (e, (f, (g, refl)))) first in
+  pub want_told : (c : Cause) (old new : Option (List ℕ)) (a b : Gathered) → c ≡ NoStorage → first_cause rows ≡ Some c → TellsPlace s o old new a b → PutsOneOf (obtain_words c) old new a b
+  want_told c old new a b want first told =
       let wanted = subst (λ x. first_cause rows ≡ Some x) want first in
       of_cause obtain_words c NoStorage old new a b want
       (want_is old new a b wanted (no_place_is_want_of_storage (settings_of s) full (state_of s) o (inr wanted)) told)

@@ -114,7 +114,24 @@ fn put_obtain<W: Write>(
         Cause::SubpoolNotAllowed => put_too_high(gathered, writer, o.number),
         Cause::BadLength => put_bad_length(gathered, writer, o.lengths),
         Cause::TooManyNames => put_names_full(gathered, writer),
-        _ => put_area(gathered, writer, storage, o),
+        Cause::NoStorage => put_area(gathered, writer, storage, o),
+        Cause::Misaligned
+        | Cause::NotInSubpool
+        | Cause::OverlapsFree
+        | Cause::OverlapsCells
+        | Cause::WholeOfZero
+        | Cause::NotOwner
+        | Cause::BadCells
+        | Cause::CellPoolExists
+        | Cause::TooManyCellPools
+        | Cause::NoCellPool
+        | Cause::NotInUse
+        | Cause::BadList
+        | Cause::TooManyTasks
+        | Cause::NoTask
+        | Cause::NotParent
+        | Cause::HasSubtask
+        | Cause::NotAssigned => (),
     }
 }
 
@@ -163,7 +180,22 @@ fn put_release<W: Write>(
         Cause::Misaligned => put_misaligned(gathered, writer, r.address),
         Cause::NotInSubpool => put_not_in_subpool(gathered, writer, storage, r),
         Cause::OverlapsFree => put_free(gathered, writer, storage, r),
-        _ => put_overlap(gathered, writer, storage, r),
+        Cause::OverlapsCells => put_overlap(gathered, writer, storage, r),
+        Cause::TooManyNames
+        | Cause::NoStorage
+        | Cause::WholeOfZero
+        | Cause::NotOwner
+        | Cause::BadCells
+        | Cause::CellPoolExists
+        | Cause::TooManyCellPools
+        | Cause::NoCellPool
+        | Cause::NotInUse
+        | Cause::BadList
+        | Cause::TooManyTasks
+        | Cause::NoTask
+        | Cause::NotParent
+        | Cause::HasSubtask
+        | Cause::NotAssigned => (),
     }
 }
 
@@ -194,7 +226,24 @@ fn put_whole<W: Write>(
         Cause::SubpoolNotAllowed => put_too_high(gathered, writer, number),
         Cause::WholeOfZero => put_zero(gathered, writer),
         Cause::NotInSubpool => put_unseen(gathered, writer, storage, number),
-        _ => put_owned(gathered, writer, storage, number),
+        Cause::NotOwner => put_owned(gathered, writer, storage, number),
+        Cause::BadLength
+        | Cause::TooManyNames
+        | Cause::NoStorage
+        | Cause::Misaligned
+        | Cause::OverlapsFree
+        | Cause::OverlapsCells
+        | Cause::BadCells
+        | Cause::CellPoolExists
+        | Cause::TooManyCellPools
+        | Cause::NoCellPool
+        | Cause::NotInUse
+        | Cause::BadList
+        | Cause::TooManyTasks
+        | Cause::NoTask
+        | Cause::NotParent
+        | Cause::HasSubtask
+        | Cause::NotAssigned => (),
     }
 }
 
@@ -268,7 +317,23 @@ fn put_build<W: Write>(
         Cause::BadCells => put_bad_cells(gathered, writer, b),
         Cause::CellPoolExists => put_pool_exists(gathered, writer, name),
         Cause::TooManyCellPools => put_pools_full(gathered, writer, storage),
-        _ => put_first_extent(gathered, writer, storage, b),
+        Cause::NoStorage => put_first_extent(gathered, writer, storage, b),
+        Cause::BadLength
+        | Cause::TooManyNames
+        | Cause::Misaligned
+        | Cause::NotInSubpool
+        | Cause::OverlapsFree
+        | Cause::OverlapsCells
+        | Cause::WholeOfZero
+        | Cause::NotOwner
+        | Cause::NoCellPool
+        | Cause::NotInUse
+        | Cause::BadList
+        | Cause::TooManyTasks
+        | Cause::NoTask
+        | Cause::NotParent
+        | Cause::HasSubtask
+        | Cause::NotAssigned => (),
     }
 }
 
@@ -287,7 +352,26 @@ fn put_get<W: Write>(
     match cause {
         Cause::NoCellPool => put_no_pool(gathered, writer, storage, name),
         Cause::TooManyNames => put_names_full(gathered, writer),
-        _ => put_no_cell(gathered, writer, storage, name, g.conditional),
+        Cause::NoStorage => put_no_cell(gathered, writer, storage, name, g.conditional),
+        Cause::UnsupportedSubpool
+        | Cause::SubpoolNotAllowed
+        | Cause::BadLength
+        | Cause::Misaligned
+        | Cause::NotInSubpool
+        | Cause::OverlapsFree
+        | Cause::OverlapsCells
+        | Cause::WholeOfZero
+        | Cause::NotOwner
+        | Cause::BadCells
+        | Cause::CellPoolExists
+        | Cause::TooManyCellPools
+        | Cause::NotInUse
+        | Cause::BadList
+        | Cause::TooManyTasks
+        | Cause::NoTask
+        | Cause::NotParent
+        | Cause::HasSubtask
+        | Cause::NotAssigned => (),
     }
 }
 
@@ -305,7 +389,27 @@ fn put_freed<W: Write>(
     let (name, cell) = asked;
     match cause {
         Cause::NoCellPool => put_no_pool(gathered, writer, storage, name),
-        _ => put_not_in_use(gathered, writer, storage, name, cell),
+        Cause::NotInUse => put_not_in_use(gathered, writer, storage, name, cell),
+        Cause::UnsupportedSubpool
+        | Cause::SubpoolNotAllowed
+        | Cause::BadLength
+        | Cause::TooManyNames
+        | Cause::NoStorage
+        | Cause::Misaligned
+        | Cause::NotInSubpool
+        | Cause::OverlapsFree
+        | Cause::OverlapsCells
+        | Cause::WholeOfZero
+        | Cause::NotOwner
+        | Cause::BadCells
+        | Cause::CellPoolExists
+        | Cause::TooManyCellPools
+        | Cause::BadList
+        | Cause::TooManyTasks
+        | Cause::NoTask
+        | Cause::NotParent
+        | Cause::HasSubtask
+        | Cause::NotAssigned => (),
     }
 }
 

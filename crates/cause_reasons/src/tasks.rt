@@ -100,7 +100,27 @@ pub(crate) fn put_detach<W: Write>(
 {
     match cause {
         Cause::NoTask => put_no_task(gathered, writer, task),
-        _ => put_parent(gathered, writer, storage, task),
+        Cause::NotParent => put_parent(gathered, writer, storage, task),
+        Cause::UnsupportedSubpool
+        | Cause::SubpoolNotAllowed
+        | Cause::BadLength
+        | Cause::TooManyNames
+        | Cause::NoStorage
+        | Cause::Misaligned
+        | Cause::NotInSubpool
+        | Cause::OverlapsFree
+        | Cause::OverlapsCells
+        | Cause::WholeOfZero
+        | Cause::NotOwner
+        | Cause::BadCells
+        | Cause::CellPoolExists
+        | Cause::TooManyCellPools
+        | Cause::NoCellPool
+        | Cause::NotInUse
+        | Cause::BadList
+        | Cause::TooManyTasks
+        | Cause::HasSubtask
+        | Cause::NotAssigned => (),
     }
 }
 
@@ -148,7 +168,27 @@ pub(crate) fn put_end<W: Write>(
             let subtask = first_child(storage).unwrap_or(0);
             put_subtask(gathered, writer, current, subtask);
         }
-        _ => put_parent(gathered, writer, storage, u32::from(current)),
+        Cause::NotParent => put_parent(gathered, writer, storage, u32::from(current)),
+        Cause::UnsupportedSubpool
+        | Cause::SubpoolNotAllowed
+        | Cause::BadLength
+        | Cause::TooManyNames
+        | Cause::NoStorage
+        | Cause::Misaligned
+        | Cause::NotInSubpool
+        | Cause::OverlapsFree
+        | Cause::OverlapsCells
+        | Cause::WholeOfZero
+        | Cause::NotOwner
+        | Cause::BadCells
+        | Cause::CellPoolExists
+        | Cause::TooManyCellPools
+        | Cause::NoCellPool
+        | Cause::NotInUse
+        | Cause::BadList
+        | Cause::TooManyTasks
+        | Cause::NoTask
+        | Cause::NotAssigned => (),
     }
 }
 
@@ -198,7 +238,25 @@ pub(crate) fn put_attach<W: Write>(
     match cause {
         Cause::TooManyTasks => put_task_count(gathered, writer, storage),
         Cause::NotAssigned => put_no_list(gathered, writer),
-        _ => put_lists(gathered, writer, storage, a),
+        Cause::BadList | Cause::NotOwner => put_lists(gathered, writer, storage, a),
+        Cause::UnsupportedSubpool
+        | Cause::SubpoolNotAllowed
+        | Cause::BadLength
+        | Cause::TooManyNames
+        | Cause::NoStorage
+        | Cause::Misaligned
+        | Cause::NotInSubpool
+        | Cause::OverlapsFree
+        | Cause::OverlapsCells
+        | Cause::WholeOfZero
+        | Cause::BadCells
+        | Cause::CellPoolExists
+        | Cause::TooManyCellPools
+        | Cause::NoCellPool
+        | Cause::NotInUse
+        | Cause::NoTask
+        | Cause::NotParent
+        | Cause::HasSubtask => (),
     }
 }
 

@@ -5,7 +5,7 @@ ghost use Rattle.cell_extents.specs.Names.{digit, word_at, packed, unpacked, spe
 ghost use Rattle.list_table.specs.Entries.{word};
 ghost use Rattle.cell_extents.specs.Names.{location_in, header_in, AreBytes};
 
-use crate::settings::{Header, Name};
+use crate::settings::{CellPoolHeader, CellPoolName};
 use vsm_model::Residence;
 
 /// The words of a name: 63 bytes, three to a word.
@@ -90,7 +90,7 @@ fn header_words(bytes: &[u8]) -> ([u32; 7], u32)
 }
 
 /// The words of a name, which spell it.
-pub fn label_of_name(name: &Name) -> Label
+pub fn label_of_name(name: &CellPoolName) -> Label
     ensures packed { result ≡ packed name.now.bytes }
     ensures spelled { spelled result ≡ name.now.bytes }
     ensures text { IsUtf8 name.now.bytes }
@@ -106,7 +106,7 @@ pub fn form_of(
     primary: u32,
     secondary: u32,
     size: u32,
-    header: &Option<Header>,
+    header: &Option<CellPoolHeader>,
 ) -> LabelForm
     ensures location { location_in result.form ≡ location }
     ensures primary { word result.form 4 ≡ primary }

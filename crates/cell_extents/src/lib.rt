@@ -10,4 +10,4 @@ mod settings;
 pub mod texts;
 pub mod used;
 
-pub use settings::{CellId, CellSettings, Extent, Header, Name};
+pub use settings::{CellId, CellPoolHeader, CellPoolName, CellSettings, Extent};

@@ -3,10 +3,10 @@ use vsm_elements::Id;
 use vsm_model::{Residence, Subpool};
 
 /// The name of a cell pool: a text of at most 63 bytes.
-pub type Name = ArrayString<63>;
+pub type CellPoolName = ArrayString<63>;
 
 /// The text of a header: at most 24 bytes.
-pub type Header = ArrayVec<u8, 24>;
+pub type CellPoolHeader = ArrayVec<u8, 24>;
 
 /// What names a cell pool to the calls: the id of its row, which it keeps while it is parked.
 pub type CellId = Id;

@@ -7,7 +7,7 @@ ghost use Rattle.cell_extents.specs.Items.{subpool_in};
 ghost use Rattle.vsm_model.specs.Subpools.{same_subpool};
 
 use crate::label::Label;
-use crate::settings::{Header, Name};
+use crate::settings::{CellPoolHeader, CellPoolName};
 use arrayvec::ArrayVec;
 use std::str;
 use vsm_model::{Residence, Subpool};
@@ -49,7 +49,7 @@ fn push_words<const N: usize>(text: &mut ArrayVec<u8, N>, words: [u32; 7])
 }
 
 /// The name that such words spell.
-pub fn name_of(label: Label) -> Name
+pub fn name_of(label: Label) -> CellPoolName
     requires text { IsUtf8 (spelled label) }
     requires bytes { AreBytes (spelled label) }
     ensures { result.bytes ≡ spelled label }
@@ -58,7 +58,7 @@ pub fn name_of(label: Label) -> Name
     push_words(&mut bytes, label.first);
     push_words(&mut bytes, label.second);
     push_words(&mut bytes, label.third);
-    let mut name = Name::new();
+    let mut name = CellPoolName::new();
     if let Ok(text) = str::from_utf8(bytes.as_slice()) {
         name.push_str(text);
     }
@@ -66,14 +66,14 @@ pub fn name_of(label: Label) -> Name
 }
 
 /// The header in seven words and a form; `None` where the form says that there is none.
-pub fn header_of(front: [u32; 7], form: [u32; 7]) -> Option<Header>
+pub fn header_of(front: [u32; 7], form: [u32; 7]) -> Option<CellPoolHeader>
     requires { IfSome (header_in front form) AreBytes }
     ensures { option_map (λ h. h.items) result ≡ header_in front form }
 {
     if form[1] == 0 {
         return None;
     }
-    let mut text = Header::new();
+    let mut text = CellPoolHeader::new();
     push_words(&mut text, front);
     push_word(&mut text, form[2]);
     Some(text)

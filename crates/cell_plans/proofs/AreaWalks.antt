@@ -72,6 +72,12 @@ module _ (p t : Parts) (a b : ChangeBuilder) (rs : List Record) (k : ℕ) (w : L
   pub record_room : k < length rs → length rs ≤ p.elements.spare → 0 < t.elements.spare
   record_room less h = some-left (length rs) k t.elements.spare less (subst (λ (n : ℕ). n ≤ t.elements.spare) (length-drop k rs) (leads-room p t a b rs (drop k rs) w h))
 
+  -- the next one is refused
+  pub record_refused : (e : Store) → k < length rs → MakesElements t.elements e 1 → MakesElements p.elements e (length rs)
+  record_refused e less m =
+      let some : 1 ≤ length (drop k rs) = omega (arith, length-drop k rs, less) in
+      makes-follow (all_elements p.elements) (all_elements t.elements) (all_elements e) (live_count p.elements) (live_count t.elements) (length rs) 1 (length rs) w.made (omega (arith, w.live, some)) (omega arith) m
+
 -- the records by which areas are given back, the first of them first
 abbrev pub areas_given_back : Subpools → Subpool → List Run → List Record
 areas_given_back m p [] = []
@@ -104,6 +110,10 @@ mapped_length size (x ∷ xs) = let k = mapped_length size xs in omega (arith, k
 pub areas_count : (o : Option Pool) → length (areas_of o) ≡ extents_of_pool o
 areas_count None = refl
 areas_count (Some q) = mapped_length q.settings.size q.extents
+
+-- as many as are needed, by the areas and by the extents
+pub as_needed : {k l m n : ℕ} → k ≡ l → m ≡ n → k + (4 * m + 1) ≡ l + (4 * n + 1)
+as_needed a b = λ i. a i + (4 * b i + 1)
 
 -- the cell pool can still go, while records of the change come
 pub still_can : (s t : Parts) (pool : ℕ) → state_of t ≡ state_of s → CanBeDeleted (state_of s) (record { pool = pool }) → CanBeDeleted (state_of t) (record { pool = pool })
@@ -226,6 +236,12 @@ module _ (p : Subpool) (pool : ℕ) (s : Parts) (a : ChangeBuilder) where
       lengths : length (rest_from count) ≡ length added + length (rest_from (count + 1))
       lengths = ap length front ∙ length-append added (rest_from (count + 1))
 
+      -- its records are refused
+      pub area_refused : (e : Store) → MakesElements t.elements e (length added) → MakesElements s.elements e (length whole + (4 * length all + 1))
+      area_refused e refused =
+          makes-follow (all_elements s.elements) (all_elements t.elements) (all_elements e) (live_count s.elements) (live_count t.elements)
+          (length whole + (4 * length all + 1)) (length added) (length whole + (4 * length all + 1)) w.made (omega (arith, w.live, lengths, w.held, w.within)) (omega arith) refused
+
       pub area_room : length whole + (4 * length all + 1) ≤ s.elements.spare → length added ≤ t.elements.spare
       area_room room = omega (arith, w.spare, room, lengths, w.held, w.within)
 
@@ -246,6 +262,13 @@ module _ (p : Subpool) (pool : ℕ) (s : Parts) (a : ChangeBuilder) where
               makes-follow (all_elements s.elements) (all_elements t.elements) (all_elements u.elements) (live_count s.elements) (live_count t.elements)
               (length whole + (4 * length all + 1)) (length added) (length whole + (4 * length all + 1)) w.made
               (omega (arith, w.live, lengths, w.held, w.within)) (omega arith) pushes.made
+
+          -- or it can't be noted
+          pub note_refused : (e : Store) → MakesElements u.elements e 2 → MakesElements s.elements e (length whole + (4 * length all + 1))
+          note_refused e refused =
+              makes-follow (all_elements s.elements) (all_elements u.elements) (all_elements e) (live_count s.elements) (live_count u.elements)
+              (length whole + (4 * length all + 1)) 2 (length whole + (4 * length all + 1)) pushed_made
+              (omega (arith, w.live, lengths, pushes.live, w.held, is_one_more)) (omega arith) refused
 
           pub pushed_records : records_in u c ++ rest_from (count + 1) ≡ records_in s a ++ whole
           pushed_records =
@@ -289,6 +312,10 @@ module _ (s : Parts) (a : ChangeBuilder) (added : List Record) (room : ℕ) (t :
     live = omega (arith, k.live, leaves-live t.elements e (owned t.elements q) [] f within);
     made = omega (arith, k.made, leaves-all t.elements e (owned t.elements q) [] f within);
   }
+
+  -- so much was made before that, and nothing then
+  pub still_made : (n : ℕ) → MakesElements s.elements t.elements n → MakesElements s.elements e n
+  still_made n k = omega (arith, k, leaves-all t.elements e (owned t.elements q) [] f within)
 
 -- records before and behind
 pub pushed-before : (s t u : Parts) (a b c : ChangeBuilder) (xs ys : List Record) (room : ℕ) → Pushes s a xs t b → PushesBeside t b ys 0 room u c → PushesBeside s a (xs ++ ys) 0 room u c

@@ -20,7 +20,7 @@ use crate::seen::name_of;
 use crate::sizes::extent_doublewords;
 use arrayvec::ArrayVec;
 use cell_pool::laws::{pools_are_listed, pools_are_one};
-use cell_pool::{CellSettings, Header, Name};
+use cell_pool::{CellPoolHeader, CellPoolName, CellSettings};
 use run_set::Run;
 use service_laws::cells::cell_pools_stay_well_formed;
 use storage_changes::cells::building_leads;
@@ -38,8 +38,8 @@ use vsm_model::{Build, Cause, Reply, Settings, Subpool};
 /// A cell pool that comes, with its first extent. Nothing is changed yet.
 #[derive(Drop)]
 pub struct BuildPlan {
-    pub name: Name,
-    pub header: Option<Header>,
+    pub name: CellPoolName,
+    pub header: Option<CellPoolHeader>,
     /// What it is built with; its first extent has the primary number of cells.
     pub settings: CellSettings,
     /// The address of its first cell.
@@ -54,12 +54,12 @@ pub struct BuildPlan {
 }
 
 // The text of a header as an array of its own, if there is one.
-fn header_of(text: Option<&str>) -> Option<Header>
+fn header_of(text: Option<&str>) -> Option<CellPoolHeader>
     requires { IfSome text (λ text. length text.now ≤ 24) }
     ensures { option_map (λ h. h.items) result ≡ option_map (λ text. text.now) text.entry }
 {
     let text = text?;
-    let mut header = Header::new();
+    let mut header = CellPoolHeader::new();
     let _ = header.try_extend_from_slice(text.as_bytes());
     Some(header)
 }
@@ -79,7 +79,7 @@ fn has_cells(b: Build) -> bool
 }
 
 // Whether there is a cell pool of the name.
-fn is_built(storage: &Parts, name: &Name) -> bool
+fn is_built(storage: &Parts, name: &CellPoolName) -> bool
     requires { Stand storage.now }
     ensures there { result ≡ is_some (cell_pool_in (model_of (state_of storage.now)).cell_pools name.now.bytes) }
     ensures unnamed { result ≡ false → IsUnnamed (state_of storage.now).subpools name.now.bytes }
@@ -106,7 +106,7 @@ fn pool_count(storage: &Parts) -> u32
 
 // The number of the subpool of a cell pool that can come under the name, or the first cause that refuses it but for
 // want of storage.
-fn check_build(storage: &Parts, name: &Name, b: Build) -> Result<u8, Cause>
+fn check_build(storage: &Parts, name: &CellPoolName, b: Build) -> Result<u8, Cause>
     requires { Stand storage.now }
     ensures number { IfOk result (λ number. number ≡ b.number) }
     ensures is_open { OnOk result (IsOpen (state_of storage.now) name.now.bytes b) }
@@ -129,8 +129,8 @@ fn check_build(storage: &Parts, name: &Name, b: Build) -> Result<u8, Cause>
 // The plan by which the cell pool comes, with its first extent at its place.
 fn plan_pool(
     storage: &Parts,
-    name: Name,
-    header: Option<Header>,
+    name: CellPoolName,
+    header: Option<CellPoolHeader>,
     settings: CellSettings,
     place: AreaPlace,
     is_new: bool,

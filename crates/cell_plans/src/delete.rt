@@ -1,5 +1,5 @@
 //! Plans of CPOOL DELETE.
-ghost use Rattle.std.specs.Prelude.{◌≡◌, ℕ, ◌+◌, ◌≤◌, true, Bool, length, IsOk, OnOk, IfOk, IfErr};
+ghost use Rattle.std.specs.Prelude.{◌≡◌, ℕ, ◌+◌, ◌≤◌, true, Bool, length, IsOk, OnOk, OnErr, IfOk, IfErr};
 ghost use Rattle.vsm_elements.specs.Store.{live_count};
 ghost use Rattle.vsm_model.specs.declared.limits.Settings.{Settings};
 ghost use Rattle.vsm_model.specs.Regions.{settings_valid};
@@ -7,7 +7,7 @@ ghost use Rattle.vsm_model.specs.Services.{delete};
 ghost use Rattle.storage_exchange.specs.Storage.{hold, state_of, Stand, IsFrameless};
 ghost use Rattle.storage_plans.specs.Places.{StandsSound};
 ghost use Rattle.storage_swap.specs.Builder.{IsBuilding, Builds};
-ghost use Rattle.storage_swap.specs.Growth.{MakesElements};
+ghost use Rattle.storage_swap.specs.Growth.{MakesElements, MakesWithin};
 ghost use Rattle.storage_swap.specs.Reserve.{Grown, Reserves};
 ghost use Rattle.cell_plans.specs.CellPlans.{delete_change, CanBeDeleted, IsDeletePlanned};
 ghost use Rattle.cell_plans.specs.Noted.{PushesBeside};
@@ -58,7 +58,8 @@ impl DeletePlan {
     /// extent, and one more. The state of the storage stays as it is.
     ///
     /// `AllocError` where memory is refused: what was made before that stays, as spare elements. No more spare elements
-    /// are used than it has records and blank elements; where so many are spare, it takes no memory.
+    /// are used than it has records and blank elements; where so many are spare, it takes no memory. At most a block of
+    /// elements is made beyond these, whatever the answer, and no frame.
     pub fn reserve(self, storage: &mut Parts) -> Result<Change, AllocError>
         requires stands { Stand storage.old }
         requires once { (i : ℕ) → hold storage.old i ≤ 1 }
@@ -72,9 +73,9 @@ impl DeletePlan {
             storage.old.elements.spare ≤ storage.new.elements.spare + (length d.records + d.blanks)) }
         ensures live { IfOk result (λ _. let d = delete_change (state_of storage.old) self in
             live_count storage.new.elements ≤ live_count storage.old.elements + (length d.records + d.blanks)) }
-        ensures made { IfOk result (λ _. let d = delete_change (state_of storage.old) self in
-            MakesElements storage.old.elements storage.new.elements (length d.records + d.blanks)) }
-        ensures same_frames { IfOk result (λ _. storage.new.region ≡ storage.old.region) }
+        ensures made { let d = delete_change (state_of storage.old) self in
+            MakesWithin storage.old.elements storage.new.elements (length d.records + d.blanks) }
+        ensures same_frames { storage.new.region ≡ storage.old.region }
         ensures needless { let d = delete_change (state_of storage.old) self in
             length d.records + d.blanks ≤ storage.old.elements.spare → IsOk result }
     {
@@ -96,6 +97,8 @@ impl DeletePlan {
         ensures ok { let d = delete_change (state_of storage.old) self in
             OnOk result (PushesBeside storage.old builder.old d.records 0 d.blanks storage.new builder.new) }
         ensures blanks { IfOk result (λ n. n ≡ (delete_change (state_of storage.old) self).blanks) }
+        ensures made { let d = delete_change (state_of storage.old) self in
+            OnErr result (MakesElements storage.old.elements storage.new.elements (length d.records + d.blanks)) }
         ensures needless { let d = delete_change (state_of storage.old) self in
             length d.records + d.blanks ≤ storage.old.elements.spare → IsOk result }
     {

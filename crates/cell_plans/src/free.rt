@@ -17,7 +17,7 @@ use storage_changes::cells::giving_back_cells_leads;
 use storage_changes::{CellRecord, Record};
 use storage_exchange::Parts;
 use storage_plans::plan::{NO_PAGES, push_register};
-use storage_plans::{Planned, StoragePlan};
+use storage_plans::{PlannedStorage, StoragePlan};
 use subpool_storage::laws::cell_pools_are_named;
 use vsm_model::{Cause, Reply};
 
@@ -52,7 +52,7 @@ fn plan_given_back(storage: &Parts, pool: CellId, cell: u32) -> StoragePlan
 /// The causes that refuse it, in order: `NoCellPool` where there is no cell pool of the name or the current task
 /// doesn't see its subpool, and `NotInUse` where the address isn't that of a cell that was handed out.
 #[inline(never)]
-pub fn plan_free(storage: &Parts, name: &str, cell: u32) -> Planned
+pub fn plan_free(storage: &Parts, name: &str, cell: u32) -> PlannedStorage
     requires stands { Stand storage.now }
     requires name { length name.now ≤ 63 }
     ensures { (settings : Settings) (names_full : Bool) → StandsSound settings storage.now

@@ -22,7 +22,7 @@ use storage_exchange::Parts;
 use storage_plans::obtain::{address_of, needs_of, push_place};
 use storage_plans::places::{AreaPlace, area_place};
 use storage_plans::plan::{NO_PAGES, answer_four, push_register};
-use storage_plans::{PlanRecords, Planned, StoragePlan};
+use storage_plans::{PlanRecords, PlannedStorage, StoragePlan};
 use subpool_storage::laws::cell_pools_are_named;
 use vsm_model::{Cause, Get, Reply, Settings};
 
@@ -124,7 +124,7 @@ pub fn plan_get(
     name: &str,
     g: Get,
     names_full: bool,
-) -> Planned
+) -> PlannedStorage
     requires sound { StandsSound settings storage.now }
     requires valid { settings_valid settings ≡ true }
     requires name { length name.now ≤ 63 }

@@ -1,10 +1,11 @@
 //! The records by which the extents of a cell pool are given back.
-ghost use Rattle.std.specs.Prelude.{◌≡◌, ℕ, false, ◌+◌, ◌-◌, ◌*◌, ◌^◌, ◌<◌, ◌≤◌, ◌++◌, [], length, IsOk, IfOk, OnOk};
+ghost use Rattle.std.specs.Prelude.{◌≡◌, ℕ, false, ◌+◌, ◌-◌, ◌*◌, ◌^◌, ◌<◌, ◌≤◌, ◌++◌, [], length, IsOk, IfOk, OnOk, OnErr};
 ghost use Rattle.arrayvec.specs.ArrayVec.{array_vec_len};
 ghost use Rattle.storage_changes.specs.StorageActions.{area_records, give_back_records, returned_records};
 ghost use Rattle.free_queue.specs.FreeQueue.{is_free, owned, IsFreeQueue};
 ghost use Rattle.storage_exchange.specs.Storage.{state_of};
 ghost use Rattle.storage_swap.specs.Builder.{IsBuilding, Builds, Pushes};
+ghost use Rattle.storage_swap.specs.Growth.{MakesElements};
 ghost use Rattle.cell_plans.specs.Areas.{first_areas};
 ghost use Rattle.cell_plans.specs.CellPlans.{pool_given_back, extents_need, extents_of_pool, CanBeDeleted};
 ghost use Rattle.cell_plans.specs.Emptied.{area_given_back, freed};
@@ -99,6 +100,7 @@ fn push_all(
     requires { IsBuilding storage.old builder.old }
     ensures builds { Builds storage.old builder.old storage.new builder.new }
     ensures ok { OnOk result (Pushes storage.old builder.old records.now storage.new builder.new) }
+    ensures made { OnErr result (MakesElements storage.old.elements storage.new.elements (length records.now)) }
     ensures needless { length records.now ≤ storage.old.elements.spare → IsOk result }
 {
     for k in 0..records.len() {
@@ -122,6 +124,9 @@ fn push_area(
     ensures builds { Builds storage.old builder.old storage.new builder.new }
     ensures ok { let m = state_of storage.old in OnOk result (Pushes storage.old builder.old
         (area_given_back (freed m.subpools subpool (first_areas m given)) subpool area) storage.new builder.new) }
+    ensures made { let m = state_of storage.old in
+        OnErr result (MakesElements storage.old.elements storage.new.elements
+        (length (area_given_back (freed m.subpools subpool (first_areas m given)) subpool area))) }
     ensures needless { let m = state_of storage.old in
         length (area_given_back (freed m.subpools subpool (first_areas m given)) subpool area)
         ≤ storage.old.elements.spare → IsOk result }
@@ -158,6 +163,8 @@ fn push_each(
         storage.new builder.new) }
     ensures count { IfOk result (λ n. n ≡ extents_of_pool ((state_of storage.old).subpools.cells pool)) }
     ensures few { IfOk result (λ n. n < 2 ^ 30) }
+    ensures made { OnErr result (MakesElements storage.old.elements storage.new.elements
+        (extents_need (state_of storage.old) pool)) }
     ensures needless { extents_need (state_of storage.old) pool ≤ storage.old.elements.spare → IsOk result }
 {
     spares_are_few(storage);
@@ -194,6 +201,8 @@ pub(crate) fn push_extents(storage: &mut Parts, builder: &mut ChangeBuilder, poo
         (pool_given_back m (m.cells pool)) 0 (4 * extents_of_pool (m.cells pool) + 1) storage.new builder.new) }
     ensures count { IfOk result (λ n. n ≡ extents_of_pool ((state_of storage.old).subpools.cells pool)) }
     ensures few { IfOk result (λ n. n < 2 ^ 30) }
+    ensures made { OnErr result (MakesElements storage.old.elements storage.new.elements
+        (extents_need (state_of storage.old) pool)) }
     ensures needless { extents_need (state_of storage.old) pool ≤ storage.old.elements.spare → IsOk result }
 {
     let mut areas = FreeQueue::new();

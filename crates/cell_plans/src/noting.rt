@@ -1,10 +1,11 @@
 //! The doublewords of extents that were given back, noted in a queue of spare elements.
-ghost use Rattle.std.specs.Prelude.{◌≡◌, ℕ, ◌+◌, ◌^◌, ◌<◌, ◌≤◌, ◌||◌, true, length, IsOk, OnOk};
+ghost use Rattle.std.specs.Prelude.{◌≡◌, ℕ, ◌+◌, ◌^◌, ◌<◌, ◌≤◌, ◌||◌, true, length, IsOk, OnOk, OnErr};
 ghost use Rattle.vsm_elements.specs.Ownership.{Leaves};
 ghost use Rattle.vsm_elements.specs.Owners.{times, Moves};
 ghost use Rattle.run_set.specs.Runs.{inside};
 ghost use Rattle.free_queue.specs.FreeQueue.{is_free, owned, IsFreeQueue};
 ghost use Rattle.storage_changes.specs.StorageActions.{run_of};
+ghost use Rattle.storage_swap.specs.Growth.{MakesElements};
 ghost use Rattle.cell_plans.specs.Noted.{noted_count, NotesOne};
 
 use free_queue::{Cover, FreeQueue};
@@ -85,6 +86,7 @@ pub(crate) fn note(storage: &mut Parts, noted: &mut FreeQueue, area: Run) -> Res
         ≡ (inside d area || is_free storage.old.elements noted.old d)) }
     ensures one { OnOk result (NotesOne storage.old.elements storage.new.elements
         (noted_count storage.old noted.old) (noted_count storage.new noted.new)) }
+    ensures made { OnErr result (MakesElements storage.old.elements storage.new.elements 2) }
     ensures needless { 2 ≤ storage.old.elements.spare → IsOk result }
 {
     storage.elements.reserve(2)?;

@@ -9,18 +9,18 @@ ghost use Rattle.storage_exchange.specs.Storage.{state_of, Stand};
 ghost use Rattle.cell_plans.specs.Seen.{IsSeen};
 
 use cell_pool::laws::pools_are_one;
-use cell_pool::{CellId, Name};
+use cell_pool::{CellId, CellPoolName};
 use storage_changes::tables::{others_are_not_found, pools_are_found};
 use storage_exchange::Parts;
 use subpool_storage::laws::cell_pools_are_named;
 use vsm_model::{Cause, Subpool};
 
 /// The name as an array of its own.
-pub(crate) fn name_of(text: &str) -> Name
+pub(crate) fn name_of(text: &str) -> CellPoolName
     requires { length text.now ≤ 63 }
     ensures { result.bytes ≡ text.now }
 {
-    let mut name = Name::new();
+    let mut name = CellPoolName::new();
     let _ = name.try_push_str(text);
     name
 }

@@ -1,5 +1,5 @@
 -- Pools that go from each of two tables to the other.
-use Rattle.std.proofs.Common.{◌≡◌, ℕ, ◌==◌, ◌||◌, Bool, true, false, List, ◌++◌, Option, Some, None, IsSome, refl, sym, ap, ◌∙◌, subst, arith, inl, inr, length-append}
+use Rattle.std.proofs.Common.{◌≡◌, ℕ, ◌==◌, ◌||◌, Bool, true, false, List, [], ◌++◌, Option, Some, None, IsSome, refl, sym, ap, ◌∙◌, subst, arith, inl, inr, length-append}
 use Rattle.std.proofs.lemmas.Bool.{cond-false, cond-true}
 use Rattle.std.specs.Prelude.{if◌then◌else◌, is_some, IfSome}
 use Rattle.vsm_elements.specs.Store.{Store, at, among}
@@ -17,10 +17,12 @@ use Rattle.cell_extents.proofs.EntryLemmas.{eqb_refl, eqb_same}
 use Rattle.cell_pool.specs.declared.pools.CellPools.{CellPools}
 use Rattle.cell_pool.specs.Pools.{Pool, is_of, lies_in, only, all_but, either_of, holds_of, GoTogether}
 use Rattle.cell_pool.specs.Kept.{pools_of}
-use Rattle.cell_pool.specs.CellPools.{pool, by_id, owned, IsCellPools}
+use Rattle.cell_pool.specs.CellPools.{pool, by_id, owned, parked_pool, parked_by_id, parked_owned, IsCellPools, IsParked, TakesOut}
+use Rattle.cell_pool.specs.declared.parked.ParkedCells.{ParkedCells}
 use Rattle.cell_pool.specs.Laws.{AreSame}
 use Rattle.cell_pool.proofs.PoolLemmas.{pool_ids, none_of, none_some, ids_are}
 use Rattle.cell_pool.proofs.HandLemmas.{row_ids}
+use Rattle.cell_pool.proofs.ParkLemmas.{append_none, leaves_same}
 use Rattle.cell_pool.proofs.LawLemmas.{pools_are_one, pools_own, pools_stay}
 
 -- what is found, where some of it goes
@@ -105,11 +107,24 @@ module _ (s : Store) (q : CellPools) (kept : IsCellPools s q) (id : ℕ) (none :
     go true e = absurd (not_both (is_some (by_id s q id)) (ap (λ (z : ℕ). is_some (by_id s q z)) (eqb_same id p.id e) ∙ ap is_some h) none)
     go false e = e
 
-  pub other_names : (n : List ℕ) → (only (is_of id) (pool s q n) ≡ None) × (all_but (is_of id) (pool s q n) ≡ pool s q n)
+  other_names : (n : List ℕ) → (only (is_of id) (pool s q n) ≡ None) × (all_but (is_of id) (pool s q n) ≡ pool s q n)
   other_names n = only_none (is_of id) (pool s q n) (λ p e. other p ((pools_are_one s q kept).names n p e).1)
 
-  pub other_ids : (i : ℕ) → (only (is_of id) (by_id s q i) ≡ None) × (all_but (is_of id) (by_id s q i) ≡ by_id s q i)
+  other_ids : (i : ℕ) → (only (is_of id) (by_id s q i) ≡ None) × (all_but (is_of id) (by_id s q i) ≡ by_id s q i)
   other_ids i = only_none (is_of id) (by_id s q i) (λ p e. other p (ap (by_id s q) ((pools_are_one s q kept).ids i p e).0 ∙ e))
+
+  -- then none is taken out
+  pub none_out : (out : ParkedCells) → IsParked s out → ((n : List ℕ) → parked_pool s out n ≡ None) → ((i : ℕ) → parked_by_id s out i ≡ None) → parked_owned s out ≡ [] → TakesOut (is_of id) s s q q out.pools
+  none_out out parked no_name no_id no_element = record {
+    pools = kept;
+    parked = parked;
+    names = λ n. sym (other_names n).1;
+    ids = λ i. sym (other_ids i).1;
+    names_out = λ n. no_name n ∙ sym (other_names n).0;
+    ids_out = λ i. no_id i ∙ sym (other_ids i).0;
+    apart = λ i h. ap (among i) no_element;
+    owned = (let P : List ℕ → Type 0 = Leaves s s (owned s q) in subst P (sym (ap (λ (z : List ℕ). owned s q ++ z) no_element ∙ append_none (owned s q))) (leaves_same s (owned s q)));
+  }
 
 -- the id of a pool is one of its elements
 pub id_owned : (s : Store) (q : CellPools) (i : ℕ) (p : Pool) → by_id s q i ≡ Some p → among i (owned s q) ≡ true
@@ -140,17 +155,6 @@ Apart-parts xs ys zs h =
     let r : Apart zs xs × Apart zs ys = Apart-left zs xs ys (Apart-sym (xs ++ ys) zs h) in
     (Apart-sym zs xs r.0, Apart-sym zs ys r.1)
 
--- Some of the pools are taken out.
-pub record TakesOut (goes : Pool → Bool) (s t : Store) (q left out : CellPools) : Type 0 where
-  pub pools : IsCellPools t left
-  pub parked : IsCellPools t out
-  pub names : (n : List ℕ) → pool t left n ≡ all_but goes (pool s q n)
-  pub ids : (i : ℕ) → by_id t left i ≡ all_but goes (by_id s q i)
-  pub names_out : (n : List ℕ) → pool t out n ≡ only goes (pool s q n)
-  pub ids_out : (i : ℕ) → by_id t out i ≡ only goes (by_id s q i)
-  pub apart : Apart (owned t left) (owned t out)
-  pub owned : Leaves s t (owned s q) (owned t left ++ owned t out)
-
 or_around : (a g b k : Bool) → ((k || a) || (g || b)) ≡ ((a || g) || (b || k))
 or_around true true b true = refl
 or_around true true b false = refl
@@ -164,7 +168,7 @@ or_around false false false true = refl
 or_around false false false false = refl
 
 -- They are taken out of the one, and then out of the other.
-module _ (goes : Pool → Bool) (s r t : Store) (a b c d g k : CellPools) (first : TakesOut goes s r a c g) (second : TakesOut goes r t b d k) (stand : IsCellPools s b) (apart : Apart (owned s a) (owned s b)) where
+module _ {goes : Pool → Bool} {s r t : Store} {a b c d g k : CellPools} (first : TakesOut goes s r a c g) (second : TakesOut goes r t b d k) (stand : IsCellPools s b) (apart : Apart (owned s a) (owned s b)) where
   b_stays : AreSame s r b × Apart (owned r c ++ owned r g) (owned r b)
   b_stays = beside s r (owned s a) (owned r c ++ owned r g) b first.owned stand apart
 

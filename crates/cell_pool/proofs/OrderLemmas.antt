@@ -11,14 +11,14 @@ use Rattle.vsm_elements.proofs.ChainLemmas.{not_both}
 use Rattle.cell_pool.specs.Pools.{Pool, first_with, is_named, pool_in}
 use Rattle.cell_extents.specs.Items.{pool_of}
 use Rattle.cell_pool.specs.Kept.{pools_of}
-use Rattle.cell_pool.specs.Order.{is_before, is_behind, is_between}
+use Rattle.cell_pool.specs.Order.{is_before, is_after, is_between}
 use Rattle.list_table.specs.Entries.{Entry}
 use Rattle.cell_pool.proofs.PoolLemmas.{none_at, none_more, none_found, found_passes}
 
 abbrev cmp : List ℕ → List ℕ → Ordering
 cmp = slice_cmp nat_cmp
 
-pub low_passes : (low : Option (List ℕ)) (high name : List ℕ) → is_behind low name ≡ true → is_between low (Some high) name ≡ is_before name high
+pub low_passes : (low : Option (List ℕ)) (high name : List ℕ) → is_after low name ≡ true → is_between low (Some high) name ≡ is_before name high
 low_passes low high name h = ap (λ (b : Bool). b && is_before name high) h
 
 tested : (o : Ordering) → is_lt o ≡ true → o ≡ Less
@@ -42,16 +42,16 @@ and_parts true b h = (refl, h)
 and_parts false b h = absurd (not_both false h refl)
 
 -- what is between is behind the low one
-pub between_low : (low high : Option (List ℕ)) (name : List ℕ) → is_between low high name ≡ true → is_behind low name ≡ true
+pub between_low : (low high : Option (List ℕ)) (name : List ℕ) → is_between low high name ≡ true → is_after low name ≡ true
 between_low low None name h = h
-between_low low (Some high) name h = (and_parts (is_behind low name) (is_before name high) h).0
+between_low low (Some high) name h = (and_parts (is_after low name) (is_before name high) h).0
 
 -- what is between the low one and a name that is between is between
 pub between_less : (low high : Option (List ℕ)) (name other : List ℕ) → is_between low high name ≡ true → is_between low (Some name) other ≡ true → is_between low high other ≡ true
-between_less low None name other h k = (and_parts (is_behind low other) (is_before other name) k).0
+between_less low None name other h k = (and_parts (is_after low other) (is_before other name) k).0
 between_less low (Some high) name other h k =
-    let p = and_parts (is_behind low other) (is_before other name) k in
-    let q = and_parts (is_behind low name) (is_before name high) h in
+    let p = and_parts (is_after low other) (is_before other name) k in
+    let q = and_parts (is_after low name) (is_before name high) h in
     low_passes low high other p.0 ∙ before_chain other name high p.1 q.1
 
 -- where none passes a test, none passes one that says more
@@ -77,7 +77,7 @@ pub nearer : (low high : Option (List ℕ)) (es : List Entry) (k : ℕ) (e : Ent
 nearer low high es k e there none hit =
     let n : List ℕ = (pool_of e).name in
     none_more (lies_between low (Some n)) es k e there (fewer (lies_between low high) (lies_between low (Some n)) (λ p. between_less low high n p.name hit) (pools_of (take k es)) none)
-    (ap (λ (b : Bool). is_behind low n && b) (before_itself n) ∙ never (is_behind low n))
+    (ap (λ (b : Bool). is_after low n && b) (before_itself n) ∙ never (is_after low n))
 
 -- no pool's name lies between
 pub none_lies : (low high : Option (List ℕ)) (ps : List Pool) → first_with (lies_between low high) ps ≡ None → (n : List ℕ) → IsSome (pool_in n ps) → is_between low high n ≡ false

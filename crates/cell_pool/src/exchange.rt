@@ -5,14 +5,14 @@ ghost use Rattle.vsm_elements.specs.Ownership.{Leaves, Apart};
 ghost use Rattle.cell_pool.specs.Pools.{only, all_but, either_of, is_of, handed_on, exchanged, GoTogether};
 
 use crate::parked::ParkedCells;
-use crate::pools::{CellPools, Place};
+use crate::pools::{CellPools, TablePlace};
 use cell_extents::CellId;
 use cell_extents::texts::says_subpool;
 use vsm_elements::Elements;
 use vsm_model::Subpool;
 
 impl CellPools {
-    ghost use Rattle.cell_pool.specs.CellPools.{pool, by_id, owned, IsCellPools, IsParked};
+    ghost use Rattle.cell_pool.specs.CellPools.{pool, by_id, owned, IsCellPools, IsParked, TakesOut};
     ghost use Rattle.cell_pool.specs.CellPools.{parked_pool, parked_by_id, parked_owned};
 
     /// Hands the pools of a subpool on: each that lies in it lies in the subpool of the same number of the owner `to`
@@ -28,13 +28,13 @@ impl CellPools {
         ensures spares { elements.new.spare ≡ elements.old.spare }
     {
         let count = self.table.count(elements);
-        let mut place = Place {
+        let mut place = TablePlace {
             index: 0,
             before: 0,
         };
         while place.index < count {
             let row = self.table.row(elements, place.index, place.before);
-            place = Place {
+            place = TablePlace {
                 index: place.index + 1,
                 before: row.id,
             };
@@ -117,18 +117,7 @@ impl CellPools {
     // Takes the pool of this id out, if there is one.
     fn park_if_there(&mut self, elements: &mut Elements, id: CellId) -> ParkedCells
         requires { IsCellPools elements.old self.old }
-        ensures pools { IsCellPools elements.new self.new }
-        ensures parked { IsParked elements.new result }
-        ensures names { (n : List ℕ) → pool elements.new self.new n
-            ≡ all_but (is_of id) (pool elements.old self.old n) }
-        ensures ids { (i : ℕ) → by_id elements.new self.new i ≡ all_but (is_of id) (by_id elements.old self.old i) }
-        ensures names_out { (n : List ℕ) → parked_pool elements.new result n
-            ≡ only (is_of id) (pool elements.old self.old n) }
-        ensures ids_out { (i : ℕ) → parked_by_id elements.new result i
-            ≡ only (is_of id) (by_id elements.old self.old i) }
-        ensures apart { Apart (owned elements.new self.new) (parked_owned elements.new result) }
-        ensures owned { Leaves elements.old elements.new (owned elements.old self.old)
-            (owned elements.new self.new ++ parked_owned elements.new result) }
+        ensures takes { TakesOut (is_of id) elements.old elements.new self.old self.new result.pools }
         ensures spares { elements.new.spare ≡ elements.old.spare }
     {
         if self.is_there(elements, id) {

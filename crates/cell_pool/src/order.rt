@@ -1,24 +1,24 @@
 //! Cell pools in the order of their names, the reader going on from where it was.
 
 ghost use Rattle.std.specs.Prelude.{◌≡◌, IsSome, IfSome, IfNone, option_map};
-ghost use Rattle.cell_pool.specs.Order.{is_behind, is_between, IsNext, IsLast};
+ghost use Rattle.cell_pool.specs.Order.{is_after, is_between, IsNext, IsLast};
 
-use crate::pools::{CellPools, Place};
+use crate::pools::{CellPools, TablePlace};
 use cell_extents::lists::label;
 use cell_extents::texts::name_of;
-use cell_extents::{CellId, Name};
+use cell_extents::{CellId, CellPoolName};
 use vsm_elements::Elements;
 
 // The pool whose name is the first behind the given one so far.
 #[derive(Clone, Copy)]
 struct Candidate {
     id: CellId,
-    name: Name,
+    name: CellPoolName,
 }
 
 // Whether a name comes behind the one that is given, if one is.
-fn is_behind(low: Option<&Name>, name: &Name) -> bool
-    ensures { result ≡ is_behind (option_map (λ n. n.now.bytes) low.entry) name.now.bytes }
+fn is_after(low: Option<&CellPoolName>, name: &CellPoolName) -> bool
+    ensures { result ≡ is_after (option_map (λ n. n.now.bytes) low.entry) name.now.bytes }
 {
     match low {
         Some(low) => low < name,
@@ -27,13 +27,13 @@ fn is_behind(low: Option<&Name>, name: &Name) -> bool
 }
 
 // Whether it comes before the candidate besides, if there is any.
-fn is_between(low: Option<&Name>, name: &Name, high: &Option<Candidate>) -> bool
+fn is_between(low: Option<&CellPoolName>, name: &CellPoolName, high: &Option<Candidate>) -> bool
     ensures { result ≡ is_between (option_map (λ n. n.now.bytes) low.entry)
         (option_map (λ c. c.name.bytes) high.now) name.now.bytes }
 {
     match high {
-        Some(candidate) => is_behind(low, name) && name < &candidate.name,
-        None => is_behind(low, name),
+        Some(candidate) => is_after(low, name) && name < &candidate.name,
+        None => is_after(low, name),
     }
 }
 
@@ -44,7 +44,7 @@ impl CellPools {
     /// the last.
     ///
     /// It walks over all pools.
-    pub fn pool_after(&self, elements: &Elements, behind: Option<&Name>) -> Option<CellId>
+    pub fn pool_after(&self, elements: &Elements, behind: Option<&CellPoolName>) -> Option<CellId>
         requires { IsCellPools elements.now self.now }
         ensures none { IfNone result (IsLast (pool elements.now self.now)
             (option_map (λ n. n.now.bytes) behind.entry)) }
@@ -54,7 +54,7 @@ impl CellPools {
     {
         let count = self.table.count(elements);
         let mut next: Option<Candidate> = None;
-        let mut place = Place {
+        let mut place = TablePlace {
             index: 0,
             before: 0,
         };
@@ -67,7 +67,7 @@ impl CellPools {
                     name: named,
                 });
             }
-            place = Place {
+            place = TablePlace {
                 index: place.index + 1,
                 before: row.id,
             };

@@ -5,7 +5,7 @@ ghost use Rattle.vsm_elements.specs.Store.{Store};
 ghost use Rattle.vsm_elements.specs.Ownership.{Leaves, Apart};
 ghost use Rattle.list_table.specs.ListTable.{entries, ahead, beyond, entry_of, owned_besides, IsPlace, IsOpen};
 ghost use Rattle.list_table.specs.Stocks.{holdings};
-ghost use Rattle.cell_pool.specs.Pools.{only, all_but, either_of, is_of, lies_in, id_in};
+ghost use Rattle.cell_pool.specs.Pools.{either_of, is_of, lies_in, id_in};
 ghost use Rattle.cell_extents.specs.Items.{pool_of, IsSound};
 ghost use Rattle.cell_pool.specs.Kept.{pools_of};
 
@@ -13,7 +13,7 @@ use crate::parked::ParkedCells;
 use cell_extents::label::{form_of, label_of_name};
 use cell_extents::lists::{has_label, put_texts};
 use cell_extents::texts::says_subpool;
-use cell_extents::{CellId, CellSettings, Header, Name};
+use cell_extents::{CellId, CellPoolHeader, CellPoolName, CellSettings};
 use list_table::{ListRow, ListTable, Stock};
 use vsm_elements::{Elements, Id};
 use vsm_model::Subpool;
@@ -28,13 +28,13 @@ pub struct CellPools {
 
 // A place between two rows: how many stand before it, and the id of the last of these, or 0.
 #[derive(Clone, Copy)]
-pub(crate) struct Place {
+pub(crate) struct TablePlace {
     pub index: u32,
     pub before: Id,
 }
 
 impl CellPools {
-    ghost use Rattle.cell_pool.specs.CellPools.{pool, pools, by_id, owned, IsCellPools, IsParked};
+    ghost use Rattle.cell_pool.specs.CellPools.{pool, pools, by_id, owned, IsCellPools, IsParked, TakesOut};
     ghost use Rattle.cell_pool.specs.CellPools.{parked_pool, parked_by_id, parked_owned};
 
     #[tactic(auto, unfolding(
@@ -64,14 +64,14 @@ impl CellPools {
     }
 
     /// The pool of this name.
-    pub fn find(&self, elements: &Elements, name: &Name) -> Option<CellId>
+    pub fn find(&self, elements: &Elements, name: &CellPoolName) -> Option<CellId>
         requires { IsCellPools elements.now self.now }
         ensures id { result ≡ option_map (λ p. p.id) (pool elements.now self.now name.now.bytes) }
         ensures there { IfSome result (λ id. IsSome (by_id elements.now self.now id)) }
     {
         let wanted = label_of_name(name);
         let count = self.table.count(elements);
-        let mut place = Place {
+        let mut place = TablePlace {
             index: 0,
             before: 0,
         };
@@ -80,7 +80,7 @@ impl CellPools {
             if has_label(row.stock.items, elements, wanted) {
                 return Some(row.id);
             }
-            place = Place {
+            place = TablePlace {
                 index: place.index + 1,
                 before: row.id,
             };
@@ -94,9 +94,9 @@ impl CellPools {
     pub fn build(
         &mut self,
         elements: &mut Elements,
-        name: &Name,
+        name: &CellPoolName,
         settings: CellSettings,
-        header: Option<Header>,
+        header: Option<CellPoolHeader>,
     ) -> CellId
         requires pools { IsCellPools elements.old self.old }
         requires absent { pool elements.old self.old name.now.bytes ≡ None }
@@ -151,18 +151,7 @@ impl CellPools {
     pub fn park_one(&mut self, elements: &mut Elements, id: CellId) -> ParkedCells
         requires pools { IsCellPools elements.old self.old }
         requires there { IsSome (by_id elements.old self.old id) }
-        ensures pools { IsCellPools elements.new self.new }
-        ensures parked { IsParked elements.new result }
-        ensures names { (n : List ℕ) → pool elements.new self.new n
-            ≡ all_but (is_of id) (pool elements.old self.old n) }
-        ensures ids { (i : ℕ) → by_id elements.new self.new i ≡ all_but (is_of id) (by_id elements.old self.old i) }
-        ensures names_out { (n : List ℕ) → parked_pool elements.new result n
-            ≡ only (is_of id) (pool elements.old self.old n) }
-        ensures ids_out { (i : ℕ) → parked_by_id elements.new result i
-            ≡ only (is_of id) (by_id elements.old self.old i) }
-        ensures apart { Apart (owned elements.new self.new) (parked_owned elements.new result) }
-        ensures owned { Leaves elements.old elements.new (owned elements.old self.old)
-            (owned elements.new self.new ++ parked_owned elements.new result) }
+        ensures takes { TakesOut (is_of id) elements.old elements.new self.old self.new result.pools }
         ensures spares { elements.new.spare ≡ elements.old.spare }
     {
         let place = self.place(elements, id);
@@ -177,23 +166,11 @@ impl CellPools {
     /// Takes all pools out that lie in a subpool, as [`CellPools::park_one`] takes one.
     pub fn park_pools(&mut self, elements: &mut Elements, subpool: Subpool) -> ParkedCells
         requires { IsCellPools elements.old self.old }
-        ensures pools { IsCellPools elements.new self.new }
-        ensures parked { IsParked elements.new result }
-        ensures names { (n : List ℕ) → pool elements.new self.new n
-            ≡ all_but (lies_in subpool) (pool elements.old self.old n) }
-        ensures ids { (i : ℕ) → by_id elements.new self.new i
-            ≡ all_but (lies_in subpool) (by_id elements.old self.old i) }
-        ensures names_out { (n : List ℕ) → parked_pool elements.new result n
-            ≡ only (lies_in subpool) (pool elements.old self.old n) }
-        ensures ids_out { (i : ℕ) → parked_by_id elements.new result i
-            ≡ only (lies_in subpool) (by_id elements.old self.old i) }
-        ensures apart { Apart (owned elements.new self.new) (parked_owned elements.new result) }
-        ensures owned { Leaves elements.old elements.new (owned elements.old self.old)
-            (owned elements.new self.new ++ parked_owned elements.new result) }
+        ensures takes { TakesOut (lies_in subpool) elements.old elements.new self.old self.new result.pools }
         ensures spares { elements.new.spare ≡ elements.old.spare }
     {
         let mut out = ListTable::new();
-        let mut place = Place {
+        let mut place = TablePlace {
             index: 0,
             before: 0,
         };
@@ -206,7 +183,7 @@ impl CellPools {
                 self.table
                     .move_row(elements, place.index, place.before, &mut out);
             } else {
-                place = Place {
+                place = TablePlace {
                     index: place.index + 1,
                     before: row.id,
                 };
@@ -255,7 +232,7 @@ impl CellPools {
     }
 
     // The place of the row of this id.
-    fn place(&self, elements: &Elements, id: CellId) -> Place
+    fn place(&self, elements: &Elements, id: CellId) -> TablePlace
         requires pools { IsCellPools elements.now self.now }
         requires there { IsSome (by_id elements.now self.now id) }
         ensures place { IsPlace elements.now self.now.table result.index result.before }
@@ -285,14 +262,14 @@ impl CellPools {
     }
 
     // The place of the row of this id, or that behind the last.
-    pub(crate) fn seek(&self, elements: &Elements, id: CellId) -> Place
+    pub(crate) fn seek(&self, elements: &Elements, id: CellId) -> TablePlace
         requires { IsCellPools elements.now self.now }
         ensures place { IsPlace elements.now self.now.table result.index result.before }
         ensures earlier { id_in id (pools_of (take result.index (entries elements.now self.now.table))) ≡ None }
         ensures here { IfSome (slice_get (entries elements.now self.now.table) result.index) (λ e. e.id ≡ id) }
     {
         let count = self.table.count(elements);
-        let mut place = Place {
+        let mut place = TablePlace {
             index: 0,
             before: 0,
         };
@@ -301,7 +278,7 @@ impl CellPools {
             if row.id == id {
                 break;
             }
-            place = Place {
+            place = TablePlace {
                 index: place.index + 1,
                 before: row.id,
             };

@@ -3,13 +3,13 @@
 ghost use Rattle.std.specs.Prelude.{◌≡◌, ◌↔◌, IsSome, IsTrue, IfSome, option_map, slice_get};
 ghost use Rattle.cell_pool.specs.Pools.{uses, Meets};
 
-use crate::pools::{CellPools, Place};
+use crate::pools::{CellPools, TablePlace};
 use cell_extents::extents::extent_at;
 use cell_extents::lists::label;
 use cell_extents::places::meets;
 use cell_extents::texts::{header_of, location_of, name_of, subpool_of};
 use cell_extents::used::is_noted;
-use cell_extents::{CellId, CellSettings, Extent, Header, Name};
+use cell_extents::{CellId, CellPoolHeader, CellPoolName, CellSettings, Extent};
 use list_table::items::item;
 use vsm_elements::Elements;
 
@@ -33,7 +33,7 @@ impl CellPools {
         ensures { IsTrue result ↔ Meets (pool elements.now self.now) start len }
     {
         let count = self.table.count(elements);
-        let mut place = Place {
+        let mut place = TablePlace {
             index: 0,
             before: 0,
         };
@@ -42,7 +42,7 @@ impl CellPools {
             if meets(&row.stock.places, elements, start, len) {
                 return true;
             }
-            place = Place {
+            place = TablePlace {
                 index: place.index + 1,
                 before: row.id,
             };
@@ -62,7 +62,7 @@ impl CellPools {
     }
 
     /// The pool's name.
-    pub fn name(&self, elements: &Elements, id: CellId) -> Name
+    pub fn name(&self, elements: &Elements, id: CellId) -> CellPoolName
         requires pools { IsCellPools elements.now self.now }
         requires there { IsSome (by_id elements.now self.now id) }
         ensures { IfSome (by_id elements.now self.now id) (λ p. result.bytes ≡ p.name) }
@@ -72,7 +72,7 @@ impl CellPools {
     }
 
     /// The pool's header; `None` where it was built without one.
-    pub fn header(&self, elements: &Elements, id: CellId) -> Option<Header>
+    pub fn header(&self, elements: &Elements, id: CellId) -> Option<CellPoolHeader>
         requires pools { IsCellPools elements.now self.now }
         requires there { IsSome (by_id elements.now self.now id) }
         ensures { IfSome (by_id elements.now self.now id) (λ p. option_map (λ h. h.items) result ≡ p.header) }

@@ -7,8 +7,8 @@ ghost use Rattle.explain_list.specs.declared.faults.ListFault.TheVariants as fau
 ghost use Rattle.explain_list.specs.Listing.{Listed, Checked, IsReached, ReachesLines, IsRest, Shows};
 
 use crate::faults::ListFault;
-use crate::listing::{Page, listing, rest_from, rest_line};
-use crate::pages::Form;
+use crate::listing::{ListingPage, listing, rest_from, rest_line};
+use crate::pages::ListingForm;
 use bench_core::Bench;
 use script_steps::{Session, TooLong, Watch};
 use std::alloc::Global;
@@ -30,7 +30,7 @@ fn check_lines<W: Write, P: Watch>(
     session: &mut Session,
     gathered: &mut Gathered,
     writer: &mut W,
-    page: &mut Page,
+    page: &mut ListingPage,
     script: &[u8],
     name: &[u8],
     watch: &mut P,
@@ -41,7 +41,7 @@ fn check_lines<W: Write, P: Watch>(
 {
     let mut at = 0;
     while at < script.len() {
-        match page.take_line(session, Form::Check(name), script, at) {
+        match page.take_line(session, ListingForm::Check(name), script, at) {
             Err(fault) => return Err(fault),
             Ok(None) => return Ok(at),
             Ok(Some(step)) => {
@@ -59,7 +59,7 @@ fn check_end<W: Write>(
     session: Session,
     gathered: &mut Gathered,
     writer: &mut W,
-    page: &mut Page,
+    page: &mut ListingPage,
     script: &[u8],
     name: &[u8],
     at: usize,
@@ -69,9 +69,9 @@ fn check_end<W: Write>(
     let before = session.stand();
     let line = rest_line(session.lines(), script, at);
     let ending = session.end();
-    page.compose_last(Form::Check(name), script, line, before, &ending);
+    page.compose_last(ListingForm::Check(name), script, line, before, &ending);
     gathered.put(writer, page.words());
-    page.compose_open(Form::Check(name), script, &ending);
+    page.compose_open(ListingForm::Check(name), script, &ending);
     gathered.put(writer, page.words());
     let is_refused = ending.totals.refused > 0;
     drop(ending);
@@ -96,7 +96,7 @@ fn check_rest<W: Write>(
     session: Session,
     gathered: &mut Gathered,
     writer: &mut W,
-    page: &mut Page,
+    page: &mut ListingPage,
     script: &[u8],
     name: &[u8],
     at: usize,
@@ -129,8 +129,8 @@ fn check_on<W: Write, P: Watch>(
 {
     let mut session = Session::new(bench);
     let mut gathered = Gathered::new();
-    let mut page = Page::new();
-    page.begin(Form::Check(name), script);
+    let mut page = ListingPage::new();
+    page.begin(ListingForm::Check(name), script);
     gathered.put(out, page.words());
     match check_lines(
         &mut session,

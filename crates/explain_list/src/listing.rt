@@ -11,10 +11,10 @@ ghost use Rattle.script_steps.specs.Taken.{Took};
 ghost use Rattle.explain_list.specs.Listing.{PutsItems, Lists, ListsLine, ListsLines, IsNext, IsRest, Stops, Listed};
 
 use crate::faults::ListFault;
-use crate::pages::{Form, add_file_warning, add_line, add_statement};
+use crate::pages::{ListingForm, add_file_warning, add_line, add_statement};
 use bench_core::Bench;
 use script_steps::{
-    Ending, Response, Session, Stand, Step, TooLong, Watch, put_behind, put_response,
+    Ending, ReaderState, Response, Session, Step, TooLong, Watch, put_behind, put_response,
 };
 use statement_faults::lines::{OpenLines, SourceLine};
 use statement_faults::roles::{Brought, Role, role_of};
@@ -35,21 +35,21 @@ fn brought_by(told: &Option<(u32, Response)>) -> Brought {
 
 /// What a listing carries from line to line: the lines of the statement that is open, and the words of a line.
 #[derive(Drop)]
-pub(crate) struct Page {
+pub(crate) struct ListingPage {
     open: OpenLines,
     words: Words,
 }
 
-impl Page {
-    pub(crate) fn new() -> Page {
-        Page {
+impl ListingPage {
+    pub(crate) fn new() -> ListingPage {
+        ListingPage {
             open: OpenLines::new(),
             words: Words::new(),
         }
     }
 
     /// The words that stand in front of the first line.
-    pub(crate) fn begin(&mut self, form: Form, script: &[u8]) {
+    pub(crate) fn begin(&mut self, form: ListingForm, script: &[u8]) {
         add_file_warning(&mut self.words, form, script);
     }
 
@@ -60,7 +60,7 @@ impl Page {
     /// Makes the words that stand in front of the answer that a line brings, or in place of one.
     fn compose(
         &mut self,
-        form: Form,
+        form: ListingForm,
         script: &[u8],
         line: SourceLine,
         role: Role,
@@ -81,7 +81,7 @@ impl Page {
     }
 
     /// Makes the words of the statement that is answered, whose last line has this role.
-    fn settle(&mut self, form: Form, script: &[u8], last: Role, brought: Brought) {
+    fn settle(&mut self, form: ListingForm, script: &[u8], last: Role, brought: Brought) {
         add_statement(
             &mut self.words,
             form,
@@ -96,10 +96,10 @@ impl Page {
     /// Makes the words of a last line without a line feed.
     pub(crate) fn compose_last(
         &mut self,
-        form: Form,
+        form: ListingForm,
         script: &[u8],
         line: SourceLine,
-        before: Stand,
+        before: ReaderState,
         ending: &Ending,
     ) {
         self.words.clear();
@@ -107,9 +107,9 @@ impl Page {
             return;
         }
         let after = if ending.open_statement.is_some() {
-            Stand::Gathering
+            ReaderState::Gathering
         } else {
-            Stand::Awaiting
+            ReaderState::Awaiting
         };
         let brought = brought_by(&ending.last);
         let role = role_of(before, after, brought);
@@ -117,7 +117,7 @@ impl Page {
     }
 
     /// Makes the words of the statement that is open at the end.
-    pub(crate) fn compose_open(&mut self, form: Form, script: &[u8], ending: &Ending) {
+    pub(crate) fn compose_open(&mut self, form: ListingForm, script: &[u8], ending: &Ending) {
         self.words.clear();
         if ending.open_statement.is_some() {
             let last = if self.open.as_slice().len() > 1 {
@@ -133,7 +133,7 @@ impl Page {
     pub(crate) fn take_line(
         &mut self,
         session: &mut Session,
-        form: Form,
+        form: ListingForm,
         script: &[u8],
         at: usize,
     ) -> Result<Option<Step>, TooLong>
@@ -260,7 +260,7 @@ fn list_line<W: Write>(
     session: &mut Session,
     gathered: &mut Gathered,
     writer: &mut W,
-    page: &mut Page,
+    page: &mut ListingPage,
     script: &[u8],
     at: usize,
 ) -> Result<Option<usize>, TooLong>
@@ -270,7 +270,7 @@ fn list_line<W: Write>(
         → ListsLine settings first (W.contents writer.new) gathered.new script.now at session.new result }
     ensures next { IsNext script.now at result }
 {
-    match page.take_line(session, Form::Listing, script, at) {
+    match page.take_line(session, ListingForm::Listing, script, at) {
         Err(fault) => Err(fault),
         Ok(None) => Ok(None),
         Ok(Some(step)) => {
@@ -292,7 +292,7 @@ fn list_lines<W: Write, P: Watch>(
     session: &mut Session,
     gathered: &mut Gathered,
     writer: &mut W,
-    page: &mut Page,
+    page: &mut ListingPage,
     script: &[u8],
     watch: &mut P,
 ) -> Result<usize, TooLong>
@@ -329,7 +329,7 @@ fn stop<W: Write>(gathered: &mut Gathered, writer: &mut W) -> Result<bool, ListF
 fn put_ending<W: Write>(
     gathered: &mut Gathered,
     writer: &mut W,
-    page: &mut Page,
+    page: &mut ListingPage,
     script: &[u8],
     ending: &Ending,
 )
@@ -341,7 +341,7 @@ fn put_ending<W: Write>(
     let shown = ending.shown.as_slice();
     put_words(gathered, writer, page.words());
     put_answer(gathered, writer, &ending.bench, shown, &ending.last);
-    page.compose_open(Form::Listing, script, ending);
+    page.compose_open(ListingForm::Listing, script, ending);
     put_words(gathered, writer, page.words());
     put_answer(
         gathered,
@@ -357,7 +357,7 @@ fn list_end<W: Write>(
     session: Session,
     gathered: &mut Gathered,
     writer: &mut W,
-    page: &mut Page,
+    page: &mut ListingPage,
     script: &[u8],
     at: usize,
 ) -> Result<bool, ListFault>
@@ -368,7 +368,7 @@ fn list_end<W: Write>(
     let before = session.stand();
     let line = rest_line(session.lines(), script, at);
     let ending = session.end();
-    page.compose_last(Form::Listing, script, line, before, &ending);
+    page.compose_last(ListingForm::Listing, script, line, before, &ending);
     put_ending(gathered, writer, page, script, &ending);
     let is_refused = ending.totals.refused > 0;
     drop(ending);
@@ -383,7 +383,7 @@ fn list_rest<W: Write>(
     session: Session,
     gathered: &mut Gathered,
     writer: &mut W,
-    page: &mut Page,
+    page: &mut ListingPage,
     script: &[u8],
     at: usize,
 ) -> Result<bool, ListFault>
@@ -416,8 +416,8 @@ fn list_on<W: Write, P: Watch>(
 {
     let mut session = Session::new(bench);
     let mut gathered = Gathered::new();
-    let mut page = Page::new();
-    page.begin(Form::Listing, script);
+    let mut page = ListingPage::new();
+    page.begin(ListingForm::Listing, script);
     put_words(&mut gathered, out, page.words());
     match list_lines(&mut session, &mut gathered, out, &mut page, script, watch) {
         Ok(at) => list_rest(session, &mut gathered, out, &mut page, script, at),

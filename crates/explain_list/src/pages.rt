@@ -17,7 +17,7 @@ const SHOWN: usize = 80;
 
 /// Where what is said goes: below the lines of a listing, or on lines of their own with the name of a file.
 #[derive(Clone, Copy)]
-pub(crate) enum Form<'a> {
+pub(crate) enum ListingForm<'a> {
     Listing,
     Check(&'a [u8]),
 }
@@ -33,18 +33,18 @@ fn add_position(words: &mut Words, name: &[u8], number: u32, column: usize) {
 }
 
 /// Appends the begin of a line that says something of a column: below that column, or with its place.
-fn add_front(words: &mut Words, form: Form, number: u32, column: usize) {
+fn add_front(words: &mut Words, form: ListingForm, number: u32, column: usize) {
     match form {
-        Form::Listing => {
+        ListingForm::Listing => {
             words.add_blanks(MARGIN);
             words.add_blanks(column.saturating_sub(1));
             words.add(b"^ ");
         }
-        Form::Check(name) => add_position(words, name, number, column),
+        ListingForm::Check(name) => add_position(words, name, number, column),
     }
 }
 
-fn add_warning(words: &mut Words, form: Form, number: u32, warned: Warned) {
+fn add_warning(words: &mut Words, form: ListingForm, number: u32, warned: Warned) {
     if let Some((column, warning)) = warned {
         add_front(words, form, number, column.min(SHOWN));
         words.add(b"WARNING: ");
@@ -53,16 +53,16 @@ fn add_warning(words: &mut Words, form: Form, number: u32, warned: Warned) {
     }
 }
 
-fn add_warnings(words: &mut Words, form: Form, number: u32, warnings: &[Warned]) {
+fn add_warnings(words: &mut Words, form: ListingForm, number: u32, warnings: &[Warned]) {
     for warned in warnings {
         add_warning(words, form, number, *warned);
     }
 }
 
 /// Appends what is wrong with the file as a whole.
-pub(crate) fn add_file_warning(words: &mut Words, form: Form, script: &[u8]) {
+pub(crate) fn add_file_warning(words: &mut Words, form: ListingForm, script: &[u8]) {
     if let Some(warning) = warning_on(script) {
-        if let Form::Check(name) = form {
+        if let ListingForm::Check(name) = form {
             add_position(words, name, 1, 1);
         }
         words.add(b"WARNING: ");
@@ -122,19 +122,19 @@ fn add_source(words: &mut Words, script: &[u8], line: &SourceLine, role: Role) {
 /// Appends a line, with its warnings.
 pub(crate) fn add_line(
     words: &mut Words,
-    form: Form,
+    form: ListingForm,
     script: &[u8],
     line: &SourceLine,
     role: Role,
 ) {
     match form {
-        Form::Listing => add_source(words, script, line, role),
-        Form::Check(name) if role.is_lost() => {
+        ListingForm::Listing => add_source(words, script, line, role),
+        ListingForm::Check(name) if role.is_lost() => {
             add_position(words, name, line.number, 1);
             add_loss(words, line_before(script, line).bytes(script), line.number);
             words.add(b"\n");
         }
-        Form::Check(_) => (),
+        ListingForm::Check(_) => (),
     }
     if role != Role::Aside {
         let warnings = warnings_in(line.bytes(script), role.is_read());
@@ -143,7 +143,7 @@ pub(crate) fn add_line(
 }
 
 /// Appends what is wrong with a statement and what is expected, where the caret stands.
-fn add_caret(words: &mut Words, form: Form, number: u32, caret: &Caret, kind: FaultKind) {
+fn add_caret(words: &mut Words, form: ListingForm, number: u32, caret: &Caret, kind: FaultKind) {
     add_front(words, form, number, caret.place.column);
     words.add(fault_word(kind).as_bytes());
     words.add(b": ");
@@ -165,7 +165,7 @@ fn role_at(index: usize, count: usize, last: Role) -> Role {
 /// Appends the lines of a statement that ends, the last of which has this role, with its caret where it brings a fault.
 pub(crate) fn add_statement(
     words: &mut Words,
-    form: Form,
+    form: ListingForm,
     script: &[u8],
     lines: &[SourceLine],
     last: Role,

@@ -192,7 +192,7 @@ fn name_of(word: &str) -> Result<About, WordRefusal<'_>>
 }
 
 /// A question with the script of which it's asked.
-type Asked<'a> = (Question<'a>, Option<&'a str>);
+type AskedOfScript<'a> = (Question<'a>, Option<&'a str>);
 
 /// The first value of an argument.
 fn text_of<'a>(matches: &ArgMatches<'a>, id: &str) -> Option<&'a str>
@@ -202,7 +202,7 @@ fn text_of<'a>(matches: &ArgMatches<'a>, id: &str) -> Option<&'a str>
 }
 
 /// What `list` asks.
-fn list_asked<'a>(matches: &ArgMatches<'a>) -> Asked<'a>
+fn list_asked<'a>(matches: &ArgMatches<'a>) -> AskedOfScript<'a>
     ensures askable { IsAskable result.0 }
     ensures file { IsOfFile (rows_of (found_of matches.now)) result.0 (option_map (λ s. s.now) result.1) }
 {
@@ -211,7 +211,7 @@ fn list_asked<'a>(matches: &ArgMatches<'a>) -> Asked<'a>
 }
 
 /// What `why` asks: of a line, or of an answer where what stands behind its first word is no line.
-fn why_asked<'a>(matches: &ArgMatches<'a>) -> Result<Asked<'a>, WordRefusal<'a>>
+fn why_asked<'a>(matches: &ArgMatches<'a>) -> Result<AskedOfScript<'a>, WordRefusal<'a>>
     ensures askable { IfOk result (λ a. IsAskable a.0) }
     ensures file { IfOk result (λ a. IsOfFile (rows_of (found_of matches.now)) a.0 (option_map (λ s. s.now) a.1)) }
 {
@@ -238,7 +238,7 @@ fn line_asked(word: Option<&str>) -> Result<Option<u32>, WordRefusal<'_>>
 }
 
 /// What `report` asks.
-fn report_asked<'a>(matches: &ArgMatches<'a>) -> Result<Asked<'a>, WordRefusal<'a>>
+fn report_asked<'a>(matches: &ArgMatches<'a>) -> Result<AskedOfScript<'a>, WordRefusal<'a>>
     ensures askable { IfOk result (λ a. IsAskable a.0) }
     ensures file { IfOk result (λ a. IsOfFile (rows_of (found_of matches.now)) a.0 (option_map (λ s. s.now) a.1)) }
 {
@@ -283,7 +283,7 @@ fn about_asked<'a>(matches: &ArgMatches<'a>) -> Result<About, WordRefusal<'a>>
 }
 
 /// What `who` asks.
-fn who_asked<'a>(matches: &ArgMatches<'a>) -> Result<Asked<'a>, WordRefusal<'a>>
+fn who_asked<'a>(matches: &ArgMatches<'a>) -> Result<AskedOfScript<'a>, WordRefusal<'a>>
     ensures askable { IfOk result (λ a. IsAskable a.0) }
     ensures file { IfOk result (λ a. IsOfFile (rows_of (found_of matches.now)) a.0 (option_map (λ s. s.now) a.1)) }
 {
@@ -299,7 +299,10 @@ fn who_asked<'a>(matches: &ArgMatches<'a>) -> Result<Asked<'a>, WordRefusal<'a>>
 }
 
 /// What the words of this command ask, or what is wrong with them.
-fn question_of<'a>(command: &str, matches: &ArgMatches<'a>) -> Result<Asked<'a>, WordRefusal<'a>>
+fn question_of<'a>(
+    command: &str,
+    matches: &ArgMatches<'a>,
+) -> Result<AskedOfScript<'a>, WordRefusal<'a>>
     ensures askable { IfOk result (λ a. IsAskable a.0) }
     ensures file { IfOk result (λ a. IsOfFile (rows_of (found_of matches.now)) a.0 (option_map (λ s. s.now) a.1)) }
 {

@@ -11,7 +11,7 @@ ghost use Rattle.explain_report.specs.Tallies.{tally_of, low_runs, high_runs};
 
 use crate::tallies::Tally;
 use crate::walks::{extents_of, free_areas_of};
-use storage_core::{PoolPlace, Residence, Storage, Subpool};
+use storage_core::{Residence, Storage, Subpool, SubpoolPlace};
 
 /// What a subpool has on one side of the 16 MB line.
 #[derive(Clone, Copy)]
@@ -35,7 +35,7 @@ pub struct SubpoolRow {
 }
 
 /// What the subpool before the place has.
-pub fn row_of(storage: &Storage, subpool: Subpool, place: PoolPlace) -> SubpoolRow
+pub fn row_of(storage: &Storage, subpool: Subpool, place: SubpoolPlace) -> SubpoolRow
     requires behind { IsBehindSubpool storage.now place }
     requires before { subpool_before storage.now place ≡ subpool }
     ensures subpool { result.subpool ≡ subpool }

@@ -3,7 +3,9 @@ use crate::faults::ReportFault;
 use crate::tables::{put_heading, put_moment, put_table};
 use crate::times::{Moment, moment_of};
 use bench_core::Bench;
-use script_steps::{Ending, Response, Session, Stand, Told, Watch, before_feed, put_response};
+use script_steps::{
+    Ending, NumberedResponse, ReaderState, Response, Session, Watch, before_feed, put_response,
+};
 use std::alloc::Global;
 use std::io::Write;
 use text_output::{Gathered, put_decimal};
@@ -18,9 +20,9 @@ fn new_session(alloc: Global, settings: Settings) -> Result<Session, ReportFault
 }
 
 /// Why there is no report behind a line that isn't answered, by where the reader stood before it.
-fn unanswered(before: Stand) -> ReportFault {
+fn unanswered(before: ReaderState) -> ReportFault {
     match before {
-        Stand::Dropping => ReportFault::Dropped,
+        ReaderState::Dropping => ReportFault::Dropped,
         _ => ReportFault::Aside,
     }
 }
@@ -31,7 +33,7 @@ fn take_to<P: Watch>(
     session: &mut Session,
     script: &[u8],
     line: u32,
-    last: &mut Told,
+    last: &mut NumberedResponse,
     watch: &mut P,
 ) -> Result<Option<usize>, ReportFault> {
     let mut at = 0;
@@ -48,7 +50,7 @@ fn take_to<P: Watch>(
         if answered {
             *last = step.told;
         }
-        if session.lines() >= line && session.stand() != Stand::Gathering {
+        if session.lines() >= line && session.stand() != ReaderState::Gathering {
             return if answered {
                 Ok(None)
             } else {
@@ -83,7 +85,12 @@ fn end_text<W: Write>(
 
 /// Puts the first line of a report: which statement it stands behind, and what that was answered, where these bytes are
 /// shown.
-fn put_first<W: Write>(gathered: &mut Gathered, writer: &mut W, shown: &[u8], told: &Told) {
+fn put_first<W: Write>(
+    gathered: &mut Gathered,
+    writer: &mut W,
+    shown: &[u8],
+    told: &NumberedResponse,
+) {
     match told {
         Some((line, response)) => {
             gathered.put(writer, b"line ");
@@ -100,7 +107,7 @@ fn put_first<W: Write>(gathered: &mut Gathered, writer: &mut W, shown: &[u8], to
 fn write_report<W: Write>(
     bench: &Bench,
     shown: &[u8],
-    told: &Told,
+    told: &NumberedResponse,
     out: &mut W,
 ) -> Result<(), ReportFault> {
     let mut gathered = Gathered::new();
@@ -115,7 +122,7 @@ fn write_report<W: Write>(
 fn report_end<W: Write>(
     ending: &Ending,
     has_line: bool,
-    last: &Told,
+    last: &NumberedResponse,
     out: &mut W,
 ) -> Result<(), ReportFault> {
     let told = if ending.open_statement.is_some() {
@@ -136,7 +143,7 @@ fn take_script<P: Watch>(
     session: &mut Session,
     script: &[u8],
     line: Option<u32>,
-    last: &mut Told,
+    last: &mut NumberedResponse,
     watch: &mut P,
 ) -> Result<bool, ReportFault> {
     if line == Some(0) {
@@ -157,7 +164,7 @@ fn report_on<W: Write, P: Watch>(
     session: Session,
     script: &[u8],
     line: Option<u32>,
-    last: &mut Told,
+    last: &mut NumberedResponse,
     out: &mut W,
     watch: &mut P,
 ) -> Result<(), ReportFault> {
@@ -201,7 +208,12 @@ fn changes(response: &Response) -> bool {
     match response {
         Response::Replied(Reply::Stored | Reply::Turn(_)) => false,
         Response::Replied(_) | Response::Kept(_) => true,
-        _ => false,
+        Response::Refused(_)
+        | Response::TooFar(_)
+        | Response::TooFarAhead(_)
+        | Response::Shown
+        | Response::Map
+        | Response::Fault(_) => false,
     }
 }
 
@@ -211,7 +223,7 @@ fn put_answer<W: Write>(
     out: &mut W,
     bench: &Bench,
     moment: Moment,
-    told: &Told,
+    told: &NumberedResponse,
 ) -> Moment {
     let Some((line, response)) = told else {
         return moment;

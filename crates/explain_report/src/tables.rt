@@ -7,7 +7,7 @@ use crate::tallies::Tally;
 use crate::times::Moment;
 use itoa::Buffer;
 use std::io::Write;
-use storage_core::{PoolPlace, Storage, Subpool};
+use storage_core::{Storage, Subpool, SubpoolPlace};
 use text_output::{Gathered, put_decimal, put_hexadecimal};
 use vsm_model::geometry::PAGE_BYTES;
 
@@ -117,7 +117,7 @@ fn put_row<W: Write>(
     writer: &mut W,
     storage: &Storage,
     subpool: Subpool,
-    place: PoolPlace,
+    place: SubpoolPlace,
 )
     requires behind { IsBehindSubpool storage.now place }
     requires before { subpool_before storage.now place ≡ subpool }

@@ -9,11 +9,11 @@ ghost use Rattle.explain_report.specs.Tallies.{tally_of, with_runs, low_runs, hi
 
 use crate::tallies::{SideTallies, Tally};
 use storage_changes::maps::totals_are_sums;
-use storage_core::{PoolPlace, Storage};
+use storage_core::{Storage, SubpoolPlace};
 use vsm_model::geometry::{LINE_DOUBLEWORD, LINE_PAGE};
 
 /// The extents of the subpool before the place, in pages.
-pub(crate) fn extents_of(storage: &Storage, subpool_place: PoolPlace) -> SideTallies
+pub(crate) fn extents_of(storage: &Storage, subpool_place: SubpoolPlace) -> SideTallies
     requires { IsBehindSubpool storage.now subpool_place }
     ensures low { result.low ≡ tally_of (low_runs 4096
         (extents (state_in_place storage.now).subpools (subpool_before storage.now subpool_place))) }
@@ -30,7 +30,7 @@ pub(crate) fn extents_of(storage: &Storage, subpool_place: PoolPlace) -> SideTal
 }
 
 /// The free areas of the subpool before the place, in doublewords.
-pub(crate) fn free_areas_of(storage: &Storage, subpool_place: PoolPlace) -> SideTallies
+pub(crate) fn free_areas_of(storage: &Storage, subpool_place: SubpoolPlace) -> SideTallies
     requires { IsBehindSubpool storage.now subpool_place }
     ensures low { result.low ≡ tally_of (low_runs 2097152
         (free_areas (state_in_place storage.now).subpools (subpool_before storage.now subpool_place))) }
@@ -61,7 +61,7 @@ pub fn unassigned(storage: &Storage) -> SideTallies
 }
 
 /// The runs with the free areas of the subpool before the place behind them.
-fn with_free_areas(storage: &Storage, subpool_place: PoolPlace, before: Tally) -> Tally
+fn with_free_areas(storage: &Storage, subpool_place: SubpoolPlace, before: Tally) -> Tally
     requires behind { IsBehindSubpool storage.now subpool_place }
     requires total { before.total + numbers_in
         (free_areas (state_in_place storage.now).subpools (subpool_before storage.now subpool_place)) < 2 ^ 32 }

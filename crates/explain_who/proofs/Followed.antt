@@ -24,7 +24,7 @@ use Rattle.script_steps.proofs.Standings.{stands_for}
 use Rattle.explain_who.specs.Lined.{unlined, plain, lined_with, lined_after, lined_all, differences_along, standing_differences}
 use Rattle.explain_who.specs.Notes.{with_told}
 use Rattle.explain_who.specs.Readings.{reading, same}
-use Rattle.explain_who.specs.declared.readings.Asked.{Asked as AskedOf}
+use Rattle.explain_who.specs.declared.readings.Subject.{Subject as AskedOf}
 use Rattle.explain_who.specs.Traced.{IsFound, IsTraced}
 use Rattle.explain_who.specs.Who.{Difference, unless, differences_of}
 use Rattle.explain_who.specs.declared.tracing.Traced.{Traced}

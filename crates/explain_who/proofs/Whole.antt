@@ -14,13 +14,13 @@ use Rattle.script_steps.specs.declared.session.Session.{Session}
 use Rattle.explain_who.specs.Notes.{IsNextLine}
 use Rattle.explain_who.specs.Readings.{reading}
 use Rattle.explain_who.specs.Traced.{Follows, FollowsLine}
-use Rattle.explain_who.specs.declared.readings.Asked.{Asked as AskedOf}
+use Rattle.explain_who.specs.declared.readings.Subject.{Subject as AskedOf}
 use Rattle.explain_who.specs.declared.readings.Seen.{Seen}
 
 -- What is read of a new bench.
 pub first_read : (settings : Settings) (asked : Option AskedOf) (bench : Bench) (seen : Seen) → IsNew settings (Ok bench) →
     seen ≡ reading (settings_in bench) asked (bench_of bench).present → seen ≡ reading settings asked first_named_state
-first_read settings asked bench seen (valid, at, under) is =
+first_read settings asked bench seen (valid, at, under, small) is =
     is ∙ ap (λ k. reading k asked (bench_of bench).present) under ∙ ap (λ (b : PlainBench NamedState). reading settings asked b.present) at
 
 -- One line more is followed.

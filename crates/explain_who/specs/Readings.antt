@@ -11,8 +11,8 @@ use Rattle.bench_core.specs.Stands.{bench_of, settings_in}
 use Rattle.bench_core.specs.declared.bench.Bench.{Bench}
 use Rattle.explain_who.specs.Holdings.{holding_of, same_holding}
 use Rattle.explain_who.specs.declared.holdings.Holding.{Holding}
-use Rattle.explain_who.specs.declared.readings.Asked.{Asked}
-use Rattle.explain_who.specs.declared.readings.Asked.TheVariants as asked
+use Rattle.explain_who.specs.declared.readings.Subject.{Subject}
+use Rattle.explain_who.specs.declared.readings.Subject.TheVariants as asked
 use Rattle.explain_who.specs.declared.readings.Seen.{Seen}
 use Rattle.explain_who.specs.declared.readings.Seen.TheVariants as seen
 
@@ -29,7 +29,7 @@ abbrev pub holding_read : Settings → Subpool → NamedState → Option Holding
 holding_read settings p m = if is_task m.storage p.owner then Some (holding_of settings m.storage p) else None
 
 -- what is asked for, as it is in a state
-abbrev pub reading : Settings → Option Asked → NamedState → Seen
+abbrev pub reading : Settings → Option Subject → NamedState → Seen
 reading settings None m = seen.Nothing
 reading settings (Some (asked.Bytes address count)) m = seen.Bytes (bytes_read address count m)
 reading settings (Some (asked.Register task register)) m = seen.Register (register_read task register m)
@@ -38,7 +38,7 @@ reading settings (Some (asked.Subpool p)) m = seen.Held (holding_read settings p
 reading settings (Some (asked.Holder address)) m = seen.Holder (m.storage.pages (address / 4096))
 
 -- as it is in the state of a bench
-abbrev pub read_of : Bench → Option Asked → Seen
+abbrev pub read_of : Bench → Option Subject → Seen
 read_of bench asked = reading (settings_in bench) asked (bench_of bench).present
 
 abbrev pub same_word : Option ℕ → Option ℕ → Bool

@@ -15,19 +15,19 @@ use Rattle.explain_who.specs.Notes.{IsNextLine}
 use Rattle.explain_who.specs.Readings.{reading}
 use Rattle.explain_who.specs.Who.{Difference}
 use Rattle.explain_who.specs.declared.faults.WhoFault.{WhoFault}
-use Rattle.explain_who.specs.declared.readings.Asked.{Asked}
+use Rattle.explain_who.specs.declared.readings.Subject.{Subject}
 use Rattle.explain_who.specs.declared.readings.Seen.{Seen}
 use Rattle.explain_who.specs.declared.tracing.Traced.{Traced}
 
 -- The trail has the statements that stand by the definition after these answers, and those that are undone, each with
 -- its line and what is read behind it.
-abbrev pub Follows : Settings → Option Asked → List Marked → Trail Seen → Type 0
+abbrev pub Follows : Settings → Option Subject → List Marked → Trail Seen → Type 0
 Follows settings asked answers trail =
     marks.Follows first_named_state (statement_step settings) (reading settings asked)
     (lined_all settings nothing_stands answers) (marks_of trail)
 
 -- What a line brought is followed; or nothing was taken.
-abbrev pub FollowsLine : Settings → Option Asked → List ℕ → ℕ → List Marked → Session → Trail Seen
+abbrev pub FollowsLine : Settings → Option Subject → List ℕ → ℕ → List Marked → Session → Trail Seen
     → Result (Option ℕ) WhoFault → Type 0
 FollowsLine settings asked script at answers s trail (Ok (Some next)) =
     (more : List Marked) × Took settings (take next script) (answers ++ more) s
@@ -37,21 +37,21 @@ FollowsLine settings asked script at answers s trail (Ok None) =
 FollowsLine settings asked script at answers s trail (Err fault) = Unit {0}
 
 -- A line from a place on is followed, where what stands before it is: where the next begins, and what it brought.
-pub record IsLineFollowed (asked : Option Asked) (script : List ℕ) (at : ℕ) (old new : Session) (t u : Trail Seen)
+pub record IsLineFollowed (asked : Option Subject) (script : List ℕ) (at : ℕ) (old new : Session) (t u : Trail Seen)
     (r : Result (Option ℕ) WhoFault) : Type 0 where
   pub place : IsNextLine script at r
   pub follows : (settings : Settings) (answers : List Marked) → Took settings (take at script) answers old
       → Follows settings asked answers t → FollowsLine settings asked script at answers new u r
 
 -- What stands behind the last line feed is followed to the script's end, where what stands before it is.
-abbrev pub IsEndFollowed : Option Asked → List ℕ → Session → Trail Seen → Trail Seen → Result ℕ WhoFault → Type 0
+abbrev pub IsEndFollowed : Option Subject → List ℕ → Session → Trail Seen → Trail Seen → Result ℕ WhoFault → Type 0
 IsEndFollowed asked rest s t u r =
     (settings : Settings) (given : List ℕ) (answers : List Marked) → Took settings given answers s
     → Follows settings asked answers t
     → OnOk r ((all : List Marked) × Ended settings (given ++ rest) all × Follows settings asked all u)
 
 -- A whole script is followed: its answers, what is read first, and its trail.
-pub record IsTraced (settings : Settings) (script : List ℕ) (asked : Option Asked) (t : Traced) : Type 0 where
+pub record IsTraced (settings : Settings) (script : List ℕ) (asked : Option Subject) (t : Traced) : Type 0 where
   pub answers : List Marked
   pub ended : Ended settings script answers
   pub first : t.first ≡ reading settings asked first_named_state
@@ -59,7 +59,7 @@ pub record IsTraced (settings : Settings) (script : List ℕ) (asked : Option As
 
 -- These lines are named: just those at whose statements the reading differs between the standing statements up to
 -- them and those before them, with both readings.
-abbrev pub IsFound : Settings → List ℕ → Option Asked → List Difference → Type 0
+abbrev pub IsFound : Settings → List ℕ → Option Subject → List Difference → Type 0
 IsFound settings script asked found =
     (answers : List Marked) × Ended settings script answers
     × (found ≡ standing_differences settings (reading settings asked) answers)

@@ -6,7 +6,7 @@ ghost use Rattle.explain_who.specs.Readings.{same};
 ghost use Rattle.explain_who.specs.Who.{unless, differences_of};
 ghost use Rattle.explain_who.specs.Code.{difference_in};
 ghost use Rattle.explain_who.specs.Traced.{IsFound, IsTraced};
-ghost use Rattle.explain_who.specs.declared.readings.Asked.{Asked};
+ghost use Rattle.explain_who.specs.declared.readings.Subject.{Subject};
 
 use crate::readings::{Seen, same};
 use crate::tracing::Traced;
@@ -65,7 +65,7 @@ fn differences<'a>(
 pub fn changes(alloc: Global, traced: &Traced) -> Result<Vec<NamedChange<'_>>, AllocError>
     ensures trail { IfOk result (λ found. map difference_in found.items ≡ differences_of traced.now.first
         (take (marks_of traced.now.trail).standing (marks_of traced.now.trail).entries)) }
-    ensures standing { IfOk result (λ found. (settings : Settings) (script : List ℕ) (asked : Option Asked)
+    ensures standing { IfOk result (λ found. (settings : Settings) (script : List ℕ) (asked : Option Subject)
         → IsTraced settings script asked traced.now → IsFound settings script asked (map difference_in found.items)) }
 {
     differences(alloc, &traced.first, traced.trail.standing())

@@ -15,5 +15,5 @@ pub use faults::WhoFault;
 pub use found::{NamedChange, changes};
 pub use holdings::{Holding, Runs};
 pub use output::{log, who};
-pub use readings::{Asked, Seen};
+pub use readings::{Seen, Subject};
 pub use tracing::{Traced, follow};

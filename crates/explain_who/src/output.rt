@@ -2,7 +2,7 @@
 
 use crate::faults::WhoFault;
 use crate::found::{NamedChange, changes};
-use crate::readings::{Asked, Seen};
+use crate::readings::{Seen, Subject};
 use crate::texts::{put_count, put_line, put_seen};
 use crate::tracing::{Traced, follow};
 use crate::trail::TrailEntry;
@@ -41,9 +41,9 @@ fn put_looked<W: Write>(gathered: &mut Gathered, writer: &mut W, changes: usize,
 }
 
 /// Whether so much can be asked for.
-fn is_valid(asked: &Asked) -> bool {
+fn is_valid(asked: &Subject) -> bool {
     match asked {
-        Asked::Bytes { count, .. } => *count >= 1 && *count <= 256,
+        Subject::Bytes { count, .. } => *count >= 1 && *count <= 256,
         _ => true,
     }
 }
@@ -57,12 +57,12 @@ fn is_absent(seen: &Seen) -> bool {
 }
 
 /// What is said where what is asked for isn't there in any reading, and has to be: the task, or the name.
-fn missing(asked: Asked) -> Option<WhoFault> {
+fn missing(asked: Subject) -> Option<WhoFault> {
     match asked {
-        Asked::Register { task, .. } => Some(WhoFault::NoTask(task)),
-        Asked::Subpool(subpool) => Some(WhoFault::NoTask(subpool.owner)),
-        Asked::Name(name) => Some(WhoFault::NoName(name)),
-        Asked::Bytes { .. } | Asked::Holder(_) => None,
+        Subject::Register { task, .. } => Some(WhoFault::NoTask(task)),
+        Subject::Subpool(subpool) => Some(WhoFault::NoTask(subpool.owner)),
+        Subject::Name(name) => Some(WhoFault::NoName(name)),
+        Subject::Bytes { .. } | Subject::Holder(_) => None,
     }
 }
 
@@ -71,7 +71,7 @@ fn write_found<W: Write>(
     script: &[u8],
     traced: &Traced,
     found: &[NamedChange<'_>],
-    asked: Asked,
+    asked: Subject,
     out: &mut W,
 ) -> Result<(), WhoFault> {
     if found.is_empty() && is_absent(&traced.first) {
@@ -99,7 +99,7 @@ fn write_changes<W: Write>(
     alloc: Global,
     script: &[u8],
     traced: &Traced,
-    asked: Asked,
+    asked: Subject,
     out: &mut W,
 ) -> Result<(), WhoFault> {
     let found = changes(alloc, traced)?;
@@ -116,7 +116,7 @@ pub fn who<W: Write, P: Watch>(
     alloc: Global,
     script: &[u8],
     settings: Settings,
-    asked: Asked,
+    asked: Subject,
     out: &mut W,
     watch: &mut P,
 ) -> Result<(), WhoFault> {

@@ -13,7 +13,7 @@ use vsm_model::{Cause, Subpool};
 
 /// What is asked for.
 #[derive(Clone, Copy)]
-pub enum Asked {
+pub enum Subject {
     /// Bytes from an address on: 256 at most are read.
     Bytes { address: u32, count: u16 },
     /// The word of a register of a task.
@@ -102,18 +102,18 @@ fn read_holder(bench: &Bench, address: u32) -> Option<Subpool>
 }
 
 /// What is read of a bench as it is.
-pub(crate) fn read(bench: &Bench, asked: &Option<Asked>) -> Seen
+pub(crate) fn read(bench: &Bench, asked: &Option<Subject>) -> Seen
     ensures { result ≡ reading (settings_in bench.now) asked.now (bench_of bench.now).present }
 {
     match asked {
         None => Seen::Nothing,
-        Some(Asked::Bytes { address, count }) => Seen::Bytes(read_bytes(bench, *address, *count)),
-        Some(Asked::Register { task, register }) => {
+        Some(Subject::Bytes { address, count }) => Seen::Bytes(read_bytes(bench, *address, *count)),
+        Some(Subject::Register { task, register }) => {
             Seen::Register(read_register(bench, *task, *register))
         }
-        Some(Asked::Name(name)) => Seen::Name(bench.name(name)),
-        Some(Asked::Subpool(subpool)) => Seen::Held(read_holding(bench, *subpool)),
-        Some(Asked::Holder(address)) => Seen::Holder(read_holder(bench, *address)),
+        Some(Subject::Name(name)) => Seen::Name(bench.name(name)),
+        Some(Subject::Subpool(subpool)) => Seen::Held(read_holding(bench, *subpool)),
+        Some(Subject::Holder(address)) => Seen::Holder(read_holder(bench, *address)),
     }
 }
 

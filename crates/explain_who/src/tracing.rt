@@ -7,7 +7,7 @@ ghost use Rattle.explain_who.specs.Notes.{with_told};
 ghost use Rattle.explain_who.specs.Traced.{IsEndFollowed, IsLineFollowed, IsTraced};
 
 use crate::faults::WhoFault;
-use crate::readings::{Asked, Seen, read};
+use crate::readings::{Seen, Subject, read};
 use crate::trail::Trail;
 use script_steps::{Bench, Response, Session, Watch};
 use std::alloc::{AllocError, Global};
@@ -30,7 +30,7 @@ pub struct Traced {
 fn note(
     trail: &mut Trail<Seen>,
     bench: &Bench,
-    asked: &Option<Asked>,
+    asked: &Option<Subject>,
     before: u32,
     told: &Option<(u32, Response)>,
 ) -> Result<(), AllocError>
@@ -43,7 +43,18 @@ fn note(
             trail.stepped(before, *after);
             Ok(())
         }
-        _ => Ok(()),
+        None
+        | Some(
+            (
+                _,
+                Response::Refused(_)
+                | Response::TooFar(_)
+                | Response::TooFarAhead(_)
+                | Response::Shown
+                | Response::Map
+                | Response::Fault(_),
+            ),
+        ) => Ok(()),
     }
 }
 
@@ -60,7 +71,7 @@ fn follow_at(
     trail: &mut Trail<Seen>,
     script: &[u8],
     at: usize,
-    asked: &Option<Asked>,
+    asked: &Option<Subject>,
 ) -> Result<Option<usize>, WhoFault>
     requires { at ≤ length script.now }
     ensures { IsLineFollowed asked.now script.now at session.old session.new trail.old trail.new result }
@@ -84,7 +95,7 @@ fn follow_line(
     starts: &mut Vec<usize>,
     script: &[u8],
     at: usize,
-    asked: &Option<Asked>,
+    asked: &Option<Subject>,
 ) -> Result<Option<usize>, WhoFault>
     requires { at ≤ length script.now }
     ensures { IsLineFollowed asked.now script.now at session.old session.new trail.old trail.new result }
@@ -100,7 +111,7 @@ fn follow_end(
     session: Session,
     trail: &mut Trail<Seen>,
     rest: &[u8],
-    asked: &Option<Asked>,
+    asked: &Option<Subject>,
 ) -> Result<u32, WhoFault>
     requires { NoFeed rest.now }
     ensures { IsEndFollowed asked.now rest.now session trail.old trail.new result }
@@ -149,7 +160,7 @@ pub fn follow<P: Watch>(
     alloc: Global,
     script: &[u8],
     settings: Settings,
-    asked: &Option<Asked>,
+    asked: &Option<Subject>,
     watch: &mut P,
 ) -> Result<Traced, WhoFault>
     ensures { IfOk result (IsTraced settings script.now asked.now) }

@@ -10,7 +10,7 @@ use Rattle.vsm_model.specs.Names.{NamedState}
 use Rattle.vsm_model.specs.Standing.{nothing_stands}
 use Rattle.macro_reader.specs.Roles.{IsStand}
 use Rattle.macro_reader.specs.Scripts.{Between, Mode, awaiting, dropping, gathering}
-use Rattle.macro_reader.specs.declared.reading.Stand.TheVariants as stand
+use Rattle.macro_reader.specs.declared.reading.ReaderState.TheVariants as stand
 use Rattle.macro_statements.specs.Requests.{Asked, asked_in, act, peek, map_asked, back, forward}
 use Rattle.bench_core.specs.Stands.{bench_of, settings_in}
 use Rattle.script_steps.specs.Output.{Marked, alone_now, stands_all}
@@ -29,10 +29,10 @@ use Rattle.cause_reasons.specs.Words.{Words, cause_words}
 use Rattle.cause_reasons.proofs.OneOf.{one_then}
 use Rattle.explain_why.specs.Explained.{IsExplained, IsFound, IsLineStart, IsPlaceOf, IsStatementAt, TakesLine, WritesAhead, WritesOneOf, WritesRequest}
 use Rattle.explain_why.specs.Told.{TellsAhead, TellsRequest}
-use Rattle.explain_why.specs.declared.ahead.Asked as ahead
-use Rattle.explain_why.specs.declared.ahead.Asked.TheVariants as variant
+use Rattle.explain_why.specs.declared.ahead.NextStatement as ahead
+use Rattle.explain_why.specs.declared.ahead.NextStatement.TheVariants as variant
 use Rattle.explain_why.specs.declared.faults.WhyFault.{WhyFault}
-use Rattle.explain_why.specs.declared.lines.Place.{Place}
+use Rattle.explain_why.specs.declared.lines.LinePlace.{LinePlace}
 
 -- ---- what stands before a line is whole lines
 
@@ -75,7 +75,7 @@ awaits awaiting h = refl
 awaits dropping h = absurd (let f : stand.Awaiting ≡ stand.Dropping = h in cc)
 awaits (gathering n card j count) h = absurd (let f : stand.Awaiting ≡ stand.Gathering = h in cc)
 
-pub place_found : (s : Session) (script : List ℕ) (at line first : ℕ) (r : Result (Option Place) WhyFault) → first ≡ s.lines + 1 → IsStand s.reader.mode stand.Awaiting →
+pub place_found : (s : Session) (script : List ℕ) (at line first : ℕ) (r : Result (Option LinePlace) WhyFault) → first ≡ s.lines + 1 → IsStand s.reader.mode stand.Awaiting →
     IfOk r (λ found. IfSome found (IsStatementAt script at first line)) → IfOk r (λ found. IfSome found (IsPlaceOf s script at line))
 place_found s script at line first (Ok (Some place)) is stands found =
     record { awaits = awaits s.reader.mode stands; statement = subst (λ n. IsStatementAt script at n line place) is found }
@@ -98,7 +98,7 @@ line_taken script at old new told step is place brings =
     }
 
 -- the statement is found there
-pub found_at : (settings : Settings) (script : List ℕ) (at line : ℕ) (s : Session) (place : Place) → IsPlaceOf s script at line place → IsLineStart script at →
+pub found_at : (settings : Settings) (script : List ℕ) (at line : ℕ) (s : Session) (place : LinePlace) → IsPlaceOf s script at line place → IsLineStart script at →
     ((answers : List Marked) × Took settings (take at script) answers s) → IsFound settings script line s place
 found_at settings script at line s place its start (answers, took) =
     let same = sym its.statement.begins in
@@ -135,7 +135,7 @@ request_written settings m map_asked old now later new a b c none told some fini
 request_written settings m (back n) old now later new a b c none told some finish = tt
 request_written settings m (forward n) old now later new a b c none told some finish = tt
 
-pub ahead_written : (settings : Settings) (m : NamedState) (x : ahead.Asked) (old now later new : Option (List ℕ)) (a b c : Gathered) → IsEmpty a →
+pub ahead_written : (settings : Settings) (m : NamedState) (x : ahead.NextStatement) (old now later new : Option (List ℕ)) (a b c : Gathered) → IsEmpty a →
     TellsAhead settings m x old now a b → PutsSome now later b c →
     ((first : Option (List ℕ)) (text : List ℕ) → Holds first later c text → Appends first new text) → WritesAhead settings m x old new
 ahead_written settings m (variant.Request request) old now later new a b c none told some finish =
@@ -150,7 +150,7 @@ pub on_ok : {X E : Type 0} (P Q : Type 0) (r : Result X E) → (P → Q) → OnO
 on_ok P Q (Ok x) f h = f h
 on_ok P Q (Err e) f h = h
 
-pub explained : (settings : Settings) (script : List ℕ) (line : ℕ) (s : Session) (place : Place) (old new : Option (List ℕ)) → place.at ≤ length script →
+pub explained : (settings : Settings) (script : List ℕ) (line : ℕ) (s : Session) (place : LinePlace) (old new : Option (List ℕ)) → place.at ≤ length script →
     IsFound settings script line s place → WritesAhead (settings_in s.bench) (bench_of s.bench).present place.ahead.asked old new →
     IsExplained settings script line old new
 explained settings script line s place old new inside found told =

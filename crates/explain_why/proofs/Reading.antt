@@ -11,8 +11,8 @@ use Rattle.macro_statements.specs.Requests.{asked_in}
 use Rattle.script_steps.specs.Script.{NoFeed, columns, with_feed}
 use Rattle.script_steps.proofs.Feeds.{each_push}
 use Rattle.explain_why.specs.Ahead.{AreFirst, BeginsWith, Brought, HasLines, IsAhead, IsBegun, IsReadAs, IsStatement}
-use Rattle.explain_why.specs.declared.ahead.Asked as ahead
-use Rattle.explain_why.specs.declared.ahead.Asked.TheVariants as variant
+use Rattle.explain_why.specs.declared.ahead.NextStatement as ahead
+use Rattle.explain_why.specs.declared.ahead.NextStatement.TheVariants as variant
 
 -- ---- the first line
 
@@ -136,7 +136,7 @@ module _ (text rest : List ℕ) (count size : ℕ) (kept new : Kept) (line : Lin
   }
 
   -- The line ends the statement;
-  pub told_ahead : (asked : ahead.Asked) → Brought (h.lines ++ line ∷ []) new (Some asked) → IsAhead text (record { asked = asked; lines = count })
+  pub told_ahead : (asked : ahead.NextStatement) → Brought (h.lines ++ line ∷ []) new (Some asked) → IsAhead text (record { asked = asked; lines = count })
   told_ahead (variant.Request request) ((n, b), valid) = record {
     lines = h.lines ++ line ∷ [];
     behind = stands.0;

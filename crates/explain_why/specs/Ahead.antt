@@ -8,8 +8,8 @@ use Rattle.macro_reader.specs.Scripts.{Kept, IsBehind, awaiting}
 use Rattle.macro_statements.specs.Requests.{Asked, asked_in, IsValidAsked}
 use Rattle.script_steps.specs.Script.{NoFeed, columns, with_feed}
 use Rattle.explain_why.specs.declared.ahead.Ahead.{Ahead}
-use Rattle.explain_why.specs.declared.ahead.Asked as ahead
-use Rattle.explain_why.specs.declared.ahead.Asked.TheVariants as variant
+use Rattle.explain_why.specs.declared.ahead.NextStatement as ahead
+use Rattle.explain_why.specs.declared.ahead.NextStatement.TheVariants as variant
 
 -- A text begins with these lines, each with its line feed, and this stands behind them.
 pub record BeginsWith (text : List ℕ) (lines : List Line) (behind : List ℕ) : Type 0 where
@@ -55,7 +55,7 @@ pub record IsOpen (lines : List Line) (behind : List ℕ) : Type 0 where
   pub ends : (behind ≡ []) ⊎ (length lines ≡ 10)
 
 -- What these lines ask for, behind which this stands; of a comment or an empty line nothing is said here.
-abbrev pub Asks : List Line → List ℕ → ahead.Asked → Type 0
+abbrev pub Asks : List Line → List ℕ → ahead.NextStatement → Type 0
 Asks lines behind (variant.Request request) =
     IsStatement lines (Ok (asked_in request)) × IsValidAsked (asked_in request)
 Asks lines behind (variant.Fault kind) = IsStatement lines (Err kind)
@@ -72,7 +72,7 @@ pub record IsAhead (text : List ℕ) (a : Ahead) : Type 0 where
 
 -- What the last of these lines brought to a reader that gave no answer to those before it; where it brought nothing a
 -- statement is open.
-abbrev pub Brought : List Line → Kept → Option ahead.Asked → Type 0
+abbrev pub Brought : List Line → Kept → Option ahead.NextStatement → Type 0
 Brought lines kept None = IsBehind lines [] kept × (kept.mode ≡ awaiting → ⊥)
 Brought lines kept (Some (variant.Request request)) =
     ((number : ℕ) × IsBehind lines (record { line = number; what = Ok (asked_in request) } ∷ []) kept)

@@ -20,9 +20,9 @@ use Rattle.script_steps.specs.Taken.{Took, answers_of}
 use Rattle.script_steps.specs.declared.session.Session.{Session}
 use Rattle.cause_reasons.specs.Words.{Words, cause_words}
 use Rattle.explain_why.specs.Ahead.{AreFirst, Asks, IsAhead}
-use Rattle.explain_why.specs.declared.ahead.Asked as ahead
-use Rattle.explain_why.specs.declared.ahead.Asked.TheVariants as variant
-use Rattle.explain_why.specs.declared.lines.Place.{Place}
+use Rattle.explain_why.specs.declared.ahead.NextStatement as ahead
+use Rattle.explain_why.specs.declared.ahead.NextStatement.TheVariants as variant
+use Rattle.explain_why.specs.declared.lines.LinePlace.{LinePlace}
 
 -- What a writer holds grows by a text in which one of these stands.
 abbrev pub WritesOneOf : Words → Option (List ℕ) → Option (List ℕ) → Type 0
@@ -43,7 +43,7 @@ abbrev pub WritesRequest : Settings → NamedState → Asked → Option (List �
 WritesRequest settings m (act x) old new = IsValidAct x → WritesFirstCause settings m x old new
 WritesRequest settings m _ old new = Unit {0}
 
-abbrev pub WritesAhead : Settings → NamedState → ahead.Asked → Option (List ℕ) → Option (List ℕ) → Type 0
+abbrev pub WritesAhead : Settings → NamedState → ahead.NextStatement → Option (List ℕ) → Option (List ℕ) → Type 0
 WritesAhead settings m (variant.Request request) old new = WritesRequest settings m (asked_in request) old new
 WritesAhead settings m _ old new = Unit {0}
 
@@ -52,7 +52,7 @@ abbrev pub IsLineStart : List ℕ → ℕ → Type 0
 IsLineStart script at = (at ≡ 0) ⊎ (slice_index script (at - 1) ≡ 10)
 
 -- A statement begins at this place, on a line of this number, and has a line of that number.
-pub record IsStatementAt (script : List ℕ) (at first line : ℕ) (place : Place) : Type 0 where
+pub record IsStatementAt (script : List ℕ) (at first line : ℕ) (place : LinePlace) : Type 0 where
   pub begins : place.at ≡ at
   pub bears : place.ahead.asked ≡ variant.Aside → ⊥
   pub ahead : IsAhead (drop at script) place.ahead
@@ -60,7 +60,7 @@ pub record IsStatementAt (script : List ℕ) (at first line : ℕ) (place : Plac
   pub to : line < first + place.ahead.lines
 
 -- The statement of a line begins at a place before which a session stands that awaits one.
-pub record IsPlaceOf (s : Session) (script : List ℕ) (at line : ℕ) (place : Place) : Type 0 where
+pub record IsPlaceOf (s : Session) (script : List ℕ) (at line : ℕ) (place : LinePlace) : Type 0 where
   pub awaits : s.reader.mode ≡ awaiting
   pub statement : IsStatementAt script at (s.lines + 1) line place
 
@@ -72,7 +72,7 @@ pub record TakesLine (script : List ℕ) (at : ℕ) (old new : Session) (next : 
       → (all : List Marked) × Took settings (take next script) all new
 
 -- The statement of a line is found, before which a session has taken the script.
-pub record IsFound (settings : Settings) (script : List ℕ) (line : ℕ) (s : Session) (place : Place) : Type 0 where
+pub record IsFound (settings : Settings) (script : List ℕ) (line : ℕ) (s : Session) (place : LinePlace) : Type 0 where
   pub before : List Marked
   pub took : Took settings (take place.at script) before s
   pub starts : IsLineStart script place.at
@@ -92,7 +92,7 @@ pub record IsExplained (settings : Settings) (script : List ℕ) (line : ℕ) (o
   pub own : List Line
   pub behind : List ℕ
   pub next : AreFirst (drop place script) own behind
-  pub asked : ahead.Asked
+  pub asked : ahead.NextStatement
   pub asks : Asks own behind asked
   pub bears : asked ≡ variant.Aside → ⊥
   pub from : length lines < line

@@ -11,8 +11,8 @@ use Rattle.vsm_machine.specs.Machine.{name_asked, service_asked}
 use Rattle.text_output.specs.declared.writing.Gathered.{Gathered}
 use Rattle.cause_reasons.specs.Told.{TellsCause}
 use Rattle.cause_reasons.specs.Words.{cause_words}
-use Rattle.explain_why.specs.declared.ahead.Asked as ahead
-use Rattle.explain_why.specs.declared.ahead.Asked.TheVariants as variant
+use Rattle.explain_why.specs.declared.ahead.NextStatement as ahead
+use Rattle.explain_why.specs.declared.ahead.NextStatement.TheVariants as variant
 
 -- Of a statement in a state what is put tells the first cause by the definitions: why it's refused there or, but for a
 -- conditional GET, answered 4.
@@ -31,8 +31,8 @@ TellsRequest settings m (act x) old new before after =
 TellsRequest settings m _ old new before after = Unit {0}
 
 -- Of what the lines from a place on ask for the same is told.
-abbrev pub TellsAhead : Settings → NamedState → ahead.Asked → Option (List ℕ) → Option (List ℕ) → Gathered → Gathered
-    → Type 0
+abbrev pub TellsAhead : Settings → NamedState → ahead.NextStatement → Option (List ℕ) → Option (List ℕ) → Gathered
+    → Gathered → Type 0
 TellsAhead settings m (variant.Request request) old new before after =
     TellsRequest settings m (asked_in request) old new before after
 TellsAhead settings m _ old new before after = Unit {0}

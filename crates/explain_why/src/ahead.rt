@@ -6,12 +6,12 @@ ghost use Rattle.macro_reader.specs.Scripts.{IsBehind};
 ghost use Rattle.script_steps.specs.Script.{columns};
 ghost use Rattle.explain_why.specs.Ahead.{Brought, IsAhead, IsReadAs};
 
-use macro_reader::{FaultKind, Fed, Reader, Request, Stand};
+use macro_reader::{FaultKind, Fed, Reader, ReaderState, Request};
 use script_steps::before_feed;
 
 /// What the lines from a place on ask for, where a reader awaits a statement.
 #[derive(Drop)]
-pub(crate) enum Asked {
+pub(crate) enum NextStatement {
     /// The first of them is a comment or empty.
     Aside,
     Request(Request),
@@ -24,7 +24,7 @@ pub(crate) enum Asked {
 /// A statement, and how many lines it has.
 #[derive(Drop)]
 pub(crate) struct Ahead {
-    pub(crate) asked: Asked,
+    pub(crate) asked: NextStatement,
     pub(crate) lines: u32,
 }
 
@@ -80,15 +80,15 @@ fn behind(text: &[u8], place: usize) -> &[u8]
 }
 
 /// What a line brought to a reader that awaited a statement or had one open; `None` where the statement goes on.
-fn brought(reader: &mut Reader, line: &[u8]) -> Option<Asked>
+fn brought(reader: &mut Reader, line: &[u8]) -> Option<NextStatement>
     ensures { (lines : List Line) → IsBehind lines [] reader.old
         → Brought (lines ++ line.now ∷ []) reader.new result }
 {
     match reader.next(line) {
-        Ok(Fed::Ready(request, _)) => Some(Asked::Request(request)),
-        Err(fault) => Some(Asked::Fault(fault.kind)),
+        Ok(Fed::Ready(request, _)) => Some(NextStatement::Request(request)),
+        Err(fault) => Some(NextStatement::Fault(fault.kind)),
         Ok(Fed::More) => match reader.stand() {
-            Stand::Awaiting => Some(Asked::Aside),
+            ReaderState::Awaiting => Some(NextStatement::Aside),
             _ => None,
         },
     }
@@ -119,10 +119,10 @@ pub(crate) fn read_ahead(text: &[u8]) -> Ahead
 
 /// A statement that is still open behind so many lines.
 fn open_behind(lines: u32) -> Ahead
-    ensures { result ≡ record { asked = Asked.Open; lines = lines } }
+    ensures { result ≡ record { asked = NextStatement.Open; lines = lines } }
 {
     Ahead {
-        asked: Asked::Open,
+        asked: NextStatement::Open,
         lines,
     }
 }

@@ -9,13 +9,13 @@ ghost use Rattle.explain_why.specs.Explained.{IsExplained, IsFound, IsPlaceOf, I
 ghost use Rattle.explain_why.specs.Explained.{WritesAhead};
 ghost use Rattle.explain_why.specs.Told.{TellsAhead};
 
-use crate::ahead::{Ahead, Asked, read_ahead};
+use crate::ahead::{Ahead, NextStatement, read_ahead};
 use crate::causes::put_reasons;
 use crate::faults::WhyFault;
 use crate::headings::put_fault_heading;
 use bench_core::{Bench, Refusal};
 use place_reasons::{Piece, put_pieces};
-use script_steps::{LINES, Response, Session, Stand, Told, Watch, put_response};
+use script_steps::{LINES, NumberedResponse, ReaderState, Response, Session, Watch, put_response};
 use std::alloc::Global;
 use std::io::Write;
 use text_output::Gathered;
@@ -26,7 +26,7 @@ const STATEMENT_LINES: u32 = 10;
 
 /// The statement of a line: where it begins in the script, the number of its first line, and what it asks for.
 #[derive(Drop)]
-struct Place {
+struct LinePlace {
     at: usize,
     first: u32,
     ahead: Ahead,
@@ -41,7 +41,12 @@ fn rest_from(script: &[u8], at: usize) -> &[u8]
 }
 
 /// The statement that begins at a place and on a line of this number, where it has a line of that number.
-fn statement_at(script: &[u8], at: usize, first: u32, line: u32) -> Result<Option<Place>, WhyFault>
+fn statement_at(
+    script: &[u8],
+    at: usize,
+    first: u32,
+    line: u32,
+) -> Result<Option<LinePlace>, WhyFault>
     requires { at ≤ length script.now }
     ensures { IfOk result (λ found. IfSome found (IsStatementAt script.now at first line)) }
 {
@@ -53,8 +58,8 @@ fn statement_at(script: &[u8], at: usize, first: u32, line: u32) -> Result<Optio
         return Ok(None);
     }
     match ahead.asked {
-        Asked::Aside => Err(WhyFault::Aside),
-        _ => Ok(Some(Place { at, first, ahead })),
+        NextStatement::Aside => Err(WhyFault::Aside),
+        _ => Ok(Some(LinePlace { at, first, ahead })),
     }
 }
 
@@ -64,14 +69,14 @@ fn place_of(
     script: &[u8],
     at: usize,
     line: u32,
-) -> Result<Option<Place>, WhyFault>
+) -> Result<Option<LinePlace>, WhyFault>
     requires { at ≤ length script.now }
     ensures { IfOk result (λ found. IfSome found (IsPlaceOf session.now script.now at line)) }
 {
     let first = session.lines() + 1;
     match session.stand() {
-        Stand::Awaiting => statement_at(script, at, first, line),
-        Stand::Dropping if first == line => Err(WhyFault::Dropped),
+        ReaderState::Awaiting => statement_at(script, at, first, line),
+        ReaderState::Dropping if first == line => Err(WhyFault::Dropped),
         _ => Ok(None),
     }
 }
@@ -102,7 +107,7 @@ fn seek<P: Watch>(
     script: &[u8],
     line: u32,
     watch: &mut P,
-) -> Result<Place, WhyFault>
+) -> Result<LinePlace, WhyFault>
     ensures within { IfOk result (λ place. place.at ≤ length script.now) }
     ensures found { (settings : Settings) → Took settings [] [] session.old
         → IfOk result (IsFound settings script.now line session.new) }
@@ -156,16 +161,16 @@ fn put_why<W: Write>(
     writer: &mut W,
     bench: &Bench,
     line: u32,
-    place: &Place,
+    place: &LinePlace,
 )
     ensures { TellsAhead (settings_in bench.now) (bench_of bench.now).present place.now.ahead.asked
         (W.contents writer.old) (W.contents writer.new) gathered.old gathered.new }
 {
     put_first(gathered, writer, place.first, line);
     match &place.ahead.asked {
-        Asked::Request(request) => put_reasons(gathered, writer, bench, request),
-        Asked::Fault(kind) => put_fault_heading(gathered, writer, *kind),
-        Asked::Open | Asked::Aside => gathered.put(
+        NextStatement::Request(request) => put_reasons(gathered, writer, bench, request),
+        NextStatement::Fault(kind) => put_fault_heading(gathered, writer, *kind),
+        NextStatement::Open | NextStatement::Aside => gathered.put(
             writer,
             b"the script ends within the statement\n",
         ),
@@ -199,7 +204,12 @@ fn put_answered<W: Write>(
 }
 
 /// Puts an answer, where these bytes are shown, and says whether it's a refusal.
-fn put_answer<W: Write>(gathered: &mut Gathered, writer: &mut W, shown: &[u8], told: &Told) -> bool
+fn put_answer<W: Write>(
+    gathered: &mut Gathered,
+    writer: &mut W,
+    shown: &[u8],
+    told: &NumberedResponse,
+) -> bool
     ensures { PutsSome (W.contents writer.old) (W.contents writer.new) gathered.old gathered.new }
 {
     let Some((_, response)) = told else {
@@ -274,7 +284,7 @@ fn tell<W: Write>(
     session: Session,
     script: &[u8],
     line: u32,
-    place: &Place,
+    place: &LinePlace,
     out: &mut W,
 ) -> Result<bool, WhyFault>
     requires { place.now.at ≤ length script.now }

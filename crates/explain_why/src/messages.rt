@@ -94,7 +94,9 @@ static REFUSALS: [Message; 4] = [
     Message {
         texts: &["REFUSED MEMORY"],
         meaning: "The statement would have been accepted, but the program got no memory for it.",
-        advice: "Give the program more memory, or go on: nothing has changed.",
+        advice: "Give the program more memory, or go on: nothing has changed. The memory that it did \
+                get is kept for later statements. So after a large statement that is refused a small \
+                one can be too, which alone would be accepted.",
     },
 ];
 

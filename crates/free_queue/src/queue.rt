@@ -1,5 +1,5 @@
 ghost use Rattle.std.specs.Prelude.{◌≡◌, ℕ, ◌+◌, ◌^◌, ◌<◌, ◌≤◌, ◌||◌, ◌&&◌, not, [], slice_index_or, slice_get, IfSome};
-ghost use Rattle.std.specs.Prelude.{IfNone, length, option_map};
+ghost use Rattle.std.specs.Prelude.{IfNone, option_map};
 ghost use Rattle.vsm_elements.specs.Store.{Store};
 ghost use Rattle.vsm_elements.specs.Ownership.{Leaves};
 ghost use Rattle.run_set.specs.Counts.{joins};
@@ -139,13 +139,6 @@ impl FreeQueue {
         ensures { IsLongest (λ d. is_free elements.now self.now d) region result boundary }
     {
         self.set.longest(elements, boundary, region)
-    }
-
-    /// How many free areas there are.
-    pub fn count(&self) -> u32
-        ensures { (s : Store) → result ≡ length (areas s self.now) }
-    {
-        self.set.count()
     }
 
     /// The place before the first free area of any subpool.

@@ -1,8 +1,9 @@
 -- The last item, by its id.
-use Rattle.std.proofs.Common.{◌≡◌, ◌≢◌, ℕ, true, List, [], ◌∷◌, ◌++◌, drop, Option, Some, None, refl, sym, ap, ◌∙◌, arith}
+use Rattle.std.proofs.Common.{◌≡◌, ◌≢◌, ℕ, true, List, [], ◌∷◌, ◌++◌, drop, Option, Some, None, refl, sym, ap, ◌∙◌, arith, IsSome, subst}
 use Rattle.std.specs.Prelude.{map}
-use Rattle.vsm_elements.specs.Store.{Store, among}
+use Rattle.vsm_elements.specs.Store.{Store, at, among}
 use Rattle.vsm_elements.specs.Chain.{element}
+use Rattle.vsm_elements.proofs.StoreLemmas.{among_first, among_later}
 use Rattle.item_tree.specs.declared.item.Item.{Item}
 use Rattle.item_tree.specs.declared.tree.ItemTree.{ItemTree}
 use Rattle.item_tree.specs.declared.shape.Node.{Node}
@@ -12,7 +13,6 @@ use Rattle.item_tree.proofs.ShapeLemmas.{id_of, positive}
 use Rattle.item_tree.proofs.TreeLemmas.{no_items, owned_ids}
 use Rattle.item_tree.proofs.SetLemmas.{AllStored, stored}
 use Rattle.item_tree.proofs.FromLemmas.{IsHeld}
-use Rattle.item_tree.proofs.UptoLemmas.{or_id, last_held}
 
 pub none_last : (s : Store) (h : ItemTree) (best : ℕ) → h.root ≡ 0 → best ≡ id_or best (last_item (items s h))
 none_last s h best e = sym (ap (λ (ns : List Item). id_or best (last_item ns)) (no_items s h e))
@@ -21,10 +21,18 @@ last_behind : (xs : List Item) (y : Item) (ys : List Item) → last_item (xs ++ 
 last_behind [] y ys = refl
 last_behind (x ∷ xs) y ys = ap (λ (o : Option Item). Some (item_or x o)) (last_behind xs y ys)
 
+or_id : (n : Item) (o : Option Item) → id_or n.id o ≡ (item_or n o).id
+or_id n None = refl
+or_id n (Some m) = refl
+
 pub last_right : (s : Store) (h : ItemTree) (n : Node) → Opens s h n → (best r : ℕ) → r ≡ id_or n.item.id (last_item (items s n.right)) → r ≡ id_or best (last_item (items s h))
 last_right s h n o best r e = e ∙ or_id n.item (last_item (items s n.right)) ∙ sym (ap (id_or best) (ap last_item o.are ∙ last_behind (items s n.left) n.item (items s n.right)))
 
 -- what is found is stored
+
+last_held : (s : Store) (m n : Item) (o : Option Item) (ids : List ℕ) → (m.words ≡ drop 1 ((element s m.id).words)) × IsSome (at s m.id) → (o ≡ Some n → IsHeld s ids n) → item_or m o ≡ n → IsHeld s (m.id ∷ ids) n
+last_held s m n None ids here rest e = let P : Item → Type 0 = IsHeld s (m.id ∷ ids) in subst P e (here.0, here.1, among_first m.id ids)
+last_held s m n (Some x) ids here rest e = let r = rest (ap Some e) in (r.0, r.1, among_later n.id m.id ids r.2)
 
 is_held : (s : Store) (ns : List Item) → AllStored s ns → (n : Item) → last_item ns ≡ Some n → IsHeld s (map id_of ns) n
 is_held s [] h n e = absurd (no e) where

@@ -8,6 +8,5 @@ pub mod SplitLemmas
 pub mod FindLemmas
 pub mod SetLemmas
 pub mod FromLemmas
-pub mod UptoLemmas
 pub mod CallLemmas
 pub mod DiscardLemmas

@@ -47,11 +47,6 @@ abbrev pub item_or : Item → Option Item → Item
 item_or n None = n
 item_or n (Some m) = m
 
--- the last item of this key or of one below it
-abbrev pub item_upto : ℕ → List Item → Option Item
-item_upto k [] = None
-item_upto k (n ∷ ns) = if nat_le (key n) k then Some (item_or n (item_upto k ns)) else None
-
 -- the last item
 abbrev pub last_item : List Item → Option Item
 last_item [] = None

@@ -4,7 +4,7 @@ ghost use Rattle.std.specs.Prelude.{slice_set, slice_index_or};
 ghost use Rattle.vsm_elements.specs.Store.{Store, at, among, Distinct};
 ghost use Rattle.vsm_elements.specs.Ownership.{Leaves};
 ghost use Rattle.vsm_elements.specs.Chain.{element};
-ghost use Rattle.item_tree.specs.Items.{key, item_in, item_from, item_upto, last_item, item_named, id_or, Ascends};
+ghost use Rattle.item_tree.specs.Items.{key, item_in, item_from, last_item, item_named, id_or, Ascends};
 
 use crate::item::Item;
 use crate::shape::{Node, last_six, with_rest, with_word};
@@ -152,36 +152,6 @@ impl ItemTree {
         ensures { result ≡ item_from k (items elements.now self) }
     {
         let id = self.first_from(elements, k, 0);
-        if id == 0 {
-            return None;
-        }
-        Some(self.get(elements, id))
-    }
-
-    // The id of the last item whose key is this one or below it, or `best` where there is none.
-    fn last_upto(self, elements: &Elements, k: u64, best: Id) -> Id
-        requires tree { IsTree elements.now self }
-        requires order { Ascends (items elements.now self) }
-        ensures { result ≡ id_or best (item_upto k (items elements.now self)) }
-    {
-        if self.root == 0 {
-            return best;
-        }
-        let node = self.open(elements);
-        if u64::from(node.item.words[0]) <= k {
-            node.right.last_upto(elements, k, node.item.id)
-        } else {
-            node.left.last_upto(elements, k, best)
-        }
-    }
-
-    /// The last item whose key is this one or below it.
-    pub fn find_upto(self, elements: &Elements, k: u64) -> Option<Item>
-        requires tree { IsTree elements.now self }
-        requires order { Ascends (items elements.now self) }
-        ensures { result ≡ item_upto k (items elements.now self) }
-    {
-        let id = self.last_upto(elements, k, 0);
         if id == 0 {
             return None;
         }

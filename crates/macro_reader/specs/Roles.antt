@@ -5,8 +5,8 @@ use Rattle.macro_reader.specs.Columns.{Line, used, is_continued, is_skipped}
 use Rattle.macro_reader.specs.Continuation.{Joined, with_line}
 use Rattle.macro_reader.specs.Scripts.{Answer, Part, skipped, whole, broken, lines_of, number_behind, Reads, Drops}
 use Rattle.macro_reader.specs.Scripts.{Gathers, Mode, awaiting, dropping, gathering, moved}
-use Rattle.macro_reader.specs.declared.reading.Stand.{Stand}
-use Rattle.macro_reader.specs.declared.reading.Stand.TheVariants as stand
+use Rattle.macro_reader.specs.declared.reading.ReaderState.{ReaderState}
+use Rattle.macro_reader.specs.declared.reading.ReaderState.TheVariants as stand
 
 pub data Role : Type 0 where
   -- a comment or an empty line
@@ -61,7 +61,7 @@ RolesAreOfOpen =
     → roles_after 0 awaiting lines ≡ flat_map roles_of h.parts ++ first ∷ map (λ l. further) h.before
 
 -- The code's word for where a reader stands.
-abbrev pub IsStand : Mode → Stand → Type 0
+abbrev pub IsStand : Mode → ReaderState → Type 0
 IsStand awaiting s = s ≡ stand.Awaiting
 IsStand dropping s = s ≡ stand.Dropping
 IsStand (gathering n card j count) s = s ≡ stand.Gathering

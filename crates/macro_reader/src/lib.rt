@@ -16,4 +16,4 @@ pub use operand_texts::{
     Content, Name, Place, Value, valid_contents_are_spelled, valid_places_are_spelled,
     valid_values_are_spelled,
 };
-pub use reading::{Fault, Fed, Reader, Stand};
+pub use reading::{Fault, Fed, Reader, ReaderState};

@@ -56,7 +56,7 @@ impl Model for Reader {
 
 /// Where a reader stands between two lines.
 #[derive(Clone, Copy, Debug, PartialEq, Eq)]
-pub enum Stand {
+pub enum ReaderState {
     /// It awaits a statement.
     Awaiting,
     /// It drops the lines behind a statement that is broken.
@@ -150,13 +150,13 @@ impl Reader {
     }
 
     /// Where the reader stands: what the next line is to it, by whether that is skipped, or breaks a rule.
-    pub fn stand(&self) -> Stand
+    pub fn stand(&self) -> ReaderState
         ensures { IsStand self.now.mode result }
     {
         match self.mode {
-            Mode::Awaiting => Stand::Awaiting,
-            Mode::Dropping => Stand::Dropping,
-            Mode::Gathering => Stand::Gathering,
+            Mode::Awaiting => ReaderState::Awaiting,
+            Mode::Dropping => ReaderState::Dropping,
+            Mode::Gathering => ReaderState::Gathering,
         }
     }
 

@@ -9,7 +9,7 @@ use Rattle.vsm_model.specs.Obtaining.{longest, obtain_causes}
 use Rattle.vsm_model.specs.Services.{maximum, minimum}
 use Rattle.vsm_model.specs.State.{State}
 use Rattle.storage_plans.specs.Reasons.{reasons_place}
-use Rattle.place_reasons.specs.declared.places.Sides.{Sides}
+use Rattle.place_reasons.specs.declared.places.LengthSides.{LengthSides}
 
 -- The number can be asked for, and the lengths are in order.
 abbrev pub asks_for_place : Obtain → Bool
@@ -17,7 +17,7 @@ asks_for_place o =
     not (nat_lt 127 o.number) && not (minimum o.lengths == 0) && not (nat_lt (maximum o.lengths) (minimum o.lengths))
 
 -- the place that the sides lead to
-abbrev pub sides_place : Sides → Place
+abbrev pub sides_place : LengthSides → Place
 sides_place r = reasons_place (r.first, r.second)
 
 -- A request without a cause, or whose first cause is want of storage, comes to look for a place; and it has none just

@@ -12,7 +12,7 @@ use vsm_model::geometry::{LAST_SUBPOOL, PAGE_DOUBLEWORDS};
 
 /// What each side of the line that is looked at has for an area: above the line first, where it may be there.
 #[derive(Clone, Copy)]
-pub(crate) struct Sides {
+pub(crate) struct LengthSides {
     /// The doublewords that a place is looked for.
     pub(crate) count: u32,
     pub(crate) first: SideReason,
@@ -42,7 +42,7 @@ fn least_length(lengths: Lengths) -> u32
 }
 
 /// What the sides have for the least length of a request.
-fn least_sides(storage: &Storage, o: Obtain) -> Sides
+fn least_sides(storage: &Storage, o: Obtain) -> LengthSides
     requires number { o.number ≤ 127 }
     requires some { 0 < minimum o.lengths }
     requires ordered { minimum o.lengths ≤ maximum o.lengths }
@@ -54,7 +54,7 @@ fn least_sides(storage: &Storage, o: Obtain) -> Sides
 {
     let least = least_length(o.lengths);
     let (first, second) = storage.obtain_reasons(o);
-    Sides {
+    LengthSides {
         count: least.div_ceil(8),
         first,
         second,
@@ -68,7 +68,7 @@ fn most_on(reason: SideReason) -> u32 {
 }
 
 /// The most doublewords that have a place on the sides.
-fn most_of(sides: Sides) -> u32 {
+fn most_of(sides: LengthSides) -> u32 {
     let first = most_on(sides.first);
     match sides.second {
         Some(second) => first.max(most_on(second)),
@@ -78,7 +78,7 @@ fn most_of(sides: Sides) -> u32 {
 
 /// What the sides have for the greatest length of a request that has a place, where that is one of `most` bytes at
 /// most; these sides where there is none.
-fn greatest_sides(storage: &Storage, o: Obtain, least: Sides, most: u32) -> Sides
+fn greatest_sides(storage: &Storage, o: Obtain, least: LengthSides, most: u32) -> LengthSides
     requires number { o.number ≤ 127 }
     requires least { sides_place least
         ≡ place_for (settings_of storage.now) (state_of storage.now) o least.count }
@@ -103,7 +103,7 @@ fn greatest_sides(storage: &Storage, o: Obtain, least: Sides, most: u32) -> Side
 }
 
 /// Whether the sides lead to a place.
-fn is_placed(sides: &Sides) -> bool
+fn is_placed(sides: &LengthSides) -> bool
     ensures { (result ≡ true) ↔ (is_nowhere (sides_place sides.now) ≡ false) }
 {
     let first = sides.first.inside.is_some() || sides.first.fresh.is_some();
@@ -126,7 +126,7 @@ fn asks_for_place(o: Obtain) -> bool
 ///
 /// Looked at is a place for the length that is asked for; of two bounds for the greatest that has one, else for the
 /// least.
-pub(crate) fn sides_for(storage: &Storage, o: Obtain) -> Option<Sides>
+pub(crate) fn sides_for(storage: &Storage, o: Obtain) -> Option<LengthSides>
     ensures asked { is_some result ≡ asks_for_place o }
     ensures place { IfSome result (λ r. sides_place r
         ≡ place_for (settings_of storage.now) (state_of storage.now) o r.count) }

@@ -9,7 +9,7 @@ ghost use Rattle.place_reasons.specs.Told.{TellsPlace, TellsSide};
 
 use crate::areas::{FreeAreas, free_areas};
 use crate::pieces::{Piece, put_pieces};
-use crate::places::{Sides, sides_for};
+use crate::places::{LengthSides, sides_for};
 use crate::sights::seen_or_own;
 use std::io::Write;
 use storage_core::{Obtain, Residence, SideReason, Storage, Subpool};
@@ -166,7 +166,7 @@ fn put_second<W: Write>(
     writer: &mut W,
     storage: &Storage,
     subpool: Subpool,
-    sides: &Sides,
+    sides: &LengthSides,
 ) -> bool
     ensures { TellsSide (W.contents writer.old) (W.contents writer.new) gathered.old gathered.new
         (option_place sides.now.second) result }
@@ -186,7 +186,7 @@ fn put_sides<W: Write>(
     writer: &mut W,
     storage: &Storage,
     subpool: Subpool,
-    sides: &Sides,
+    sides: &LengthSides,
 )
     ensures { PutsEnding (W.contents writer.old) (W.contents writer.new) gathered.old gathered.new
         (place_text (sides_place sides.now)) }

@@ -8,7 +8,7 @@ use Rattle.vsm_elements.proofs.StoreLemmas.{among_first, among_later}
 use Rattle.vsm_elements.proofs.ChainLemmas.{not_both, distinct_remove}
 use Rattle.run_tree.specs.declared.run.Run.{Run}
 use Rattle.run_tree.specs.declared.tree.RunTree.{RunTree}
-use Rattle.run_tree.specs.declared.shape.Node.{Node}
+use Rattle.run_tree.specs.declared.shape.RunNode.{RunNode}
 use Rattle.run_tree.specs.Trees.{runs, owned, IsTree, Opens, Joins, Merges, CutsOut}
 use Rattle.run_tree.proofs.Lists.{in_left, in_right, in_middle, out_parts, out_of, out_cons, out_of_cons, distinct_right, distinct_apart, distinct_apart_back, not_middle}
 use Rattle.run_tree.proofs.PutLemmas.{take_behind, drop_behind}
@@ -58,7 +58,7 @@ was_right k j xs y x ys e w =
     ∙ ap (λ (z : List _). z ++ x ∷ drop (j + 1) ys) (sym (take_behind k j xs y ys e))
     ∙ ap (λ (z : List _). take k (xs ++ y ∷ ys) ++ x ∷ z) (sym (drop_behind (k + 1) (j + 1) xs y ys (omega (arith, e))))
 
-module _ (s : Store) (h : RunTree) (n : Node) (o : Opens s h n) where
+module _ (s : Store) (h : RunTree) (n : RunNode) (o : Opens s h n) where
   abbrev L : List ℕ
   L = owned s n.left
 

@@ -6,7 +6,7 @@ use Rattle.vsm_elements.specs.Ownership.{Leaves}
 use Rattle.vsm_elements.proofs.StoreLemmas.{among_first, among_later, among_cons}
 use Rattle.vsm_elements.proofs.ChainLemmas.{not_both}
 use Rattle.run_tree.specs.declared.tree.RunTree.{RunTree}
-use Rattle.run_tree.specs.declared.shape.Node.{Node}
+use Rattle.run_tree.specs.declared.shape.RunNode.{RunNode}
 use Rattle.run_tree.specs.Trees.{owned, IsTree, Opens}
 use Rattle.run_tree.proofs.Lists.{in_parts, out_parts, out_cons, distinct_right, distinct_apart, distinct_apart_back}
 use Rattle.run_tree.proofs.TreeLemmas.{tree_kept, owned_kept, none_owned}
@@ -16,7 +16,7 @@ discard_none s h t e =
     let P : List ℕ → Type 0 = λ x. Leaves s s x [] in
     subst P (sym (none_owned s h t e)) (record { others = λ i p q. refl; gained = λ i p q. absurd (not_both false q refl); lost = λ i p q. absurd (not_both false p refl); spare = refl; as_many = refl })
 
-module _ (s u v t : Store) (h : RunTree) (n : Node) (o : Opens s h n) (f : Leaves s u (owned s n.left) []) where
+module _ (s u v t : Store) (h : RunTree) (n : RunNode) (o : Opens s h n) (f : Leaves s u (owned s n.left) []) where
   same : (i : ℕ) → among i (n.id ∷ owned s n.right) ≡ true → at u i ≡ at s i
   same i m = f.others i (distinct_apart_back (owned s n.left) (n.id ∷ owned s n.right) o.distinct i m) refl
 

@@ -7,13 +7,13 @@ use Rattle.std.proofs.lemmas.Bool.Decides.{eqb_tells}
 use Rattle.vsm_elements.specs.Store.{Store}
 use Rattle.run_tree.specs.declared.run.Run.{Run}
 use Rattle.run_tree.specs.declared.tree.RunTree.{RunTree}
-use Rattle.run_tree.specs.declared.shape.Node.{Node}
+use Rattle.run_tree.specs.declared.shape.RunNode.{RunNode}
 use Rattle.run_tree.specs.Shape.{longest}
 use Rattle.run_tree.specs.Trees.{runs, IsTree, Opens}
 use Rattle.run_tree.specs.Searches.{none, run_at}
 use Rattle.run_tree.proofs.TreeLemmas.{length-tree}
 
-module _ (s : Store) (h : RunTree) (n : Node) (o : Opens s h n) where
+module _ (s : Store) (h : RunTree) (n : RunNode) (o : Opens s h n) where
   pub at_left : (i : ℕ) → i < n.left.count → run_at (runs s h) i ≡ run_at (runs s n.left) i
   at_left i low = ap (λ (x : List Run). get_or x i none) o.are ∙ get_or_append_left (runs s n.left) (n.run ∷ runs s n.right) none i (omega (arith, low, length-tree s n.left o.left))
 

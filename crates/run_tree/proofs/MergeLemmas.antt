@@ -5,7 +5,7 @@ use Rattle.vsm_elements.specs.Store.{Store, at, among, Distinct}
 use Rattle.vsm_elements.proofs.StoreLemmas.{among_first, among_later}
 use Rattle.run_tree.specs.declared.run.Run.{Run}
 use Rattle.run_tree.specs.declared.tree.RunTree.{RunTree}
-use Rattle.run_tree.specs.declared.shape.Node.{Node}
+use Rattle.run_tree.specs.declared.shape.RunNode.{RunNode}
 use Rattle.run_tree.specs.Trees.{runs, owned, IsTree, Opens, Joins, Merges}
 use Rattle.run_tree.proofs.Lists.{out_parts, out_cons, out_of_cons, distinct_left, distinct_right, distinct_apart, distinct_apart_back}
 use Rattle.run_tree.proofs.TreeLemmas.{tree_kept, runs_kept, owned_kept, no_runs, none_owned}
@@ -39,7 +39,7 @@ merged_second s a b ta tb e =
     }
 
 -- the first stands above the second
-module _ (s : Store) (a b : RunTree) (n : Node) (o : Opens s a n) (d : Distinct (owned s a ++ owned s b)) where
+module _ (s : Store) (a b : RunTree) (n : RunNode) (o : Opens s a n) (d : Distinct (owned s a ++ owned s b)) where
   abbrev back : List ℕ
   back = owned s n.right ++ owned s b
 
@@ -94,7 +94,7 @@ module _ (s : Store) (a b : RunTree) (n : Node) (o : Opens s a n) (d : Distinct 
           j.others i (out_of_cons i n.id [] q.0 refl) ∙ g.others i q.1
 
 -- the second stands above the first
-module _ (s : Store) (a b : RunTree) (n : Node) (o : Opens s b n) (d : Distinct (owned s a ++ owned s b)) where
+module _ (s : Store) (a b : RunTree) (n : RunNode) (o : Opens s b n) (d : Distinct (owned s a ++ owned s b)) where
   abbrev front : List ℕ
   front = owned s a ++ owned s n.left
 

@@ -10,7 +10,7 @@ use Rattle.vsm_elements.proofs.ChainLemmas.{not_both, distinct_insert}
 use Rattle.vsm_elements.proofs.ChainFrame.{gone}
 use Rattle.run_tree.specs.declared.run.Run.{Run}
 use Rattle.run_tree.specs.declared.tree.RunTree.{RunTree}
-use Rattle.run_tree.specs.declared.shape.Node.{Node}
+use Rattle.run_tree.specs.declared.shape.RunNode.{RunNode}
 use Rattle.run_tree.specs.Trees.{runs, owned, IsTree, Opens, Joins, Splits, Puts}
 use Rattle.run_tree.proofs.Lists.{false_if, out_parts, out_of, out_cons, out_of_cons, distinct_right, distinct_apart, distinct_apart_back}
 use Rattle.run_tree.proofs.TreeLemmas.{tree_kept, runs_kept, owned_kept, no_runs, none_owned, length-tree, length-owned, owned_live, owned_distinct}
@@ -121,7 +121,7 @@ module _ (s u : Store) (h a b : RunTree) (k id : ℕ) (run : Run) (tree : IsTree
   }
 
 -- it goes into one of the parts
-module _ (s : Store) (h : RunTree) (n : Node) (o : Opens s h n) (id : ℕ) (run : Run) (live : IsSome (at s id)) (out : among id (owned s h) ≡ false) where
+module _ (s : Store) (h : RunTree) (n : RunNode) (o : Opens s h n) (id : ℕ) (run : Run) (live : IsSome (at s id)) (out : among id (owned s h) ≡ false) where
   abbrev L : List ℕ
   L = owned s n.left
 

@@ -2,9 +2,9 @@
 use Rattle.std.proofs.Common.{◌≡◌, ℕ, ◌+◌, ◌-◌, ◌<◌, ◌≤◌, ◌⊎◌, inl, inr, max, length, refl, sym, ◌∙◌, arith, subst}
 use Rattle.vsm_elements.specs.Store.{Store}
 use Rattle.run_tree.specs.declared.run.Run.{Run}
-use Rattle.run_tree.specs.declared.tree.Found.{Found}
+use Rattle.run_tree.specs.declared.tree.FoundRun.{FoundRun}
 use Rattle.run_tree.specs.declared.tree.RunTree.{RunTree}
-use Rattle.run_tree.specs.declared.shape.Node.{Node}
+use Rattle.run_tree.specs.declared.shape.RunNode.{RunNode}
 use Rattle.run_tree.specs.Shape.{longest}
 use Rattle.run_tree.specs.Trees.{runs, IsTree, Opens}
 use Rattle.run_tree.specs.Searches.{run_at, SeeksTo, FindsRuns, RoomsTo, IsMost}
@@ -49,7 +49,7 @@ most_all s h room from to m t e f g = record {
       (w.0, omega (arith, e), omega (arith, w.1, f, length-tree s h t), w.2 ∙ sym g));
 }
 
-module _ (s : Store) (h : RunTree) (n : Node) (o : Opens s h n) (t : IsTree s h) where
+module _ (s : Store) (h : RunTree) (n : RunNode) (o : Opens s h n) (t : IsTree s h) where
   lh : length (runs s h) ≡ n.left.count + n.right.count + 1
   lh = length-tree s h t ∙ o.count
 
@@ -89,7 +89,7 @@ module _ (s : Store) (h : RunTree) (n : Node) (o : Opens s h n) (t : IsTree s h)
     go (inl q) = on_here (λ r. r.start + r.len ≤ m) (n.left.count + 1 + j - 1) (omega (arith, q)) ends
     go (inr q) = on_right (λ r. r.start + r.len ≤ m) (n.left.count + 1 + j - 1) (j - 1) (omega (arith, q)) (g.before q)
 
-  pub find_left : (m : ℕ) (before behind : Run) (f : Found) → m < n.run.start + n.run.len → FindsRuns m before n.run (runs s n.left) f → FindsRuns m before behind (runs s h) f
+  pub find_left : (m : ℕ) (before behind : Run) (f : FoundRun) → m < n.run.start + n.run.len → FindsRuns m before n.run (runs s n.left) f → FindsRuns m before behind (runs s h) f
   find_left m before behind f ends g = record {
     seeks = seek_left m f.index ends g.seeks;
     last = λ some. g.last some ∙ sym (at_left s h n o (f.index - 1) (omega (arith, some, g.seeks.within, ll)));
@@ -101,7 +101,7 @@ module _ (s : Store) (h : RunTree) (n : Node) (o : Opens s h n) (t : IsTree s h)
     go (inl q) = g.end (omega (arith, q, ll)) ∙ sym (at_here s h n o f.index (omega (arith, q, g.seeks.within, ll)))
     go (inr q) = g.next (omega (arith, q, ll)) ∙ sym (at_left s h n o f.index q)
 
-  pub find_right : (m : ℕ) (before behind : Run) (f : Found) → n.run.start + n.run.len ≤ m → FindsRuns m n.run behind (runs s n.right) f
+  pub find_right : (m : ℕ) (before behind : Run) (f : FoundRun) → n.run.start + n.run.len ≤ m → FindsRuns m n.run behind (runs s n.right) f
       → FindsRuns m before behind (runs s h) (record { index = n.left.count + 1 + f.index; before = f.before; behind = f.behind })
   find_right m before behind f ends g = record {
     seeks = seek_right m f.index ends g.seeks;

@@ -4,7 +4,7 @@ use Rattle.vsm_elements.specs.Store.{Store, at, among, Distinct}
 use Rattle.vsm_elements.proofs.StoreLemmas.{among_first, among_later}
 use Rattle.run_tree.specs.declared.run.Run.{Run}
 use Rattle.run_tree.specs.declared.tree.RunTree.{RunTree}
-use Rattle.run_tree.specs.declared.shape.Node.{Node}
+use Rattle.run_tree.specs.declared.shape.RunNode.{RunNode}
 use Rattle.run_tree.specs.Trees.{runs, owned, IsTree, Opens, Joins, Splits}
 use Rattle.run_tree.proofs.Lists.{out_parts, out_cons, out_of_cons, distinct_left, distinct_right, distinct_apart, distinct_apart_back}
 use Rattle.run_tree.proofs.TreeLemmas.{tree_kept, runs_kept, owned_kept, no_runs, none_owned}
@@ -25,7 +25,7 @@ split_none s h k t le e =
       as_many = refl;
     }
 
-module _ (s : Store) (h : RunTree) (n : Node) (o : Opens s h n) where
+module _ (s : Store) (h : RunTree) (n : RunNode) (o : Opens s h n) where
   -- the place is in the left part
   module _ (k : ℕ) (u : Store) (a m : RunTree) (g : Splits s u n.left k a m) where
     same : (i : ℕ) → among i (owned s n.right) ≡ true → at u i ≡ at s i

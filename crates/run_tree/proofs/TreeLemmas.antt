@@ -8,7 +8,7 @@ use Rattle.vsm_elements.proofs.StoreLemmas.{length-distinct, among_cons}
 use Rattle.vsm_elements.proofs.ChainCalls.{element_is, some_of}
 use Rattle.run_tree.specs.declared.run.Run.{Run}
 use Rattle.run_tree.specs.declared.tree.RunTree.{RunTree}
-use Rattle.run_tree.specs.declared.shape.Node.{Node}
+use Rattle.run_tree.specs.declared.shape.RunNode.{RunNode}
 use Rattle.run_tree.specs.Shape.{Shape, leaf, node, runs_in, ids_in, size, top, written, grown, longest, plain, paged, IsTreeOf}
 use Rattle.run_tree.specs.Trees.{fitted, runs, owned, IsTree, Opens, Joins}
 use Rattle.run_tree.proofs.Lists.{in_parts, in_left, in_right, out_cons, distinct_left, distinct_right, not_middle}
@@ -97,7 +97,7 @@ empty_owned s = owned_are s (record { root = 0; count = 0 }) leaf (none_held s)
 
 -- the node at the top
 
-abbrev pub opened : RunTree → Element → Node
+abbrev pub opened : RunTree → Element → RunNode
 opened h e = record {
   left = record { root = e.next; count = get_or e.words 1 0 };
   id = h.root;

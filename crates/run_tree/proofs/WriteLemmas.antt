@@ -5,12 +5,12 @@ use Rattle.vsm_elements.specs.Store.{Store, at, among, Distinct}
 use Rattle.vsm_elements.proofs.StoreLemmas.{among_first, among_later}
 use Rattle.run_tree.specs.declared.run.Run.{Run}
 use Rattle.run_tree.specs.declared.tree.RunTree.{RunTree}
-use Rattle.run_tree.specs.declared.shape.Node.{Node}
+use Rattle.run_tree.specs.declared.shape.RunNode.{RunNode}
 use Rattle.run_tree.specs.Trees.{runs, owned, IsTree, Opens, Joins, Writes}
 use Rattle.run_tree.proofs.Lists.{out_parts, out_cons, out_of_cons, distinct_right, distinct_apart, distinct_apart_back}
 use Rattle.run_tree.proofs.TreeLemmas.{tree_kept, runs_kept, owned_kept, length-tree}
 
-module _ (s : Store) (h : RunTree) (n : Node) (o : Opens s h n) (tree : IsTree s h) (k : ℕ) (run : Run) where
+module _ (s : Store) (h : RunTree) (n : RunNode) (o : Opens s h n) (tree : IsTree s h) (k : ℕ) (run : Run) where
   not_top : (i : ℕ) → among i (owned s h) ≡ false → among i (n.id ∷ []) ≡ false
   not_top i out =
       let p = out_parts i (owned s n.left) (n.id ∷ owned s n.right) (ap (among i) (sym o.own) ∙ out) in

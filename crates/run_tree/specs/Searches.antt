@@ -1,7 +1,7 @@
 -- Where searches over a list of runs lead.
 use Rattle.std.specs.Prelude.{◌≡◌, ℕ, ◌+◌, ◌-◌, ◌<◌, ◌≤◌, List, length, slice_index_or}
 use Rattle.run_tree.specs.declared.run.Run.{Run}
-use Rattle.run_tree.specs.declared.tree.Found.{Found}
+use Rattle.run_tree.specs.declared.tree.FoundRun.{FoundRun}
 
 abbrev pub none : Run
 none = record { start = 0; len = 0 }
@@ -17,7 +17,7 @@ pub record SeeksTo (n : ℕ) (rs : List Run) (k : ℕ) : Type 0 where
   pub behind : k < length rs → n < (run_at rs k).start + (run_at rs k).len
 
 -- so does this search, which tells the runs on both sides, or else what it was given for them
-pub record FindsRuns (n : ℕ) (before behind : Run) (rs : List Run) (f : Found) : Type 0 where
+pub record FindsRuns (n : ℕ) (before behind : Run) (rs : List Run) (f : FoundRun) : Type 0 where
   pub seeks : SeeksTo n rs f.index
   pub last : 0 < f.index → f.before ≡ run_at rs (f.index - 1)
   pub first : f.index ≡ 0 → f.before ≡ before

@@ -3,7 +3,7 @@ use Rattle.std.specs.Prelude.{◌≡◌, ℕ, zero, suc, ◌+◌, false, List, [
 use Rattle.vsm_elements.specs.Store.{Store, at, made, among, Distinct}
 use Rattle.run_tree.specs.declared.run.Run.{Run}
 use Rattle.run_tree.specs.declared.tree.RunTree.{RunTree}
-use Rattle.run_tree.specs.declared.shape.Node.{Node}
+use Rattle.run_tree.specs.declared.shape.RunNode.{RunNode}
 use Rattle.run_tree.specs.Shape.{grown, runs_in, ids_in, IsTreeOf}
 
 -- the first n of the runs; where there are fewer, empty ones behind them
@@ -25,7 +25,7 @@ unfoldable pub IsTree : Store → RunTree → Type 0
 IsTree s h = IsTreeOf s h (grown s h.count h.root)
 
 -- the head is that of a node, with what stands before and behind it
-pub record Opens (s : Store) (h : RunTree) (n : Node) : Type 0 where
+pub record Opens (s : Store) (h : RunTree) (n : RunNode) : Type 0 where
   pub left : IsTree s n.left
   pub right : IsTree s n.right
   pub are : runs s h ≡ runs s n.left ++ n.run ∷ runs s n.right

@@ -6,4 +6,4 @@ mod shape;
 mod tree;
 
 pub use run::Run;
-pub use tree::{Found, RunTree};
+pub use tree::{FoundRun, RunTree};

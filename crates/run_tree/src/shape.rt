@@ -8,7 +8,7 @@ use vsm_elements::{Element, Elements, Id};
 
 /// A node: its run, its element, and the trees before and behind it.
 #[derive(Clone, Copy)]
-pub(crate) struct Node {
+pub(crate) struct RunNode {
     pub(crate) left: RunTree,
     pub(crate) id: Id,
     pub(crate) run: Run,
@@ -57,14 +57,14 @@ impl RunTree {
     }
 
     // The node at the top.
-    pub(crate) fn open(self, elements: &Elements) -> Node
+    pub(crate) fn open(self, elements: &Elements) -> RunNode
         requires tree { IsTree elements.now self }
         requires some { 0 < self.count }
         ensures { Opens elements.now self result }
     {
         let element = elements.get(self.root);
         let words = element.words;
-        Node {
+        RunNode {
             left: RunTree {
                 root: element.next,
                 count: words[1],

@@ -17,7 +17,7 @@ pub struct RunTree {
 
 /// Where a search came to, with the run before the place and the one at it, where there are such.
 #[derive(Clone, Copy)]
-pub struct Found {
+pub struct FoundRun {
     pub index: u32,
     pub before: Run,
     pub behind: Run,
@@ -232,12 +232,12 @@ impl RunTree {
     }
 
     /// The same, with the run before the place and the one at it; `before` and `behind` where there is none.
-    pub fn find(self, elements: &Elements, n: u32, before: Run, behind: Run) -> Found
+    pub fn find(self, elements: &Elements, n: u32, before: Run, behind: Run) -> FoundRun
         requires tree { IsTree elements.now self }
         ensures { FindsRuns n before behind (runs elements.now self) result }
     {
         if self.count == 0 {
-            return Found {
+            return FoundRun {
                 index: 0,
                 before,
                 behind,
@@ -249,7 +249,7 @@ impl RunTree {
         } else {
             let rest = node.right.find(elements, n, node.run, behind);
             let index = node.left.count + 1 + rest.index;
-            Found {
+            FoundRun {
                 index,
                 before: rest.before,
                 behind: rest.behind,

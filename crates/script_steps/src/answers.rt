@@ -11,7 +11,7 @@ ghost use Rattle.script_steps.specs.Answers.{IsToldAlone};
 ghost use Rattle.bench_core.specs.Machine.{shown_at};
 ghost use Rattle.script_steps.specs.Responses.{reading_response};
 
-use crate::responses::{Response, Told};
+use crate::responses::{NumberedResponse, Response};
 use arrayvec::ArrayVec;
 use bench_core::Bench;
 use macro_reader::{Fault, Request, Statement, Value};
@@ -102,7 +102,7 @@ pub(crate) fn tell(
     fed: Result<Option<u32>, Fault>,
     request: &Request,
     shown: &mut ArrayVec<u8, 256>,
-) -> Told
+) -> NumberedResponse
     requires { IsValidWith fed (asked_in request.now) }
     ensures tells { Tells (settings_in bench.old) (bench_of bench.old) (told_with fed (asked_in request.now)) result
         shown.new.items (bench_of bench.new) }
@@ -116,7 +116,7 @@ pub(crate) fn tell(
 }
 
 /// The response to a statement that is open at the end of the script. It leaves a bench as it is.
-pub(crate) fn tell_end(ended: Result<(), Fault>) -> Told
+pub(crate) fn tell_end(ended: Result<(), Fault>) -> NumberedResponse
     ensures { IsToldAlone (told_at_end ended) result }
 {
     match ended {
@@ -126,7 +126,7 @@ pub(crate) fn tell_end(ended: Result<(), Fault>) -> Told
 }
 
 /// How many lines of output are told: one or none.
-pub(crate) fn told_count(told: &Told) -> u32
+pub(crate) fn told_count(told: &NumberedResponse) -> u32
     ensures count { result ≡ told_count told.now }
     ensures most { result ≤ 1 }
 {
@@ -134,7 +134,7 @@ pub(crate) fn told_count(told: &Told) -> u32
 }
 
 /// How many of them are refusals.
-pub(crate) fn told_refused(told: &Told) -> u32
+pub(crate) fn told_refused(told: &NumberedResponse) -> u32
     ensures count { result ≡ told_refused told.now }
     ensures most { result ≤ told_count told.now }
 {

@@ -11,7 +11,7 @@ ghost use Rattle.bench_core.specs.Stands.{IsNew, bench_of, settings_in};
 ghost use Rattle.script_steps.specs.Taken.{Took, TakesBytes, Brings, IsTold, Shows, Ended, EndBrings, Counts};
 
 use crate::answers::{tell, tell_end, told_count, told_refused};
-use crate::responses::Told;
+use crate::responses::NumberedResponse;
 use crate::session::{LINE_BYTES, LINES, Session, TooLong};
 use crate::totals::RunTotals;
 use arrayvec::ArrayVec;
@@ -27,9 +27,9 @@ pub struct Ending {
     /// The bench as the script left it.
     pub bench: Bench,
     /// The answer that a last line without a line feed brought.
-    pub last: Told,
+    pub last: NumberedResponse,
     /// The fault of a statement that is open at the end.
-    pub open_statement: Told,
+    pub open_statement: NumberedResponse,
     /// The bytes of the last reading that was answered by its bytes.
     pub shown: ArrayVec<u8, 256>,
 }
@@ -68,7 +68,7 @@ fn take_last(
     kept: &[u8],
     size: u32,
     shown: &mut ArrayVec<u8, 256>,
-) -> Told
+) -> NumberedResponse
     ensures tells { (lines : List Line) (answers : List Answer) (rest : List ℕ) → IsBehind lines answers reader.old
         → size ≡ length rest → kept.now ≡ take 80 rest
         → (more : List Answer) × IsBehind (lines ++ last_line rest) (answers ++ more) reader.new
@@ -124,7 +124,7 @@ impl Session {
     /// statement's first line, from 1.
     ///
     /// Only while fewer than `LINES` lines have ended.
-    pub fn end_line(&mut self) -> Told
+    pub fn end_line(&mut self) -> NumberedResponse
         requires { self.old.lines < 1048576 }
         ensures { (settings : Settings) (given : List ℕ) (answers : List Marked) → Took settings given answers self.old
             → (more : List Marked) × IsTold settings answers more

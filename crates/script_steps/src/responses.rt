@@ -28,7 +28,7 @@ pub enum Response {
 }
 
 /// A response, with the number of the statement's first line; `None` where a line brings none.
-pub type Told = Option<(u32, Response)>;
+pub type NumberedResponse = Option<(u32, Response)>;
 
 impl Response {
     /// Whether it counts as refused: a fault, a refusal or an abend.

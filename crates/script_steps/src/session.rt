@@ -4,7 +4,7 @@ ghost use Rattle.macro_reader.specs.Roles.{IsStand};
 
 use arrayvec::ArrayVec;
 use bench_core::Bench;
-use macro_reader::{Reader, Stand};
+use macro_reader::{Reader, ReaderState};
 
 /// The most lines of a script.
 pub const LINES: u32 = 1_048_576;
@@ -62,7 +62,7 @@ impl Session {
     }
 
     /// Where the reader stands: what the next line is to it, by whether that is skipped, or breaks a rule.
-    pub fn stand(&self) -> Stand
+    pub fn stand(&self) -> ReaderState
         ensures { IsStand self.now.reader.mode result }
     {
         self.reader.stand()

@@ -6,7 +6,7 @@ ghost use Rattle.script_steps.specs.Script.{NoFeed};
 ghost use Rattle.script_steps.specs.Steps.{BringsStep, ShowsStep, StepsOver, TakesStep};
 ghost use Rattle.script_steps.specs.Taken.{Took};
 
-use crate::responses::Told;
+use crate::responses::NumberedResponse;
 use crate::session::{LINES, Session, TooLong};
 use memchr::memchr;
 
@@ -18,7 +18,7 @@ pub struct Step {
     /// The place behind its line feed.
     pub next: usize,
     /// The answer that it brought, if any, with the number of the statement's first line.
-    pub told: Told,
+    pub told: NumberedResponse,
 }
 
 /// Is told each line of a long run, to show progress; it has no contract.

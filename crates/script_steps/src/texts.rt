@@ -7,7 +7,7 @@ ghost use Rattle.script_steps.specs.Responses.{fault_word, lines_behind, refusal
 ghost use Rattle.script_steps.specs.Responses.{numbered};
 ghost use Rattle.text_output.specs.Writing.{Puts};
 
-use crate::responses::{Response, Told};
+use crate::responses::{NumberedResponse, Response};
 use bench_core::{Bench, Refusal};
 use macro_reader::FaultKind;
 use std::io::Write;
@@ -176,7 +176,7 @@ pub fn put_told<W: Write>(
     writer: &mut W,
     bench: &Bench,
     shown: &[u8],
-    told: &Told,
+    told: &NumberedResponse,
 )
     ensures { Puts (W.contents writer.old) (W.contents writer.new) gathered.old gathered.new
         (told_text (settings_in bench.now) (bench_of bench.now) shown.now told.now) }

@@ -8,8 +8,8 @@ use Rattle.macro_reader.specs.Columns.{Line, used}
 use Rattle.macro_reader.specs.Continuation.{Joined, begun}
 use Rattle.macro_reader.specs.Scripts.{Mode, awaiting, dropping, gathering, gathered_with, idle_with}
 use Rattle.macro_reader.specs.Roles.{IsStand, aside, first, further, breaking, first_role, further_role}
-use Rattle.macro_reader.specs.declared.reading.Stand.{Stand}
-use Rattle.macro_reader.specs.declared.reading.Stand.TheVariants as stand
+use Rattle.macro_reader.specs.declared.reading.ReaderState.{ReaderState}
+use Rattle.macro_reader.specs.declared.reading.ReaderState.TheVariants as stand
 use Rattle.statement_faults.specs.Roles.{brought_as, brought_by}
 use Rattle.statement_faults.specs.declared.roles.Brought.{Brought}
 use Rattle.statement_faults.specs.declared.roles.Brought.TheVariants as brought
@@ -57,13 +57,13 @@ is_told : (r : Result Asked FaultKind) → brought_as r ≡ brought.Nothing → 
 is_told (Ok asked) h = cc
 is_told (Err k) h = cc
 
-pub aside_is : (skips c : Bool) (n : ℕ) (line : Line) (s : Stand) (b : Brought) → IsStand (idle_with skips c n line).0 s → brought_by (idle_with skips c n line).1 ≡ b
+pub aside_is : (skips c : Bool) (n : ℕ) (line : Line) (s : ReaderState) (b : Brought) → IsStand (idle_with skips c n line).0 s → brought_by (idle_with skips c n line).1 ≡ b
     → s ≡ stand.Awaiting → b ≡ brought.Nothing → aside ≡ first_role skips
 aside_is true c n line s b h k e f = refl
 aside_is false true n line s b h k e f = let bad : stand.Gathering ≡ stand.Awaiting = sym h ∙ e in cc
 aside_is false false n line s b h k e f = absurd (is_told (statement_with (used line) (begun (used line)).text) (k ∙ f))
 
-pub open_is : (skips c : Bool) (n : ℕ) (line : Line) (s : Stand) → IsStand (idle_with skips c n line).0 s → (s ≡ stand.Awaiting → ⊥) → first ≡ first_role skips
+pub open_is : (skips c : Bool) (n : ℕ) (line : Line) (s : ReaderState) → IsStand (idle_with skips c n line).0 s → (s ≡ stand.Awaiting → ⊥) → first ≡ first_role skips
 open_is true c n line s h never = absurd (never h)
 open_is false c n line s h never = refl
 
@@ -72,12 +72,12 @@ told_is true c n line b h never = absurd (never (sym h))
 told_is false c n line b h never = refl
 
 -- the mode of a reader that stands so
-pub awaits : (mode : Mode) (s : Stand) → IsStand mode s → s ≡ stand.Awaiting → mode ≡ awaiting
+pub awaits : (mode : Mode) (s : ReaderState) → IsStand mode s → s ≡ stand.Awaiting → mode ≡ awaiting
 awaits awaiting s h e = refl
 awaits dropping s h e = let bad : stand.Dropping ≡ stand.Awaiting = sym h ∙ e in cc
 awaits (gathering n card j count) s h e = let bad : stand.Gathering ≡ stand.Awaiting = sym h ∙ e in cc
 
-pub gathers : (mode : Mode) (s : Stand) → IsStand mode s → s ≡ stand.Gathering
+pub gathers : (mode : Mode) (s : ReaderState) → IsStand mode s → s ≡ stand.Gathering
     → (n : ℕ) × (card : List ℕ) × (j : Joined) × (count : ℕ) × (mode ≡ gathering n card j count)
 gathers awaiting s h e = let bad : stand.Awaiting ≡ stand.Gathering = sym h ∙ e in cc
 gathers dropping s h e = let bad : stand.Dropping ≡ stand.Gathering = sym h ∙ e in cc

@@ -6,7 +6,7 @@ ghost use Rattle.macro_reader.specs.Roles.{IsStand, role};
 ghost use Rattle.macro_reader.specs.Scripts.{Mode, awaiting, gathering, moved};
 ghost use Rattle.statement_faults.specs.Roles.{brought_by, role_in};
 
-use macro_reader::{FaultKind, Stand};
+use macro_reader::{FaultKind, ReaderState};
 
 /// What a line is.
 #[derive(Clone, Copy)]
@@ -47,15 +47,15 @@ pub enum Brought {
 }
 
 /// What a line is to a reader that awaits a statement, by where it stands behind the line and by what that brings.
-fn first_role(after: Stand, brought: Brought) -> Role
+fn first_role(after: ReaderState, brought: Brought) -> Role
     ensures { (number : ℕ) (line : Line) → IsStand (moved number awaiting line).0 after
         → brought_by (moved number awaiting line).1 ≡ brought → role_in result ≡ role awaiting line }
 {
     match brought {
         Brought::Nothing => match after {
-            Stand::Awaiting => Role::Aside,
-            Stand::Dropping => Role::First,
-            Stand::Gathering => Role::First,
+            ReaderState::Awaiting => Role::Aside,
+            ReaderState::Dropping => Role::First,
+            ReaderState::Gathering => Role::First,
         },
         Brought::Answer => Role::First,
         Brought::Fault(_) => Role::First,
@@ -71,7 +71,13 @@ fn further_role(brought: Brought) -> Role
     match brought {
         Brought::Fault(kind) => match kind {
             FaultKind::Continuation => Role::Breaking,
-            _ => Role::Further,
+            FaultKind::Column
+            | FaultKind::Operation
+            | FaultKind::Operand
+            | FaultKind::Repeated
+            | FaultKind::Missing
+            | FaultKind::Value
+            | FaultKind::LeftOut => Role::Further,
         },
         Brought::Answer => Role::Further,
         Brought::Nothing => Role::Further,
@@ -79,13 +85,13 @@ fn further_role(brought: Brought) -> Role
 }
 
 /// What a line is, by where the reader stands before it and behind it, and by what it brings.
-pub fn role_of(before: Stand, after: Stand, brought: Brought) -> Role
+pub fn role_of(before: ReaderState, after: ReaderState, brought: Brought) -> Role
     ensures { (number : ℕ) (mode : Mode) (line : Line) → IsStand mode before → IsStand (moved number mode line).0 after
         → brought_by (moved number mode line).1 ≡ brought → role_in result ≡ role mode line }
 {
     match before {
-        Stand::Awaiting => first_role(after, brought),
-        Stand::Dropping => Role::Gone,
-        Stand::Gathering => further_role(brought),
+        ReaderState::Awaiting => first_role(after, brought),
+        ReaderState::Dropping => Role::Gone,
+        ReaderState::Gathering => further_role(brought),
     }
 }

@@ -5,7 +5,7 @@ use Rattle.std.specs.FinMap.Entries.{below_all}
 use Rattle.std.proofs.lemmas.Bool.{cond-true, cond-false, and_parts, cases_Bool}
 use Rattle.vsm_model.specs.CellPools.{CellPool, CellPools, cell_pool_in, are_ascending}
 use Rattle.cell_pool.specs.Pools.{Pool}
-use Rattle.cell_pool.specs.Order.{is_before, is_behind}
+use Rattle.cell_pool.specs.Order.{is_before, is_after}
 use Rattle.cell_pool.proofs.OrderLemmas.{before_chain, before_itself}
 use Rattle.storage_changes.specs.NamedPools.{AreNamed}
 use Rattle.storage_changes.specs.PoolTable.{cell_pool_of, cell_pools_in}
@@ -17,18 +17,18 @@ abbrev Row : Type 0
 Row = List ℕ × CellPool
 
 -- a row stays, or it doesn't
-stays : (low : Option (List ℕ)) (row : Row) (rows : CellPools) → is_behind low row.0 ≡ true → rows_behind (row ∷ rows) low ≡ row ∷ rows_behind rows low
-stays low row rows is = cond-true (is_behind low row.0) (row ∷ rows_behind rows low) (rows_behind rows low) is
+stays : (low : Option (List ℕ)) (row : Row) (rows : CellPools) → is_after low row.0 ≡ true → rows_behind (row ∷ rows) low ≡ row ∷ rows_behind rows low
+stays low row rows is = cond-true (is_after low row.0) (row ∷ rows_behind rows low) (rows_behind rows low) is
 
-leaves : (low : Option (List ℕ)) (row : Row) (rows : CellPools) → is_behind low row.0 ≡ false → rows_behind (row ∷ rows) low ≡ rows_behind rows low
-leaves low row rows is = cond-false (is_behind low row.0) (row ∷ rows_behind rows low) (rows_behind rows low) is
+leaves : (low : Option (List ℕ)) (row : Row) (rows : CellPools) → is_after low row.0 ≡ false → rows_behind (row ∷ rows) low ≡ rows_behind rows low
+leaves low row rows is = cond-false (is_after low row.0) (row ∷ rows_behind rows low) (rows_behind rows low) is
 
 -- Rows whose names all come behind a name stay behind any that this one comes behind.
-further : (low : Option (List ℕ)) (name other : List ℕ) → is_behind low name ≡ true → is_before name other ≡ true → is_behind low other ≡ true
+further : (low : Option (List ℕ)) (name other : List ℕ) → is_after low name ≡ true → is_before name other ≡ true → is_after low other ≡ true
 further None name other h k = refl
 further (Some low) name other h k = before_chain low name other h k
 
-all_stay : (low : Option (List ℕ)) (name : List ℕ) → is_behind low name ≡ true → (rows : CellPools) → below_all by_name name rows ≡ true → rows_behind rows low ≡ rows
+all_stay : (low : Option (List ℕ)) (name : List ℕ) → is_after low name ≡ true → (rows : CellPools) → below_all by_name name rows ≡ true → rows_behind rows low ≡ rows
 all_stay low name h [] e = refl
 all_stay low name h (row ∷ rows) e =
     let parts = and_parts (is_lt (by_name name row.0)) (below_all by_name name rows) e in
@@ -70,7 +70,7 @@ not_back a b h =
     ]
 
 -- where no name that is found comes behind, no row does
-none_behind : (low : Option (List ℕ)) (table : CellPools) → are_ascending table ≡ true → ((name : List ℕ) (pool : CellPool) → cell_pool_in table name ≡ Some pool → is_behind low name ≡ false) → rows_behind table low ≡ []
+none_behind : (low : Option (List ℕ)) (table : CellPools) → are_ascending table ≡ true → ((name : List ℕ) (pool : CellPool) → cell_pool_in table name ≡ Some pool → is_after low name ≡ false) → rows_behind table low ≡ []
 none_behind low [] ascends none = refl
 none_behind low (row ∷ rows) ascends none =
     let parts = and_parts (below_all by_name row.0 rows) (are_ascending rows) ascends in
@@ -78,9 +78,9 @@ none_behind low (row ∷ rows) ascends none =
     ∙ none_behind low rows parts.1 (λ name pool e. none name pool (found_rest row rows parts.0 name pool e))
 
 -- The first name that comes behind is in front of those that come behind it.
-module _ (low : Option (List ℕ)) (next : List ℕ) (pool : CellPool) (behind : is_behind low next ≡ true) where
+module _ (low : Option (List ℕ)) (next : List ℕ) (pool : CellPool) (behind : is_after low next ≡ true) where
   first_behind : (table : CellPools) → are_ascending table ≡ true → cell_pool_in table next ≡ Some pool
-      → ((name : List ℕ) (other : CellPool) → cell_pool_in table name ≡ Some other → is_behind low name ≡ true → is_before name next ≡ false)
+      → ((name : List ℕ) (other : CellPool) → cell_pool_in table name ≡ Some other → is_after low name ≡ true → is_before name next ≡ false)
       → rows_behind table low ≡ (next, pool) ∷ rows_behind table (Some next)
   first_behind [] ascends e first = absurd (some_none pool (sym e))
   first_behind (row ∷ rows) ascends e first =
@@ -94,7 +94,7 @@ module _ (low : Option (List ℕ)) (next : List ℕ) (pool : CellPool) (behind :
         here : below_all by_name row.0 rows ≡ true → next ≡ row.0 → row.1 ≡ pool → rows_behind (row ∷ rows) low ≡ (next, pool) ∷ rows_behind (row ∷ rows) (Some next)
         here below is same =
             let above : below_all by_name next rows ≡ true = ap (λ n. below_all by_name n rows) is ∙ below in
-            stays low row rows (ap (is_behind low) (sym is) ∙ behind)
+            stays low row rows (ap (is_after low) (sym is) ∙ behind)
             ∙ ap (λ (z : CellPools). row ∷ z) (all_stay low next behind rows above)
             ∙ ap (λ (n : List ℕ). (n, row.1) ∷ rows) (sym is)
             ∙ ap (λ (p : CellPool). (next, p) ∷ rows) same
@@ -106,9 +106,9 @@ module _ (low : Option (List ℕ)) (next : List ℕ) (pool : CellPool) (behind :
             leaves low row rows (not_behind before) ∙ rest
             ∙ ap (λ (z : CellPools). (next, pool) ∷ z) (sym (leaves (Some next) row rows (not_back row.0 next before)))
           where
-            not_behind : is_before row.0 next ≡ true → is_behind low row.0 ≡ false
+            not_behind : is_before row.0 next ≡ true → is_after low row.0 ≡ false
             not_behind before =
-                elim (cases_Bool (is_behind low row.0)) [
+                elim (cases_Bool (is_after low row.0)) [
                   | inl is ↦ absurd (true≢false (sym before ∙ first row.0 row.1 (found_first row rows row.0 (own_name row.0)) is))
                   | inr is ↦ is
                 ]
@@ -128,8 +128,8 @@ rows_come_in_order pools low named =
       all = all_behind (cell_pools_in pools);
       none = λ none. none_behind low (cell_pools_in pools) table.ascends (λ name pool e.
           let h = found_one pools named name pool e in
-          ap (is_behind low) (sym h.named) ∙ none h.id h.p h.there);
+          ap (is_after low) (sym h.named) ∙ none h.id h.p h.there);
       next = λ id p there is. first_behind low p.name (cell_pool_of p) is.behind (cell_pools_in pools) table.ascends (table.found p.name (has pools named id p there)) (λ name other e is_also.
           let h = found_one pools named name other e in
-          ap (λ n. is_before n p.name) (sym h.named) ∙ is.first h.id h.p h.there (ap (is_behind low) h.named ∙ is_also));
+          ap (λ n. is_before n p.name) (sym h.named) ∙ is.first h.id h.p h.there (ap (is_after low) h.named ∙ is_also));
     }

@@ -3,22 +3,22 @@
 use Rattle.std.specs.Prelude.{◌≡◌, ℕ, true, false, Option, Some, None, List, [], ◌∷◌, filter}
 use Rattle.vsm_model.specs.CellPools.{CellPools}
 use Rattle.cell_pool.specs.Pools.{Pool}
-use Rattle.cell_pool.specs.Order.{is_before, is_behind}
+use Rattle.cell_pool.specs.Order.{is_before, is_after}
 use Rattle.storage_changes.specs.NamedPools.{AreNamed}
 use Rattle.storage_changes.specs.PoolTable.{cell_pool_of, cell_pools_in}
 
 -- the rows whose names come behind one that is given, or all of them where none is given
 abbrev pub rows_behind : CellPools → Option (List ℕ) → CellPools
-rows_behind table behind = filter (λ row. is_behind behind row.0) table
+rows_behind table behind = filter (λ row. is_after behind row.0) table
 
 -- no cell pool's name comes behind
 abbrev pub NoneIsBehind : (ℕ → Option Pool) → Option (List ℕ) → Type 0
-NoneIsBehind pools behind = (id : ℕ) (p : Pool) → pools id ≡ Some p → is_behind behind p.name ≡ false
+NoneIsBehind pools behind = (id : ℕ) (p : Pool) → pools id ≡ Some p → is_after behind p.name ≡ false
 
 -- The name of the cell pool comes behind, and no name that does comes before it.
 pub record IsFirstBehind (pools : ℕ → Option Pool) (low : Option (List ℕ)) (p : Pool) : Type 0 where
-  pub behind : is_behind low p.name ≡ true
-  pub first : (id : ℕ) (q : Pool) → pools id ≡ Some q → is_behind low q.name ≡ true → is_before q.name p.name ≡ false
+  pub behind : is_after low p.name ≡ true
+  pub first : (id : ℕ) (q : Pool) → pools id ≡ Some q → is_after low q.name ≡ true → is_before q.name p.name ≡ false
 
 -- Where none is given all rows come behind; where no cell pool's name does, none does; and else the row of the first
 -- cell pool that does comes in front of those behind its name.

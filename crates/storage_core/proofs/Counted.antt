@@ -15,7 +15,7 @@ use Rattle.storage_swap.specs.declared.change.Change.{Change}
 use Rattle.raw_region.specs.Pages.{Pages}
 use Rattle.storage_swap.specs.Beside.{record_at, records_of}
 use Rattle.storage_swap.specs.Reserve.{Reserves, elements_for}
-use Rattle.storage_swap.specs.Growth.{MakesElements, MakesFrames}
+use Rattle.storage_swap.specs.Growth.{MakesElements, MakesFrames, MakesWithin}
 use Rattle.storage_core.specs.Planned.{extents_leaving}
 
 follow-length : (s : Store) (id n : ℕ) → length (follow s id n) ≡ n
@@ -68,20 +68,13 @@ pub uses_within : {E C : Type 0} (old new n most : ℕ) → n ≤ most → (r : 
 uses_within old new n most within (Ok c) used = omega (arith, within, used)
 uses_within old new n most within (Err e) used = used
 
--- so it is of what is made,
-pub made_within : (old new : Store) (n most : ℕ) → n ≤ most → MakesElements old new n → MakesElements old new most
+-- so it is of what is made
+pub made_within : (old new : Store) (n most : ℕ) → n ≤ most → MakesElements old new n → MakesWithin old new most
 made_within old new n most within made = omega (arith, within, made)
 
-pub makes_within : {E C : Type 0} (old new : Store) (n most : ℕ) → n ≤ most → (r : Result C E) → IfOk r (λ _. MakesElements old new n) → IfOk r (λ _. MakesElements old new most)
-makes_within old new n most within (Ok c) made = made_within old new n most within made
-makes_within old new n most within (Err e) made = made
-
--- also where it's known whatever the answer
-pub if_made : {E C : Type 0} (P : Type 0) (r : Result C E) → P → IfOk r (λ _. P)
-if_made P (Ok c) h = h
-if_made P (Err e) h = tt
+pub makes_within : (old new : Store) (n most : ℕ) → n ≤ most → MakesWithin old new n → MakesWithin old new most
+makes_within old new n most within made = omega (arith, within, made)
 
 -- of a region that stays no frame is made
-pub no_frame_made : {E C : Type 0} (old new : Pages) (r : Result C E) → IfOk r (λ _. new ≡ old) → IfOk r (λ _. MakesFrames old new 0)
-no_frame_made old new (Ok c) same = let h : new.made ≡ old.made = ap (λ (z : Pages). z.made) same in omega (arith, h)
-no_frame_made old new (Err e) same = same
+pub no_frame_made : (old new : Pages) → new ≡ old → MakesFrames old new 0
+no_frame_made old new same = let h : new.made ≡ old.made = ap (λ (z : Pages). z.made) same in omega (arith, h)

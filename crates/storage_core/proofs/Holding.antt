@@ -139,8 +139,8 @@ pub discarded_is_held : (settings : Settings) (p t : Parts) (c : Change) → IsH
     → IsHeld settings t
 discarded_is_held settings p t c held gone =
     kept_is_held settings p t held
-    (storage_steps.discard_apart (record { storage = p }) (record { storage = t }) c [] (ready_is_apart p c gone.before) gone)
-    (storage_steps.discard_shows (record { storage = p }) (record { storage = t }) c gone) gone.tables.segments
+    (storage_steps.discard_apart p t c [] (ready_is_apart p c gone.before) gone)
+    (storage_steps.discard_shows p t c gone) gone.tables.segments
 
 -- an unassigned page is one of the regions
 pub unassigned_in_region : (settings : Settings) (p : Parts) → IsHeld settings p → (page : ℕ)

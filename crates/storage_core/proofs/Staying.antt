@@ -18,13 +18,13 @@ use Rattle.storage_core.specs.Stays.{Stays}
 
 pub discard_stays : (p t u : Parts) (d : Meaning) (c : Change) → Reserves p d c t → Discards t c u → Stays p u
 discard_stays p t u d c made gone = record {
-  shows = storage_steps.discard_shows (record { storage = t }) (record { storage = u }) c gone ∙ made.shows;
+  shows = storage_steps.discard_shows t u c gone ∙ made.shows;
   elements = λ i. (moves-follow p.elements t.elements u.elements (λ j. 0) (change_holds t.elements c) (λ j. 0) made.moves gone.moves).others i refl refl;
   meaning = λ x h.
-      storage_steps.discard_others (record { storage = t }) (record { storage = u }) c x (reserve-apart p t d c made (x ∷ []) h) gone
+      storage_steps.discard_others t u c x (reserve-apart p t d c made (x ∷ []) h) gone
       ∙ reserve-others p t d c made x h;
-  apart = λ xs h. storage_steps.discard_apart (record { storage = t }) (record { storage = u }) c xs (reserve-apart p t d c made xs h) gone;
-  whole = λ xs h. storage_steps.discard_whole [] xs c (record { storage = t }) (record { storage = u }) (reserve-whole p t d c made xs h) gone;
+  apart = λ xs h. storage_steps.discard_apart t u c xs (reserve-apart p t d c made xs h) gone;
+  whole = λ xs h. storage_steps.discard_whole [] xs c t u (reserve-whole p t d c made xs h) gone;
 }
 
 -- spare elements, spare frames and tables that were made

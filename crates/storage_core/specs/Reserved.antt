@@ -4,14 +4,15 @@ use Rattle.std.specs.declared.alloc.AllocError.{AllocError}
 use Rattle.vsm_elements.specs.Store.{live_count}
 use Rattle.storage_changes.specs.Changes.{Change}
 use Rattle.storage_swap.specs.declared.change.Change.{Change as TheChange}
-use Rattle.storage_swap.specs.Growth.{MakesElements, MakesFrames}
+use Rattle.storage_swap.specs.Growth.{MakesWithin, MakesFrames}
 use Rattle.storage_swap.specs.Reserve.{Reserves}
 use Rattle.storage_core.specs.declared.storage.Storage.{Storage}
 use Rattle.storage_core.specs.Meaning.{settings_of}
 use Rattle.storage_core.specs.Stays.{Stays}
 
 -- It is this one, of at most so many elements and a frame for each of these pages. Where memory is refused, which is
--- never where enough is spare, the storage stays.
+-- never where enough is spare, the storage stays. Either way at most a block of elements is made beyond these, and no
+-- frame.
 pub record IsReserved (s : Storage) (d : Change) (most pages : ℕ) (enough : Type 0) (t : Storage)
     (result : Result TheChange AllocError) : Type 0 where
   pub ok : IfOk result (λ change. Reserves s.parts d change t.parts)
@@ -19,8 +20,8 @@ pub record IsReserved (s : Storage) (d : Change) (most pages : ℕ) (enough : Ty
   pub few : IfOk result (λ change. change.records.count + change.blanks.count ≤ most)
   pub uses : IfOk result (λ _. s.parts.elements.spare ≤ t.parts.elements.spare + most)
   pub live : IfOk result (λ _. live_count t.parts.elements ≤ live_count s.parts.elements + most)
-  pub made : IfOk result (λ _. MakesElements s.parts.elements t.parts.elements most)
-  pub made_frames : IfOk result (λ _. MakesFrames s.parts.region t.parts.region pages)
+  pub made : MakesWithin s.parts.elements t.parts.elements most
+  pub made_frames : MakesFrames s.parts.region t.parts.region pages
   pub err : OnErr result (Stays s.parts t.parts)
   pub needless : enough → IsOk result
   pub settings : settings_of t ≡ settings_of s

@@ -7,7 +7,7 @@ use Rattle.descriptor_queue.specs.Extents as queue
 use Rattle.descriptor_queue.specs.Pages as pages
 use Rattle.free_queue.specs.FreeQueue as free_queue
 use Rattle.vsm_model.specs.declared.Subpool.{Subpool}
-use Rattle.subpool_set.specs.declared.places.PoolPlace.{PoolPlace}
+use Rattle.subpool_set.specs.declared.places.SubpoolPlace.{SubpoolPlace}
 use Rattle.subpool_set.specs.declared.sharers.SharerPlace.{SharerPlace}
 use Rattle.subpool_storage.specs.SubpoolStorage as subpools
 use Rattle.subpool_storage.specs.Extents.{extents, free_areas}
@@ -17,17 +17,17 @@ use Rattle.storage_core.specs.declared.walks.FreeAreaPlace.{FreeAreaPlace}
 use Rattle.storage_core.specs.Meaning.{state_in_place}
 
 -- the place is before, between or behind the subpools, and these are behind it
-abbrev pub IsSubpoolPlace : Storage → PoolPlace → Type 0
+abbrev pub IsSubpoolPlace : Storage → SubpoolPlace → Type 0
 IsSubpoolPlace s place = subpools.IsSubpoolPlace s.parts.elements s.parts.subpools place
 
-abbrev pub subpools_left : Storage → PoolPlace → List Subpool
+abbrev pub subpools_left : Storage → SubpoolPlace → List Subpool
 subpools_left s place = subpools.subpools_left s.parts.elements s.parts.subpools place
 
 -- the place is behind a subpool that was read, and this is that subpool
-abbrev pub IsBehindSubpool : Storage → PoolPlace → Type 0
+abbrev pub IsBehindSubpool : Storage → SubpoolPlace → Type 0
 IsBehindSubpool s place = subpools.IsBehindSubpool s.parts.elements s.parts.subpools place
 
-abbrev pub subpool_before : Storage → PoolPlace → Subpool
+abbrev pub subpool_before : Storage → SubpoolPlace → Subpool
 subpool_before s place = subpools.subpool_before s.parts.elements place
 
 -- the tasks behind the place that see the subpool besides its owner

@@ -1,7 +1,7 @@
 //! The changes by which bytes are stored, and by which a cell pool comes.
 ghost use Rattle.std.specs.Prelude.{◌≡◌, ℕ, None, ◌+◌, ◌^◌, ◌<◌, ◌≤◌, length, IsOk, OnErr, IfOk};
 ghost use Rattle.vsm_elements.specs.Store.{live_count};
-ghost use Rattle.storage_swap.specs.Growth.{MakesElements, MakesFrames};
+ghost use Rattle.storage_swap.specs.Growth.{MakesWithin, MakesFrames};
 ghost use Rattle.storage_swap.specs.Reserve.{Reserves};
 ghost use Rattle.storage_plans.specs.StorePlans.{store_change, CanBeStored};
 ghost use Rattle.cell_plans.specs.CellPlans.{build_change, CanBeBuilt};
@@ -15,7 +15,7 @@ use cell_plans::BuildPlan;
 use std::alloc::AllocError;
 use storage_plans::plan::NO_PAGES;
 use storage_plans::{StorePlan, block_records};
-use storage_swap::{Change, NewPool};
+use storage_swap::{Change, ReservedCellPool};
 
 impl Storage {
     // The change by which bytes are stored. Its records are made here, and so a plan has no room for them.
@@ -41,16 +41,14 @@ impl Storage {
             + (31 + plan.settings.primary)) }
         ensures live { IfOk result (λ _. live_count self.new.parts.elements ≤ live_count self.old.parts.elements
             + (31 + plan.settings.primary)) }
-        ensures made { IfOk result (λ _. MakesElements self.old.parts.elements self.new.parts.elements
-            (31 + plan.settings.primary)) }
-        ensures made_frames { IfOk result (λ _. MakesFrames self.old.parts.region self.new.parts.region
-            plan.fresh.len) }
+        ensures made { MakesWithin self.old.parts.elements self.new.parts.elements (31 + plan.settings.primary) }
+        ensures made_frames { MakesFrames self.old.parts.region self.new.parts.region plan.fresh.len }
         ensures err { OnErr result (Stays self.old.parts self.new.parts) }
         ensures needless { IsSpareFor self.old.parts
             (31 + plan.settings.primary) plan.fresh → IsOk result }
         ensures settings { settings_of self.new ≡ settings_of self.old }
     {
-        let pool = NewPool {
+        let pool = ReservedCellPool {
             name: &plan.name,
             settings: plan.settings,
             header: &plan.header,

@@ -4,7 +4,7 @@ ghost use Rattle.vsm_elements.specs.Store.{live_count};
 ghost use Rattle.storage_changes.specs.Changes.{Fit, overlay};
 ghost use Rattle.storage_changes.specs.Meaning.{IsSound};
 ghost use Rattle.storage_plans.specs.Plans.{change_in};
-ghost use Rattle.storage_swap.specs.Growth.{MakesElements, MakesFrames};
+ghost use Rattle.storage_swap.specs.Growth.{MakesWithin, MakesFrames};
 ghost use Rattle.storage_swap.specs.Reserve.{Reserves};
 ghost use Rattle.storage_swap.specs.Swap.{means, Ready, Swaps, Discards};
 ghost use Rattle.storage_core.specs.Meaning.{state_in_place, settings_of};
@@ -36,8 +36,8 @@ impl Storage {
     /// subpool, or the elements of a cell pool that comes. It has just as many frames as pages come to be assigned.
     ///
     /// `AllocError` where memory is refused: that can be only where fewer elements or frames are spare, or a table
-    /// isn't there. What was made before that stays, as spare elements and frames. For a change at most a block of
-    /// elements is made beyond what it takes, and no frame.
+    /// isn't there. What was made before that stays, as spare elements and frames. Whatever the answer, at most a block
+    /// of elements is made beyond what the change takes, and no frame.
     pub fn reserve(&mut self, plan: Plan) -> Result<Change, AllocError>
         requires { CanBeReserved (state_in_place self.old) plan }
         ensures ok { IfOk result (λ change. (id : ℕ) × IsIdFor (state_in_place self.old) plan id
@@ -49,10 +49,9 @@ impl Storage {
             ≤ self.new.parts.elements.spare + elements_needed (state_in_place self.old) plan) }
         ensures live { IfOk result (λ _. live_count self.new.parts.elements
             ≤ live_count self.old.parts.elements + elements_needed (state_in_place self.old) plan) }
-        ensures made { IfOk result (λ _. MakesElements self.old.parts.elements self.new.parts.elements
-            (elements_needed (state_in_place self.old) plan)) }
-        ensures made_frames { IfOk result (λ _. MakesFrames self.old.parts.region self.new.parts.region
-            (pages_assigned plan)) }
+        ensures made { MakesWithin self.old.parts.elements self.new.parts.elements
+            (elements_needed (state_in_place self.old) plan) }
+        ensures made_frames { MakesFrames self.old.parts.region self.new.parts.region (pages_assigned plan) }
         ensures err { OnErr result (Stays self.old.parts self.new.parts) }
         ensures needless { IsSpare self.old.parts (state_in_place self.old) plan → IsOk result }
         ensures settings { settings_of self.new ≡ settings_of self.old }

@@ -20,8 +20,8 @@ pub use run_set::{Run, RunPlace};
 pub use storage::Storage;
 pub use storage_plans::STORE_MOST;
 pub use storage_plans::reasons::SideReason;
-pub use storage_swap::{Change, Released};
-pub use subpool_storage::{PoolPlace, SharerPlace};
+pub use storage_swap::Change;
+pub use subpool_storage::{SharerPlace, SubpoolPlace};
 pub use vsm_model::{
     Attach, Boundary, Build, Cause, Code, Family, Get, Lengths, Location, Obtain, Passed, Release,
     Reply, Residence, Service, Settings, Subpool,

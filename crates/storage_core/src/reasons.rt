@@ -11,11 +11,8 @@ ghost use Rattle.storage_core.specs.Meaning.{settings_of, state_of};
 
 use crate::storage::Storage;
 use storage_plans::areas::subpool_for;
-use storage_plans::reasons::{SideReason, obtain_reasons, reasons};
+use storage_plans::reasons::{Sides, obtain_reasons, reasons};
 use vsm_model::{Obtain, Residence, Subpool};
-
-/// What the first side of the line that is looked at has, and what the second has, if it's looked at too.
-pub type Sides = (SideReason, Option<SideReason>);
 
 impl Storage {
     /// What each side of the line that is looked at has for an area of `count` doublewords of the subpool, on a

@@ -1,6 +1,6 @@
 ghost use Rattle.std.specs.Prelude.{◌≡◌, true, [], IfOk};
 ghost use Rattle.vsm_model.specs.Regions.{settings_valid};
-ghost use Rattle.storage_swap.specs.Fresh.{first_storage};
+ghost use Rattle.storage_swap.specs.Fresh.{first_storage, StartsSmall};
 ghost use Rattle.storage_swap.specs.Apart.{AreWhole};
 ghost use Rattle.storage_core.specs.Held.{IsHeld, IsHeld-prop};
 
@@ -26,12 +26,15 @@ impl Storage {
     ghost use Rattle.storage_core.specs.Meaning.{state_in_place, settings_of};
 
     /// The storage of the regions that the settings lay out: task 1 is current, and owns and sees an empty subpool 0.
+    /// At most a block of elements is made for it, and no frame.
+    ///
     /// `AllocError` where the memory for it isn't there.
     pub fn new(alloc: Global, settings: Settings) -> Result<Storage, AllocError>
         requires { settings_valid settings ≡ true }
         ensures state { IfOk result (λ s. state_in_place s ≡ first_storage settings) }
         ensures settings { IfOk result (λ s. settings_of s ≡ settings) }
         ensures whole { IfOk result (λ s. AreWhole s.parts []) }
+        ensures made { IfOk result (λ s. StartsSmall s.parts) }
     {
         let parts = fresh(alloc, settings)?;
         first_is_first();

@@ -18,7 +18,7 @@ use descriptor_queue::{Extents, Pages};
 use free_queue::{Area, FreeQueue};
 use run_set::{Run, RunPlace};
 use storage_changes::maps::{runs_are_shown, unassigned_are_shown};
-use subpool_storage::{PoolPlace, SharerPlace, SubpoolStorage};
+use subpool_storage::{SharerPlace, SubpoolPlace, SubpoolStorage};
 use vsm_model::Subpool;
 
 /// A place among the extents of a subpool, from which [`Storage::next_extent`] goes on at the cost of one element. It
@@ -45,7 +45,7 @@ impl Storage {
     }
 
     /// The place before the first subpool of any storage. A place is one as long as the storage stays as it is.
-    pub fn first_subpool_place() -> PoolPlace
+    pub fn first_subpool_place() -> SubpoolPlace
         ensures place { (s : Storage) → IsSubpoolPlace s result }
         ensures all { (s : Storage) → subpools_left s result ≡ subpools_in_order (state_in_place s).subpools }
     {
@@ -55,7 +55,7 @@ impl Storage {
     /// The subpool behind the place, and the place behind that subpool; `None` behind the last. From the first place
     /// on, the subpools come by number and then by owner. (z/OS MVS Programming: Assembler Services Guide, "Subpool
     /// handling".)
-    pub fn next_subpool(&self, place: PoolPlace) -> Option<(Subpool, PoolPlace)>
+    pub fn next_subpool(&self, place: SubpoolPlace) -> Option<(Subpool, SubpoolPlace)>
         requires { IsSubpoolPlace self.now place }
         ensures none { IfNone result (subpools_left self.now place ≡ []) }
         ensures next { IfSome result (λ r. subpools_left self.now place ≡ r.0 ∷ subpools_left self.now r.1) }
@@ -91,7 +91,7 @@ impl Storage {
     }
 
     /// The place before the first extent of the subpool before the place, with no look-up.
-    pub fn first_extent_at(&self, place: PoolPlace) -> ExtentPlace
+    pub fn first_extent_at(&self, place: SubpoolPlace) -> ExtentPlace
         requires { IsBehindSubpool self.now place }
         ensures { IsExtentPlace self.now (subpool_before self.now place) result 0 }
     {
@@ -102,7 +102,7 @@ impl Storage {
     }
 
     /// The place before the first free area of the subpool before the place, with no look-up.
-    pub fn first_free_area_at(&self, place: PoolPlace) -> FreeAreaPlace
+    pub fn first_free_area_at(&self, place: SubpoolPlace) -> FreeAreaPlace
         requires { IsBehindSubpool self.now place }
         ensures { IsFreeAreaPlace self.now (subpool_before self.now place) result 0 }
     {

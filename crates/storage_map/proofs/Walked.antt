@@ -2,7 +2,7 @@
 use Rattle.std.proofs.Common.{◌≡◌, ◌∷◌, sym, ap, ◌∙◌}
 use Rattle.storage_changes.specs.MapLists.{SharersAreShown}
 use Rattle.subpool_set.specs.Pools as pools
-use Rattle.subpool_set.specs.declared.places.PoolPlace.{PoolPlace}
+use Rattle.subpool_set.specs.declared.places.SubpoolPlace.{SubpoolPlace}
 use Rattle.subpool_set.specs.declared.sharers.SharerPlace.{SharerPlace}
 use Rattle.storage_core.specs.declared.storage.Storage.{Storage}
 use Rattle.storage_core.specs.Meaning.{state_in_place, state_of}
@@ -11,7 +11,7 @@ use Rattle.vsm_model.specs.declared.Subpool.{Subpool}
 use Rattle.vsm_model.specs.Map.{sharers}
 
 -- the next subpool is the one before the place behind it
-pub next_before : (s : Storage) (at behind : PoolPlace) (p : Subpool) → subpools_left s at ≡ p ∷ subpools_left s behind → subpool_before s behind ≡ p
+pub next_before : (s : Storage) (at behind : SubpoolPlace) (p : Subpool) → subpools_left s at ≡ p ∷ subpools_left s behind → subpool_before s behind ≡ p
     → subpools_left s at ≡ subpool_before s behind ∷ subpools_left s behind
 next_before s at behind p next before = next ∙ ap (λ (q : Subpool). q ∷ subpools_left s behind) (sym before)
 

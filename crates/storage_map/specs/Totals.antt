@@ -2,7 +2,7 @@
 -- Assembler Services Guide, "Virtual storage management".
 use Rattle.std.specs.Prelude.{ℕ, Bool, true, false}
 use Rattle.storage_changes.specs.MapTotals.{subpool_pages, subpool_free}
-use Rattle.subpool_set.specs.declared.places.PoolPlace.{PoolPlace}
+use Rattle.subpool_set.specs.declared.places.SubpoolPlace.{SubpoolPlace}
 use Rattle.storage_core.specs.declared.storage.Storage.{Storage}
 use Rattle.storage_core.specs.Meaning.{state_in_place}
 use Rattle.storage_core.specs.Walks.{subpool_before}
@@ -25,8 +25,8 @@ totals_of settings s =
     }
 
 -- the pages below the 16 MB line, or those above it, of the subpool before the place, and its free doublewords
-abbrev pub pages_before : Storage → PoolPlace → Bool → ℕ
+abbrev pub pages_before : Storage → SubpoolPlace → Bool → ℕ
 pages_before s place below = subpool_pages (state_in_place s).subpools below (subpool_before s place)
 
-abbrev pub free_before : Storage → PoolPlace → ℕ
+abbrev pub free_before : Storage → SubpoolPlace → ℕ
 free_before s place = subpool_free (state_in_place s).subpools (subpool_before s place)

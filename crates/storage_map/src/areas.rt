@@ -8,7 +8,7 @@ ghost use Rattle.text_output.specs.Writing.{Puts};
 
 use crate::fields::put_area;
 use std::io::Write;
-use storage_core::{PoolPlace, Storage};
+use storage_core::{Storage, SubpoolPlace};
 use text_output::Gathered;
 use vsm_model::geometry::PAGE_BYTES;
 
@@ -17,7 +17,7 @@ pub(crate) fn put_extents<W: Write>(
     gathered: &mut Gathered,
     writer: &mut W,
     storage: &Storage,
-    place: PoolPlace,
+    place: SubpoolPlace,
 )
     requires { IsBehindSubpool storage.now place }
     ensures { Puts (W.contents writer.old) (W.contents writer.new) gathered.old gathered.new
@@ -41,7 +41,7 @@ pub(crate) fn put_free_areas<W: Write>(
     gathered: &mut Gathered,
     writer: &mut W,
     storage: &Storage,
-    place: PoolPlace,
+    place: SubpoolPlace,
 )
     requires { IsBehindSubpool storage.now place }
     ensures { Puts (W.contents writer.old) (W.contents writer.new) gathered.old gathered.new

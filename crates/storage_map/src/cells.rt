@@ -11,7 +11,9 @@ ghost use Rattle.text_output.specs.Writing.{Puts};
 use crate::fields::{put_area, put_field, put_hex_field};
 use crate::pools::{cell_pool_header, cell_pool_name, cell_pool_settings, next_cell_pool};
 use crate::walks::{first_cell_extent, first_free_cell, next_cell_extent, next_free_cell};
-use cell_pool::{CellExtentPlace, CellId, CellPlace, CellSettings, Extent, Header, Name};
+use cell_pool::{
+    CellExtentPlace, CellId, CellPlace, CellPoolHeader, CellPoolName, CellSettings, Extent,
+};
 use std::io::Write;
 use storage_core::{Residence, Storage};
 use text_output::Gathered;
@@ -28,7 +30,7 @@ fn put_location<W: Write>(gathered: &mut Gathered, writer: &mut W, location: Res
 }
 
 /// Puts a header in quotes, and nothing where there is none.
-fn put_header<W: Write>(gathered: &mut Gathered, writer: &mut W, header: &Option<Header>)
+fn put_header<W: Write>(gathered: &mut Gathered, writer: &mut W, header: &Option<CellPoolHeader>)
     ensures { Puts (W.contents writer.old) (W.contents writer.new) gathered.old gathered.new
         (header_text (option_map (λ h. h.items) header.now)) }
 {
@@ -44,9 +46,9 @@ fn put_header<W: Write>(gathered: &mut Gathered, writer: &mut W, header: &Option
 pub(crate) fn put_cell_pool_line<W: Write>(
     gathered: &mut Gathered,
     writer: &mut W,
-    name: &Name,
+    name: &CellPoolName,
     settings: CellSettings,
-    header: &Option<Header>,
+    header: &Option<CellPoolHeader>,
 )
     ensures { Puts (W.contents writer.old) (W.contents writer.new) gathered.old gathered.new
         (cell_pool_line name.now.bytes settings (option_map (λ h. h.items) header.now)) }
@@ -164,7 +166,7 @@ pub(crate) fn put_cell_pools<W: Write>(gathered: &mut Gathered, writer: &mut W, 
     ensures { Puts (W.contents writer.old) (W.contents writer.new) gathered.old gathered.new
         (flat_map (λ row. cell_pool_lines row.0 row.1) (state_of storage.now).cell_pools) }
 {
-    let mut behind: Option<Name> = None;
+    let mut behind: Option<CellPoolName> = None;
     while let Some(id) = next_cell_pool(storage, behind.as_ref()) {
         put_cell_pool(gathered, writer, storage, id);
         behind = Some(cell_pool_name(storage, id));

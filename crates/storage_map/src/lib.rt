@@ -15,7 +15,9 @@ mod sums;
 mod tasks;
 mod walks;
 
-pub use cell_pool::{CellExtentPlace, CellId, CellPlace, CellSettings, Extent, Header, Name};
+pub use cell_pool::{
+    CellExtentPlace, CellId, CellPlace, CellPoolHeader, CellPoolName, CellSettings, Extent,
+};
 pub use counts::Totals;
 pub use maps::{put_history, put_map, write_history, write_map};
 pub use pools::{cell_pool_header, cell_pool_name, cell_pool_settings, next_cell_pool};

@@ -6,7 +6,7 @@ ghost use Rattle.storage_map.specs.Cells.{cell_pool};
 ghost use Rattle.storage_core.specs.Meaning.{state_of};
 
 use cell_pool::laws::pools_are_one;
-use cell_pool::{CellId, CellSettings, Header, Name};
+use cell_pool::{CellId, CellPoolHeader, CellPoolName, CellSettings};
 use storage_changes::order::rows_come_in_order;
 use storage_core::Storage;
 use subpool_storage::laws::cell_pools_are_named;
@@ -15,7 +15,7 @@ use subpool_storage::laws::cell_pools_are_named;
 /// past the last.
 ///
 /// It walks over all cell pools.
-pub fn next_cell_pool(storage: &Storage, behind: Option<&Name>) -> Option<CellId>
+pub fn next_cell_pool(storage: &Storage, behind: Option<&CellPoolName>) -> Option<CellId>
     ensures none { IfNone result (rows_behind (state_of storage.now).cell_pools
         (option_map (λ n. n.now.bytes) behind.entry) ≡ []) }
     ensures there { IfSome result (λ id. IsSome (cell_pool storage.now id)) }
@@ -30,7 +30,7 @@ pub fn next_cell_pool(storage: &Storage, behind: Option<&Name>) -> Option<CellId
 }
 
 /// The name of a cell pool.
-pub fn cell_pool_name(storage: &Storage, id: CellId) -> Name
+pub fn cell_pool_name(storage: &Storage, id: CellId) -> CellPoolName
     requires { IsSome (cell_pool storage.now id) }
     ensures { IfSome (cell_pool storage.now id) (λ p. result.bytes ≡ p.name) }
 {
@@ -46,7 +46,7 @@ pub fn cell_pool_settings(storage: &Storage, id: CellId) -> CellSettings
 }
 
 /// The header of a cell pool; `None` where it was built without one.
-pub fn cell_pool_header(storage: &Storage, id: CellId) -> Option<Header>
+pub fn cell_pool_header(storage: &Storage, id: CellId) -> Option<CellPoolHeader>
     requires { IsSome (cell_pool storage.now id) }
     ensures { IfSome (cell_pool storage.now id) (λ p. option_map (λ h. h.items) result ≡ p.header) }
 {

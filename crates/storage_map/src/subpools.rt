@@ -12,14 +12,14 @@ use crate::areas::{put_extents, put_free_areas};
 use crate::fields::put_field;
 use std::io::Write;
 use storage_changes::maps::{runs_are_shown, subpools_are_shown};
-use storage_core::{PoolPlace, Storage, Subpool};
+use storage_core::{Storage, Subpool, SubpoolPlace};
 use text_output::{Gathered, put_decimal};
 
 /// A subpool that a walk found, and the place behind it.
 #[derive(Clone, Copy)]
-pub(crate) struct Found {
+pub(crate) struct FoundSubpool {
     subpool: Subpool,
-    behind: PoolPlace,
+    behind: SubpoolPlace,
 }
 
 /// Puts a comma and a task.
@@ -61,7 +61,7 @@ fn put_subpool_line<W: Write>(
     gathered: &mut Gathered,
     writer: &mut W,
     storage: &Storage,
-    found: Found,
+    found: FoundSubpool,
 )
     requires { IsFound storage.now found }
     ensures { Puts (W.contents writer.old) (W.contents writer.new) gathered.old gathered.new
@@ -80,7 +80,12 @@ fn put_subpool_line<W: Write>(
 }
 
 /// Puts the lines of the subpool.
-fn put_subpool<W: Write>(gathered: &mut Gathered, writer: &mut W, storage: &Storage, found: Found)
+fn put_subpool<W: Write>(
+    gathered: &mut Gathered,
+    writer: &mut W,
+    storage: &Storage,
+    found: FoundSubpool,
+)
     requires there { is_there (state_in_place storage.now).subpools found.subpool ≡ true }
     requires found { IsFound storage.now found }
     ensures { Puts (W.contents writer.old) (W.contents writer.new) gathered.old gathered.new
@@ -100,7 +105,7 @@ pub(crate) fn put_subpools<W: Write>(gathered: &mut Gathered, writer: &mut W, st
 {
     let mut place = Storage::first_subpool_place();
     while let Some((subpool, behind)) = storage.next_subpool(place) {
-        put_subpool(gathered, writer, storage, Found { subpool, behind });
+        put_subpool(gathered, writer, storage, FoundSubpool { subpool, behind });
         place = behind;
     }
 }

@@ -7,30 +7,30 @@ ghost use Rattle.storage_map.specs.Totals.{free_before, pages_before, totals_of}
 
 use crate::counts::Totals;
 use storage_changes::maps::totals_are_sums;
-use storage_core::{PoolPlace, Run, Storage};
+use storage_core::{Run, Storage, SubpoolPlace};
 use vsm_model::geometry::{LINE_PAGE, PAGE_BYTES, PAGE_K};
 
 /// The pages of a subpool, or of all subpools, on each side of the 16 MB line.
 #[derive(Clone, Copy)]
-struct Pages {
+struct PageCounts {
     low: u32,
     high: u32,
 }
 
 /// The pages with those of a run besides.
-fn with_run(pages: Pages, run: Run) -> Pages
+fn with_run(pages: PageCounts, run: Run) -> PageCounts
     requires low { pages.low + pages_on_side true run < 2 ^ 32 }
     requires high { pages.high + pages_on_side false run < 2 ^ 32 }
     ensures low { result.low ≡ pages.low + pages_on_side true run }
     ensures high { result.high ≡ pages.high + pages_on_side false run }
 {
     if run.start < LINE_PAGE {
-        Pages {
+        PageCounts {
             low: pages.low + run.len,
             high: pages.high,
         }
     } else {
-        Pages {
+        PageCounts {
             low: pages.low,
             high: pages.high + run.len,
         }
@@ -38,14 +38,14 @@ fn with_run(pages: Pages, run: Run) -> Pages
 }
 
 /// The pages of the subpool before the place.
-fn pages_of(storage: &Storage, place: PoolPlace) -> Pages
+fn pages_of(storage: &Storage, place: SubpoolPlace) -> PageCounts
     requires behind { IsBehindSubpool storage.now place }
     requires low { pages_before storage.now place true < 2 ^ 32 }
     requires high { pages_before storage.now place false < 2 ^ 32 }
     ensures low { result.low ≡ pages_before storage.now place true }
     ensures high { result.high ≡ pages_before storage.now place false }
 {
-    let mut pages = Pages { low: 0, high: 0 };
+    let mut pages = PageCounts { low: 0, high: 0 };
     let mut cursor = storage.first_extent_at(place);
     while let Some((run, behind)) = storage.next_extent(cursor) {
         pages = with_run(pages, run);
@@ -55,7 +55,7 @@ fn pages_of(storage: &Storage, place: PoolPlace) -> Pages
 }
 
 /// The free doublewords of the subpool before the place.
-fn free_of(storage: &Storage, place: PoolPlace) -> u32
+fn free_of(storage: &Storage, place: SubpoolPlace) -> u32
     requires behind { IsBehindSubpool storage.now place }
     requires few { free_before storage.now place < 2 ^ 32 }
     ensures { result ≡ free_before storage.now place }
@@ -70,7 +70,7 @@ fn free_of(storage: &Storage, place: PoolPlace) -> u32
 }
 
 /// The pages of all subpools, and the free doublewords in them.
-fn sums(storage: &Storage) -> (Pages, u32)
+fn sums(storage: &Storage) -> (PageCounts, u32)
     requires low { all_pages (state_in_place storage.now).subpools true < 2 ^ 32 }
     requires high { all_pages (state_in_place storage.now).subpools false < 2 ^ 32 }
     requires free { all_free (state_in_place storage.now).subpools < 2 ^ 32 }
@@ -78,7 +78,7 @@ fn sums(storage: &Storage) -> (Pages, u32)
     ensures high { result.0.high ≡ all_pages (state_in_place storage.now).subpools false }
     ensures free { result.1 ≡ all_free (state_in_place storage.now).subpools }
 {
-    let mut pages = Pages { low: 0, high: 0 };
+    let mut pages = PageCounts { low: 0, high: 0 };
     let mut free = 0;
     let mut place = Storage::first_subpool_place();
     while let Some((_, behind)) = storage.next_subpool(place) {

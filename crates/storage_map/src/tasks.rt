@@ -13,7 +13,7 @@ use vsm_model::geometry::TASKS_END;
 
 /// Eight registers of a task, from the first on.
 #[derive(Clone, Copy)]
-struct Row {
+struct RegisterRow {
     task: u8,
     first: u8,
     ghost within: { first ≤ 8 },
@@ -49,7 +49,7 @@ fn put_task_line<W: Write>(
 }
 
 /// Puts the words of eight registers.
-fn put_words<W: Write>(gathered: &mut Gathered, writer: &mut W, storage: &Storage, row: Row)
+fn put_words<W: Write>(gathered: &mut Gathered, writer: &mut W, storage: &Storage, row: RegisterRow)
     ensures { Puts (W.contents writer.old) (W.contents writer.new) gathered.old gathered.new
         (register_words (state_of storage.now) row.task row.first (row.first + 8)) }
 {
@@ -65,7 +65,7 @@ fn put_registers<W: Write>(
     writer: &mut W,
     storage: &Storage,
     word: &[u8],
-    row: Row,
+    row: RegisterRow,
 )
     ensures { Puts (W.contents writer.old) (W.contents writer.new) gathered.old gathered.new
         (register_line (state_of storage.now) row.task word.now row.first) }
@@ -84,8 +84,20 @@ fn put_task<W: Write>(gathered: &mut Gathered, writer: &mut W, storage: &Storage
         return;
     };
     put_task_line(gathered, writer, storage, task, parent);
-    put_registers(gathered, writer, storage, b"  R0", Row { task, first: 0 });
-    put_registers(gathered, writer, storage, b"  R8", Row { task, first: 8 });
+    put_registers(
+        gathered,
+        writer,
+        storage,
+        b"  R0",
+        RegisterRow { task, first: 0 },
+    );
+    put_registers(
+        gathered,
+        writer,
+        storage,
+        b"  R8",
+        RegisterRow { task, first: 8 },
+    );
 }
 
 /// Puts the lines of all tasks, ascending.

@@ -29,7 +29,7 @@ pub(crate) struct FoundArea {
 }
 
 /// The area that a request gets, or the first cause that refuses it.
-pub(crate) type Found = Result<FoundArea, Cause>;
+pub(crate) type AreaOrCause = Result<FoundArea, Cause>;
 
 // How many doublewords an area has, and where it goes.
 type Placed = (u32, AreaPlace);
@@ -134,7 +134,12 @@ fn find_place(storage: &Parts, settings: Settings, o: Obtain, subpool: Subpool) 
 /// The causes, in order: a number above 127 (`UnsupportedSubpool` for 131 and 132, else `SubpoolNotAllowed`),
 /// `BadLength` for a minimum of zero bytes or one above the maximum, `TooManyNames`, and `NoStorage` where not even the
 /// minimum has a place.
-pub(crate) fn find_area(storage: &Parts, settings: Settings, o: Obtain, names_full: bool) -> Found
+pub(crate) fn find_area(
+    storage: &Parts,
+    settings: Settings,
+    o: Obtain,
+    names_full: bool,
+) -> AreaOrCause
     requires stands { StandsAt settings storage.now }
     ensures found { IfOk result (IsFound settings names_full (state_of storage.now) o) }
     ensures err { IfErr result (λ cause.

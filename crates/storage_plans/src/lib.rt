@@ -15,7 +15,7 @@ mod store;
 mod whole;
 
 pub use obtain::plan_obtain;
-pub use plan::{PLAN_RECORDS, PlanRecords, Planned, StoragePlan};
+pub use plan::{PLAN_RECORDS, PlanRecords, PlannedStorage, StoragePlan};
 pub use reading::{current, load, register};
 pub use release::plan_release;
 pub use store::{STORE_BLOCKS, STORE_MOST, StorePlan, block_records, plan_store};

@@ -14,7 +14,7 @@ ghost use Rattle.storage_plans.specs.Plans.{IsPlanned};
 use crate::areas::{FoundArea, find_area};
 use crate::places::AreaPlace;
 use crate::plan::{
-    NO_PAGES, PlanRecords, Planned, StoragePlan, answer_cause, push_area, push_register,
+    NO_PAGES, PlanRecords, PlannedStorage, StoragePlan, answer_cause, push_area, push_register,
 };
 use arrayvec::ArrayVec;
 use descriptor_queue::Page;
@@ -169,7 +169,12 @@ fn plan_area(storage: &Parts, found: FoundArea, o: Obtain) -> StoragePlan
 /// `NoStorage` where not even the minimum has a place. A conditional form has in place of `NoStorage` a plan that sets
 /// register 15 to 4, and nothing else.
 #[inline(never)]
-pub fn plan_obtain(storage: &Parts, settings: Settings, o: Obtain, names_full: bool) -> Planned
+pub fn plan_obtain(
+    storage: &Parts,
+    settings: Settings,
+    o: Obtain,
+    names_full: bool,
+) -> PlannedStorage
     requires sound { StandsSound settings storage.now }
     requires valid { settings_valid settings ≡ true }
     requires register { IfSome o.register (λ r. r < 16) }

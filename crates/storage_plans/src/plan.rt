@@ -40,7 +40,7 @@ pub struct StoragePlan {
 }
 
 /// What a request comes to: its plan, or the first cause that refuses it.
-pub type Planned = Result<StoragePlan, Cause>;
+pub type PlannedStorage = Result<StoragePlan, Cause>;
 
 /// The empty run.
 pub const NO_PAGES: Run = Run { start: 0, len: 0 };
@@ -96,7 +96,7 @@ pub fn answer_four(storage: &Parts) -> StoragePlan
 
 /// What a request is answered of which this is the first cause: a plan that sets register 15 to 4, where it is
 /// conditional and the cause is one of those that such a form answers so; else the cause refuses it.
-pub fn answer_cause(storage: &Parts, cause: Cause, conditional: bool) -> Planned
+pub fn answer_cause(storage: &Parts, cause: Cause, conditional: bool) -> PlannedStorage
     ensures emptied { IfOk result (λ plan. plan.emptied ≡ None) }
     ensures planned { (settings : Settings) (names_full : Bool) (x : Service)
         → ∥ IsSound settings (state_of storage.now) ∥₁

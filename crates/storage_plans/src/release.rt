@@ -19,7 +19,7 @@ ghost use Rattle.storage_plans.specs.Releases.{IsGivenBack, area_cause, release_
 
 use crate::areas::check_number;
 use crate::plan::{
-    NO_PAGES, PlanRecords, Planned, StoragePlan, answer_cause, push_area, push_register,
+    NO_PAGES, PlanRecords, PlannedStorage, StoragePlan, answer_cause, push_area, push_register,
 };
 use crate::searches::pages_on;
 use arrayvec::ArrayVec;
@@ -334,7 +334,7 @@ fn give_back(storage: &Parts, found: GivenBack) -> StoragePlan
 /// common with an extent of a cell pool. A conditional form has in place of the last three a plan that sets register 15
 /// to 4, and nothing else.
 #[inline(never)]
-pub fn plan_release(storage: &Parts, settings: Settings, r: Release) -> Planned
+pub fn plan_release(storage: &Parts, settings: Settings, r: Release) -> PlannedStorage
     requires sound { StandsSound settings storage.now }
     requires frameless { IsFrameless storage.now }
     requires valid { settings_valid settings ≡ true }

@@ -14,7 +14,7 @@ ghost use Rattle.storage_plans.specs.Places.{StandsSound};
 ghost use Rattle.storage_plans.specs.Plans.{IsPlanned};
 
 use crate::areas::check_number;
-use crate::plan::{NO_PAGES, Planned, StoragePlan, push_register};
+use crate::plan::{NO_PAGES, PlannedStorage, StoragePlan, push_register};
 use arrayvec::ArrayVec;
 use storage_changes::tables::rows_of_the_others_stay;
 use storage_exchange::Parts;
@@ -77,7 +77,7 @@ fn empty(storage: &Parts, subpool: Subpool) -> StoragePlan
 /// `SubpoolNotAllowed`), `WholeOfZero` for subpool 0, `NotInSubpool` where the task doesn't see the subpool, and
 /// `NotOwner` where it doesn't own it.
 #[inline(never)]
-pub fn plan_whole(storage: &Parts, number: u32) -> Planned
+pub fn plan_whole(storage: &Parts, number: u32) -> PlannedStorage
     requires { Stand storage.now }
     ensures planned { (settings : Settings) (names_full : Bool) → settings_valid settings ≡ true
         → StandsSound settings storage.now

@@ -33,6 +33,14 @@ use Rattle.storage_swap.proofs.KeptLemmas.{over, holds-live, same-hold, same-sta
 pub makes-follow : (a b c live next m n k : ℕ) → b ≤ max a (live + m + 128) → next + n ≤ live + k → m ≤ k → c ≤ max b (next + n + 128) → c ≤ max a (live + k + 128)
 makes-follow a b c live next m n k first more within second = omega (arith, first, more, within, second)
 
+-- k were reserved, and then n are refused: both are no more than m
+pub refused-made : (s t u : Store) (k n m : ℕ) → MakesElements s t k → live_count t ≤ live_count s + k → k + n ≤ m → MakesElements t u n → MakesElements s u m
+refused-made s t u k n m first live few second =
+    makes-follow (all_elements s) (all_elements t) (all_elements u) (live_count s) (live_count t) k n m first (omega (arith, live, few)) (omega (arith, few)) second
+
+pub made-more : (s e : Store) (n m : ℕ) → n ≤ m → MakesElements s e n → MakesElements s e m
+made-more s e n m few first = refused-made s s e 0 n m (omega arith) (omega arith) (omega (arith, few)) first
+
 -- so it is after a refusal too
 pub if-refused : {R E : Type 0} (P : Type 0) (r : Result R E) → P → IfErr r (λ _. P)
 if-refused P (Ok x) h = tt
@@ -418,6 +426,11 @@ module _ (s t : Parts) (a b : ChangeBuilder) (all left : List Record) (l : Leads
     live = omega (arith, l.live, p.live, ap length is, length-append one rest);
     made = makes-follow (all_elements s.elements) (all_elements t.elements) (all_elements u.elements) (live_count s.elements) (live_count t.elements) (length all) (length one) (length all) l.made (omega (arith, l.live, ap length is, length-append one rest)) (omega arith) p.made;
   }
+
+  -- those in front are refused
+  pub leads-refused : (u : Parts) (one rest : List Record) → left ≡ one ++ rest → MakesElements t.elements u.elements (length one) → MakesElements s.elements u.elements (length all)
+  leads-refused u one rest is m =
+      makes-follow (all_elements s.elements) (all_elements t.elements) (all_elements u.elements) (live_count s.elements) (live_count t.elements) (length all) (length one) (length all) l.made (omega (arith, l.live, ap length is, length-append one rest)) (omega arith) m
 
   -- all came
   pub leads-all : left ≡ [] → Pushes s a all t b

@@ -1,8 +1,8 @@
 -- The storage before the first request stands, and each live element is its own.
-use Rattle.std.proofs.Common.{◌≡◌, ℕ, ◌+◌, ◌/◌, ◌<◌, ◌≤◌, Bool, true, false, ◌||◌, ◌==◌, if◌then◌else◌, [], Option, Some, None, IsSome, inl, inr, refl, ◌∙◌, arith}
+use Rattle.std.proofs.Common.{◌≡◌, ℕ, ◌+◌, ◌*◌, ◌-◌, ◌/◌, ◌<◌, ◌≤◌, max, Bool, true, false, ◌||◌, ◌==◌, if◌then◌else◌, [], length, Option, Some, None, IsSome, inl, inr, refl, ◌∙◌, arith}
 use Rattle.std.specs.Prelude.{nat_lt}
 use Rattle.std.proofs.lemmas.Bool.{ltb-true}
-use Rattle.vsm_elements.specs.Store.{Store, at, SameElements}
+use Rattle.vsm_elements.specs.Store.{Store, at, made, live_count, SameElements}
 use Rattle.vsm_elements.specs.Ownership.{Leaves}
 use Rattle.vsm_elements.specs.Owners.{times, Moves}
 use Rattle.vsm_elements.proofs.TimesLemmas.{some-from, times-once}
@@ -35,6 +35,16 @@ use Rattle.storage_swap.proofs.Below.{trees-kept, storage-owns, storage-stays}
 abbrev no_ids : ℕ → ℕ
 no_ids i = 0
 
+-- a block is all that is made for seven elements, where there were none
+one-block : (n all spare : ℕ) → all ≡ 128 * n → spare ≤ 134 → all - spare ≡ 0 → all ≤ 128
+one-block n all spare is few live = omega arith
+
+pub few_made : (none first end : Store) → made none ≡ 0 → none.spare ≡ 0 → first.spare ≤ max none.spare 134 → live_count first ≡ live_count none → made end ≡ made first → made end ≤ 128
+few_made none first end nothing unspared few live same =
+    let bound : first.spare ≤ 134 = omega (arith, few, unspared) in
+    let unlive : made first - first.spare ≡ 0 = omega (arith, live, nothing) in
+    omega (arith, same, one-block (length first.blocks) (made first) first.spare refl bound unlive)
+
 -- the pages of either region are those of the tables
 in-region : (settings : Settings) (page : ℕ) → in_a_region settings page ≡ true → IsInRegion (settings.low_k / 4) (settings.high_k / 4) page
 in-region settings page h = go (inside page high) refl h where
@@ -59,7 +69,7 @@ module _ (settings : Settings) (none first mid second end : Store) (region : Tab
     (stand-subpools : Stands second subpools) (subpools-are : subpools_of second subpools ≡ with_own no_subpools (record { number = 0; owner = 1 }) true)
     (subpools-move : Moves mid second no_ids (SubpoolStorage.hold second subpools))
     (stand-pages : IsPages end unassigned) (pages-are : (page : ℕ) → is_unassigned end unassigned page ≡ in_a_region settings page) (pages-move : Leaves second end [] (Pages.owned end unassigned))
-    (fresh-region : IsFreshRegion region (settings.low_k / 4) (settings.high_k / 4)) where
+    (fresh-region : IsFreshRegion region (settings.low_k / 4) (settings.high_k / 4)) (few : made end ≤ 128) where
   abbrev p : Parts
   p = record { elements = end; region = region; unassigned = unassigned; subpools = subpools; tasks = tree }
 
@@ -163,4 +173,5 @@ module _ (settings : Settings) (none first mid second end : Store) (region : Tab
     all = λ i h. omega (arith, all-after first end no_ids (hold p) all-moves no_ids (λ j. omega arith) (λ j z. absurd (omega (arith, z))) (λ j z. absurd (no-live j z)) i h);
     out = fresh-region.counts.out_is;
     segments = λ page h. fresh-region.segments page (in-region settings page h);
+    small = record { elements = few; frames = fresh-region.counts.made_is };
   }

@@ -3,14 +3,12 @@ use Rattle.std.specs.Prelude.{◌≡◌, ℕ, ◌+◌, ◌<◌, ◌≤◌, List,
 use Rattle.vsm_elements.specs.Store.{Store, at}
 use Rattle.vsm_elements.specs.Chain.{IsChain}
 use Rattle.subpool_storage.specs.SubpoolStorage
-use Rattle.storage_changes.specs.State.{StorageState}
 use Rattle.storage_changes.specs.Changes.{Change as Meaning, Fit}
 use Rattle.storage_exchange.specs.declared.storage.Parts.{Parts}
 use Rattle.storage_exchange.specs.Storage.{hold, state_of, Stand, IsFrameless}
 use Rattle.storage_exchange.specs.Exchange.{HavePlaces}
 use Rattle.storage_swap.specs.declared.change.Change.{Change}
-use Rattle.storage_swap.specs.Swap.{means, change_holds, Ready, Swaps, Discards}
-use Rattle.storage_swap.specs.declared.steps.Steps.{Steps}
+use Rattle.storage_swap.specs.Swap.{means, change_holds, Ready}
 
 -- how often all these changes together hold an element
 abbrev pub all_hold : Store → List Change → ℕ → ℕ
@@ -53,25 +51,6 @@ pub record CanSwap (p : Parts) (c : Change) : Type 0 where
   pub ready : Ready p c
   pub fits : Fit (state_of p) (means p.elements c)
 
--- the same of the storage as the state of a history
-
-abbrev pub shown : Steps → StorageState
-shown s = state_of s.storage
-
-abbrev pub meaning : Steps → Change → Meaning
-meaning s c = means s.storage.elements c
-
-abbrev pub StepsApart : Steps → List Change → Type 0
-StepsApart s cs = AreApart s.storage cs
-
-abbrev pub StepsWhole : Steps → List Change → Type 0
-StepsWhole s cs = AreWhole s.storage cs
-
-abbrev pub CanStep : Steps → Change → Type 0
-CanStep s c = CanSwap s.storage c
-
-abbrev pub StepSwaps : Steps → Change → Steps → Change → Type 0
-StepSwaps s c t d = Swaps s.storage c t.storage d
-
-abbrev pub StepDiscards : Steps → Change → Steps → Type 0
-StepDiscards s c t = Discards s.storage c t.storage
+-- what a change means, whose records stand in the elements of the storage
+abbrev pub meaning : Parts → Change → Meaning
+meaning p c = means p.elements c

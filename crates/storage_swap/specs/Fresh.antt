@@ -1,6 +1,6 @@
 -- A storage before the first request.
 use Rattle.std.specs.Prelude.{◌≡◌, ℕ, ◌<◌, ◌≤◌, ◌==◌, Some, None, IsSome, IsTrue, true, if◌then◌else◌}
-use Rattle.vsm_elements.specs.Store.{at}
+use Rattle.vsm_elements.specs.Store.{at, made}
 use Rattle.raw_region.specs.Pages.{has_segment}
 use Rattle.vsm_model.specs.declared.limits.Settings.{Settings}
 use Rattle.vsm_model.specs.Regions.{in_a_region}
@@ -25,7 +25,13 @@ first_storage settings =
       bytes = λ a. None;
     }
 
+-- at most a block of elements was made, and no frame
+pub record StartsSmall (p : Parts) : Type 0 where
+  pub elements : made p.elements ≤ 128
+  pub frames : p.region.made ≡ 0
+
 -- The storage is that, each live element is its own, and no frame is out. Each page of the regions can have a table.
+-- No more was made for it than it needs, and the rest of a block.
 pub record IsFresh (settings : Settings) (p : Parts) : Type 0 where
   pub shows : state_of p ≡ first_storage settings
   pub stands : Stand p
@@ -34,6 +40,7 @@ pub record IsFresh (settings : Settings) (p : Parts) : Type 0 where
   pub all : (i : ℕ) → IsSome (at p.elements i) → 0 < hold p i
   pub out : p.region.out ≡ 0
   pub segments : (page : ℕ) → in_a_region settings page ≡ true → IsTrue (has_segment p.region page)
+  pub small : StartsSmall p
 
 -- on the plain machine it is the first state
 abbrev pub FirstIsFirst : Type 0

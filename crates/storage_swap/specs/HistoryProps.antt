@@ -9,9 +9,7 @@ use Rattle.storage_exchange.specs.declared.storage.Parts.{Parts}
 use Rattle.storage_exchange.specs.Props.{Stand-prop, IsFrameless-prop, HavePlaces-prop}
 use Rattle.storage_swap.specs.declared.change.Change.{Change}
 use Rattle.storage_swap.specs.Props.{Ready-prop}
-use Rattle.storage_swap.specs.declared.steps.Steps.{Steps}
 use Rattle.storage_swap.specs.Apart.{ChangeStands, AllStand, AreApart, AreWhole, CanSwap}
-use Rattle.storage_swap.specs.Apart.{StepsApart, StepsWhole, CanStep}
 
 pub ChangeStands-prop : (p : Parts) (c : Change) → IsProp (ChangeStands p c)
 ChangeStands-prop p c = hlevel (IsChain-prop, Stands-prop, HavePlaces-prop, props)
@@ -28,14 +26,3 @@ AreWhole-prop p cs = hlevel (AreApart-prop, props)
 
 pub CanSwap-prop : (p : Parts) (c : Change) → IsProp (CanSwap p c)
 CanSwap-prop p c = hlevel (Ready-prop, Fit-prop, props)
-
--- the same of the storage as the state of a history
-
-pub StepsApart-prop : (s : Steps) (cs : List Change) → IsProp (StepsApart s cs)
-StepsApart-prop s cs = AreApart-prop s.storage cs
-
-pub StepsWhole-prop : (s : Steps) (cs : List Change) → IsProp (StepsWhole s cs)
-StepsWhole-prop s cs = AreWhole-prop s.storage cs
-
-pub CanStep-prop : (s : Steps) (c : Change) → IsProp (CanStep s c)
-CanStep-prop s c = CanSwap-prop s.storage c

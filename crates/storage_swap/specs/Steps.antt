@@ -3,19 +3,15 @@ use Rattle.std.specs.Prelude.{◌≡◌, ℕ, ◌+◌, ◌<◌, ◌≤◌, List,
 use Rattle.std.proofs.Common.{sym, ap, ◌∙◌, subst, arith}
 use Rattle.vsm_elements.specs.Store.{at}
 use Rattle.vsm_elements.proofs.MoveLemmas.{rest-same, once-after, all-after}
-use Rattle.storage_changes.specs.State.{StorageState}
 use Rattle.storage_changes.specs.Changes.{Fit, overlay, inverse}
 use Rattle.storage_changes.proofs.WalkLemmas.{changes_lead_back}
 use Rattle.storage_exchange.specs.declared.storage.Parts.{Parts}
 use Rattle.storage_exchange.specs.Storage.{hold, state_of, Stand}
 use Rattle.storage_swap.specs.declared.change.Change.{Change}
 use Rattle.storage_swap.specs.Swap.{means, change_holds, both_hold, Ready, Swaps, Discards}
-use Rattle.step_history.specs.Laws.{ReversibleLaws}
 use Rattle.step_history.specs.Chain.{Inverts}
-use Rattle.step_history.specs.Single.{SingleSteps, steps_fit, steps_states, steps_laws}
-use Rattle.storage_swap.specs.declared.steps.Steps.{Steps}
-use Rattle.storage_swap.specs.Apart.{all_hold, AreApart, AreWhole, shown, meaning, StepsApart, StepsWhole}
-use Rattle.storage_swap.specs.Apart.{CanStep, StepSwaps, StepDiscards}
+use Rattle.step_history.specs.Single.{SingleSteps}
+use Rattle.storage_swap.specs.Apart.{all_hold, meaning, AreApart, AreWhole, CanSwap}
 use Rattle.storage_swap.specs.HistoryKept.{storage-live, all-live, apart-live, tables-kept, moved-hold, moved-stand}
 use Rattle.storage_swap.specs.HistoryKept.{moved-unassigned, moved-state, left, AllLeft, all-left, hold-append}
 use Rattle.storage_swap.specs.HistoryKept.{frames-append, apart-pick, apart-put, apart-rest}
@@ -200,31 +196,20 @@ storage_inverts = record {
   turns_back = λ m d h. (changes_lead_back m d h).2;
 }
 
-pub storage_steps : SingleSteps Fit overlay inverse shown meaning StepsApart StepsWhole CanStep StepSwaps StepDiscards
+pub storage_steps : SingleSteps Fit overlay inverse state_of meaning AreApart AreWhole CanSwap Swaps Discards
 storage_steps = record {
   inverts = storage_inverts;
-  can = λ s c f h. record { ready = apart-ready s.storage c [] h; fits = f };
+  can = λ s c f h. record { ready = apart-ready s c [] h; fits = f };
   swap_shows = λ s t c d w. w.shows;
   swap_means = λ s t c d w. w.turned;
-  swap_others = λ s t c d x h w. swap-others s.storage t.storage c d x h w;
-  swap_apart = λ s t c d xs h w. swap-apart s.storage t.storage c d w xs h;
-  swap_whole = λ xs ys c d s t h w. swap-whole xs ys c d s.storage t.storage h w;
-  discard_shows = λ s t c w. discard-shows s.storage t.storage c w;
-  discard_others = λ s t c x h w. discard-others s.storage t.storage c w x h;
-  discard_apart = λ s t c xs h w. discard-apart s.storage t.storage c w xs h;
-  discard_whole = λ xs ys c s t h w. discard-whole xs ys c s.storage t.storage h w;
-  pick = λ xs ys c s h. apart-pick xs ys c s.storage h;
-  put = λ xs ys c s h. apart-put xs ys c s.storage h;
-  rest = λ xs c s h. apart-rest xs c s.storage h;
+  swap_others = λ s t c d x h w. swap-others s t c d x h w;
+  swap_apart = λ s t c d xs h w. swap-apart s t c d w xs h;
+  swap_whole = λ xs ys c d s t h w. swap-whole xs ys c d s t h w;
+  discard_shows = λ s t c w. discard-shows s t c w;
+  discard_others = λ s t c x h w. discard-others s t c w x h;
+  discard_apart = λ s t c xs h w. discard-apart s t c w xs h;
+  discard_whole = λ xs ys c s t h w. discard-whole xs ys c s t h w;
+  pick = λ xs ys c s h. apart-pick xs ys c s h;
+  put = λ xs ys c s h. apart-put xs ys c s h;
+  rest = λ xs c s h. apart-rest xs c s h;
 }
-
--- changes that lead from state to state, and are apart
-abbrev pub storage_fits : List Change → Steps → List Change → Type 0
-storage_fits = steps_fit Fit overlay shown meaning StepsApart
-
--- the states that they lead to
-abbrev pub storage_states : List Change → Steps → List Change → List StorageState
-storage_states = steps_states Fit overlay shown meaning StepsApart
-
-pub storage_laws : ReversibleLaws shown storage_fits storage_states StepsApart StepsWhole CanStep StepSwaps StepDiscards
-storage_laws = steps_laws Fit overlay shown meaning StepsApart storage_steps

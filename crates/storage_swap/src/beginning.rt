@@ -1,6 +1,7 @@
 //! A storage before the first request.
 
 ghost use Rattle.std.specs.Prelude.{◌≡◌, ℕ, ◌+◌, ◌<◌, ◌≤◌, [], true, IfOk};
+ghost use Rattle.vsm_elements.specs.Store.{made};
 ghost use Rattle.vsm_elements.specs.Owners.{Moves};
 ghost use Rattle.vsm_elements.specs.Ownership.{Leaves};
 ghost use Rattle.descriptor_queue.specs.Pages.{is_unassigned, IsPages, owned as owned_pages};
@@ -24,7 +25,7 @@ use vsm_model::{Settings, Subpool};
 const ELEMENTS: u32 = 7;
 
 /// The storage before the first request: task 1 alone, which is current and has zero registers, its empty subpool 0,
-/// and both regions without a frame.
+/// and both regions without a frame. At most a block of elements is made for it, and no frame.
 ///
 /// It answers an error where memory is refused.
 pub fn fresh(alloc: Global, settings: Settings) -> Result<Parts, AllocError>
@@ -58,6 +59,7 @@ fn first_subpools(elements: &mut Elements) -> SubpoolStorage
         ≡ with_own no_subpools (record { number = 0; owner = 1 }) true }
     ensures moves { Moves elements.old elements.new (λ i. 0) (λ i. hold elements.new result i) }
     ensures spares { elements.new.spare + 1 ≡ elements.old.spare }
+    ensures as_many { made elements.new ≡ made elements.old }
 {
     let mut subpools = SubpoolStorage::new();
     let subpool = Subpool {

@@ -1,12 +1,12 @@
 //! Changes that are made record by record, while the storage is read.
 
-ghost use Rattle.std.specs.Prelude.{◌≡◌, ℕ, ◌+◌, ◌<◌, ◌≤◌, [], ◌∷◌, None, length, IsOk, OnOk, IfOk, IfErr};
-ghost use Rattle.vsm_elements.specs.Store.{live_count};
+ghost use Rattle.std.specs.Prelude.{◌≡◌, ℕ, ◌+◌, ◌<◌, ◌≤◌, [], ◌∷◌, None, length, IsOk, OnOk, OnErr, IfOk, IfErr};
+ghost use Rattle.vsm_elements.specs.Store.{made, live_count};
 ghost use Rattle.subpool_storage.specs.Held.{GivenBack};
 ghost use Rattle.subpool_storage.specs.Subpools.{no_subpools};
 ghost use Rattle.storage_exchange.specs.declared.storage.Parts.{Parts as TheStorage};
 ghost use Rattle.storage_exchange.specs.Storage.{hold, Stand, IsFrameless};
-ghost use Rattle.storage_swap.specs.Growth.{MakesElements};
+ghost use Rattle.storage_swap.specs.Growth.{MakesElements, MakesWithin};
 ghost use Rattle.storage_swap.specs.Builder.{builder_holds, records_in, parked_in};
 ghost use Rattle.storage_swap.specs.Builder.{IsBuilding, Keeps, Builds, Pushes, Parks, Finishes};
 
@@ -56,12 +56,14 @@ impl ChangeBuilder {
 
     /// One record more, behind the last one. It takes one element.
     ///
-    /// `AllocError` where none is spare and memory is refused: the records then stay as they are.
+    /// `AllocError` where none is spare and memory is refused: the records then stay as they are, and at most a block
+    /// of elements is made.
     pub fn push(&mut self, storage: &mut Parts, added: Record) -> Result<(), AllocError>
         requires { IsBuilding storage.old self.old }
         ensures builds { Builds storage.old self.old storage.new self.new }
         ensures ok { OnOk result (Pushes storage.old self.old (added ∷ []) storage.new self.new) }
         ensures err { IfErr result (λ _. Pushes storage.old self.old [] storage.new self.new) }
+        ensures made { OnErr result (MakesElements storage.old.elements storage.new.elements 1) }
         ensures needless { 0 < storage.old.elements.spare → IsOk result }
     {
         storage.elements.reserve(1)?;
@@ -72,7 +74,8 @@ impl ChangeBuilder {
     /// Parks an empty subpool of this name, whose storage a record of the change can take over. None of this name may
     /// be parked already. It takes one element.
     ///
-    /// `AllocError` where none is spare and memory is refused: nothing more is parked then.
+    /// `AllocError` where none is spare and memory is refused: nothing more is parked then, and at most a block of
+    /// elements is made.
     pub fn park(&mut self, storage: &mut Parts, subpool: Subpool) -> Result<(), AllocError>
         requires building { IsBuilding storage.old self.old }
         requires range { (1 ≤ subpool.owner) × (subpool.owner ≤ 64) × (subpool.number ≤ 127) }
@@ -80,6 +83,7 @@ impl ChangeBuilder {
         ensures builds { Builds storage.old self.old storage.new self.new }
         ensures ok { OnOk result (Parks storage.old self.old subpool storage.new self.new) }
         ensures err { IfErr result (λ _. Pushes storage.old self.old [] storage.new self.new) }
+        ensures made { OnErr result (MakesElements storage.old.elements storage.new.elements 1) }
         ensures needless { 0 < storage.old.elements.spare → IsOk result }
     {
         storage.elements.reserve(1)?;
@@ -91,15 +95,16 @@ impl ChangeBuilder {
     ///
     /// Each call on a queue takes one blank element at most, and one has to be left.
     ///
-    /// `AllocError` where fewer are spare and memory is refused: all that it had is spare then.
+    /// `AllocError` where fewer are spare and memory is refused: all that it had is spare then, and at most a block of
+    /// elements is made beyond what is needed.
     pub fn finish(self, storage: &mut Parts, blanks: u32) -> Result<Change, AllocError>
         requires { IsBuilding storage.old self }
         ensures ok { IfOk result (λ change. Finishes storage.old self blanks storage.new change) }
         ensures err { IfErr result (λ _. Keeps storage.old storage.new (builder_holds storage.old self) (λ i. 0)) }
         ensures uses { IfOk result (λ _. storage.old.elements.spare ≤ storage.new.elements.spare + blanks) }
         ensures live { IfOk result (λ _. live_count storage.new.elements ≤ live_count storage.old.elements + blanks) }
-        ensures made { IfOk result (λ _. MakesElements storage.old.elements storage.new.elements blanks) }
-        ensures same_frames { IfOk result (λ _. storage.new.region ≡ storage.old.region) }
+        ensures made { MakesWithin storage.old.elements storage.new.elements blanks }
+        ensures same_frames { storage.new.region ≡ storage.old.region }
         ensures needless { blanks ≤ storage.old.elements.spare → IsOk result }
     {
         if let Err(refused) = storage.elements.reserve(blanks) {
@@ -125,6 +130,7 @@ impl ChangeBuilder {
         requires { IsBuilding storage.old self }
         ensures keeps { Keeps storage.old storage.new (builder_holds storage.old self) (λ i. 0) }
         ensures spares { GivenBack (builder_holds storage.old self) storage.old.elements storage.new.elements }
+        ensures as_many { made storage.new.elements ≡ made storage.old.elements }
     {
         let ChangeBuilder {
             records,

@@ -22,15 +22,15 @@ use std::alloc::AllocError;
 use storage_changes::Record;
 use storage_exchange::Parts;
 use subpool_storage::laws::pools_are_held;
-use subpool_storage::{CellId, CellSettings, Header, Name, SubpoolStorage};
+use subpool_storage::{CellId, CellPoolHeader, CellPoolName, CellSettings, SubpoolStorage};
 use vsm_elements::Elements;
 
 /// A cell pool that comes, with its first extent, whose cells are all free.
 #[derive(Clone, Copy)]
-pub struct NewPool<'a> {
-    pub name: &'a Name,
+pub struct ReservedCellPool<'a> {
+    pub name: &'a CellPoolName,
     pub settings: CellSettings,
-    pub header: &'a Option<Header>,
+    pub header: &'a Option<CellPoolHeader>,
     /// The address of its first cell.
     pub start: u32,
     /// How many cells it has.
@@ -50,7 +50,7 @@ impl Change {
     /// block of elements is made beyond what is needed, and no frame.
     pub fn reserve_building(
         storage: &mut Parts,
-        pool: &NewPool<'_>,
+        pool: &ReservedCellPool<'_>,
         records: &[Record],
         blanks: u32,
         fresh: Run,
@@ -92,7 +92,7 @@ impl Change {
 // The change, of what is spare, and the id of the cell pool.
 fn make_building(
     storage: &mut Parts,
-    pool: &NewPool<'_>,
+    pool: &ReservedCellPool<'_>,
     records: &[Record],
     blanks: u32,
     fresh: Run,
@@ -132,7 +132,7 @@ fn make_building(
 }
 
 // The cell pool alone, parked, and its id.
-fn park_pool(elements: &mut Elements, pool: &NewPool<'_>) -> (SubpoolStorage, CellId)
+fn park_pool(elements: &mut Elements, pool: &ReservedCellPool<'_>) -> (SubpoolStorage, CellId)
     requires cells { 0 < pool.now.settings.size }
     requires some { 0 < pool.now.count }
     requires high { pool.now.start + pool.now.count * pool.now.settings.size ≤ 2 ^ 32 }
@@ -157,11 +157,11 @@ fn park_pool(elements: &mut Elements, pool: &NewPool<'_>) -> (SubpoolStorage, Ce
 }
 
 // The header once more.
-fn same_header(header: &Option<Header>) -> Option<Header>
+fn same_header(header: &Option<CellPoolHeader>) -> Option<CellPoolHeader>
     ensures { option_map (λ h. h.items) result ≡ option_map (λ h. h.items) header.now }
 {
     let text = header.as_ref()?;
-    let mut same = Header::new();
+    let mut same = CellPoolHeader::new();
     let _ = same.try_extend_from_slice(text.as_slice());
     Some(same)
 }

@@ -10,10 +10,10 @@ use Rattle.free_queue.specs.FreeQueue
 use Rattle.subpool_set.specs.declared.set.SubpoolSet.{SubpoolSet}
 use Rattle.row_table.specs.Rows.{same_key, either_of}
 use Rattle.subpool_set.specs.Pools.{Pool, Sight, Pools, no_queues, sight_of_pool, sight_without, pools_with, pool_alone}
-use Rattle.subpool_set.specs.SubpoolSet.{sight, pool, owned, number_of, owner_of, IsSubpoolSet, IsPool}
+use Rattle.subpool_set.specs.SubpoolSet.{sight, pool, owned, number_of, owner_of, IsSubpoolSet, IsSubpool}
 use Rattle.subpool_set.specs.SubpoolSet.{queue_ids, QueuesStand, IsParked, parked_pool, parked_owned, parked_queue_ids}
-use Rattle.subpool_set.specs.SubpoolSet.{IsPoolPlace, pools_left, sharers_left}
-use Rattle.subpool_set.specs.declared.places.PoolPlace.{PoolPlace}
+use Rattle.subpool_set.specs.SubpoolSet.{IsSubpoolPlace, pools_left, sharers_left}
+use Rattle.subpool_set.specs.declared.places.SubpoolPlace.{SubpoolPlace}
 use Rattle.subpool_set.specs.declared.sharers.SharerPlace.{SharerPlace}
 use Rattle.subpool_set.specs.declared.parked.ParkedPool.{ParkedPool}
 use Rattle.subpool_set.specs.QueueElements.{ids_of, StandApart, AreApart, AreApartTogether}
@@ -39,7 +39,7 @@ SightsAreInRange = (s : Store) (q : SubpoolSet) (t n : ℕ) → IsSubpoolSet s q
 -- a subpool that is there has one id, by which its number and owner are told, and its owner sees it
 abbrev pub PoolsAreNamed : Type 0
 PoolsAreNamed = (s : Store) (q : SubpoolSet) (n o : ℕ) (p : Pool) → IsSubpoolSet s q → pool s q n o ≡ Some p
-    → IsPool s q p.id × (number_of s p.id ≡ n) × (owner_of s p.id ≡ o) × (sight s q o n ≡ Some o)
+    → IsSubpool s q p.id × (number_of s p.id ≡ n) × (owner_of s p.id ≡ o) × (sight s q o n ≡ Some o)
 
 -- a set whose elements are as they were is as it was
 abbrev pub SetsKept : Type 0
@@ -59,8 +59,8 @@ SetsStay = (s t : Store) (had has : List ℕ) (q : SubpoolSet) → Leaves s t ha
 abbrev pub PlacesKept : Type 0
 PlacesKept = (s t : Store) (q : SubpoolSet) → IsSubpoolSet s q
     → ((i : ℕ) → among i (owned s q) ≡ true → at t i ≡ at s i)
-    → ((place : PoolPlace) → IsPoolPlace s q place
-    → IsPoolPlace t q place × (pools_left t q place ≡ pools_left s q place))
+    → ((place : SubpoolPlace) → IsSubpoolPlace s q place
+    → IsSubpoolPlace t q place × (pools_left t q place ≡ pools_left s q place))
     × ((place : SharerPlace) (number owner : ℕ)
     → sharers_left t q place number owner ≡ sharers_left s q place number owner)
 
@@ -68,8 +68,8 @@ PlacesKept = (s t : Store) (q : SubpoolSet) → IsSubpoolSet s q
 abbrev pub PlacesStay : Type 0
 PlacesStay = (s t : Store) (had has : List ℕ) (q : SubpoolSet) → Leaves s t had has → IsSubpoolSet s q
     → Apart had (owned s q)
-    → ((place : PoolPlace) → IsPoolPlace s q place
-    → IsPoolPlace t q place × (pools_left t q place ≡ pools_left s q place))
+    → ((place : SubpoolPlace) → IsSubpoolPlace s q place
+    → IsSubpoolPlace t q place × (pools_left t q place ≡ pools_left s q place))
     × ((place : SharerPlace) (number owner : ℕ)
     → sharers_left t q place number owner ≡ sharers_left s q place number owner)
 

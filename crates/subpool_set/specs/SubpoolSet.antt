@@ -10,7 +10,7 @@ use Rattle.row_table.specs.RowTable.{row, rows, words_of, id_before, place_index
 use Rattle.row_table.specs.RowTable
 use Rattle.subpool_set.specs.declared.set.SubpoolSet.{SubpoolSet}
 use Rattle.subpool_set.specs.declared.parked.ParkedPool.{ParkedPool}
-use Rattle.subpool_set.specs.declared.places.PoolPlace.{PoolPlace}
+use Rattle.subpool_set.specs.declared.places.SubpoolPlace.{SubpoolPlace}
 use Rattle.subpool_set.specs.declared.sharers.SharerPlace.{SharerPlace}
 use Rattle.subpool_set.specs.Pools.{Sight, Pools}
 use Rattle.subpool_set.specs.Kept.{sight_in, pools_in, IsKept}
@@ -42,8 +42,8 @@ unfoldable pub owner_of : Store → ℕ → ℕ
 owner_of s id = word (words_of s id) 2
 
 -- the id is that of a subpool of the set
-abbrev pub IsPool : Store → SubpoolSet → ℕ → Type 0
-IsPool s q id = option_map (λ p. p.id) (pool s q (number_of s id) (owner_of s id)) ≡ Some id
+abbrev pub IsSubpool : Store → SubpoolSet → ℕ → Type 0
+IsSubpool s q id = option_map (λ p. p.id) (pool s q (number_of s id) (owner_of s id)) ≡ Some id
 
 -- the ids of the elements of all subpools' queues
 unfoldable pub queue_ids : Store → SubpoolSet → List ℕ
@@ -54,15 +54,15 @@ abbrev pub QueuesStand : Store → SubpoolSet → Type 0
 QueuesStand s q = AreApart s (pool s q) (owned s q)
 
 -- the place is before, between or behind the set's subpools
-unfoldable pub IsPoolPlace : Store → SubpoolSet → PoolPlace → Type 0
-IsPoolPlace s q place = IsPlace s q.rows place.next
+unfoldable pub IsSubpoolPlace : Store → SubpoolSet → SubpoolPlace → Type 0
+IsSubpoolPlace s q place = IsPlace s q.rows place.next
 
 -- the ids of the subpools behind the place
-unfoldable pub pools_left : Store → SubpoolSet → PoolPlace → List ℕ
+unfoldable pub pools_left : Store → SubpoolSet → SubpoolPlace → List ℕ
 pools_left s q place = pool_ids (drop (place_index place.next) (rows s q.rows))
 
 -- the id of the subpool before the place, behind one that was read
-unfoldable pub pool_before : PoolPlace → ℕ
+unfoldable pub pool_before : SubpoolPlace → ℕ
 pool_before place = id_before place.next
 
 -- the tasks behind the place that share the subpool of this number with this owner

@@ -3,24 +3,24 @@
 ghost use Rattle.std.specs.Prelude.{◌≡◌, ℕ, [], ◌∷◌, IfSome, IfNone};
 ghost use Rattle.vsm_elements.specs.Store.{Store};
 ghost use Rattle.subpool_set.specs.Pools.{ids_in_order};
-ghost use Rattle.subpool_set.specs.SubpoolSet.{pool, pools_left, pool_before, IsSubpoolSet, IsPool, IsPoolPlace};
+ghost use Rattle.subpool_set.specs.SubpoolSet.{pool, pools_left, pool_before, IsSubpoolSet, IsSubpool, IsSubpoolPlace};
 
 use crate::set::{PoolId, SubpoolSet};
 use row_table::{RowPlace, RowTable};
 use vsm_elements::Elements;
 
 // The place behind the last row that was passed.
-/// A place before, between or behind the subpools of a set, from which [`SubpoolSet::next_pool`] goes on. It is one as
+/// A place before, between or behind the subpools of a set, from which [`SubpoolSet::next_subpool`] goes on. It is one as
 /// long as the set stays as it is.
 #[derive(Clone, Copy, Debug, PartialEq, Eq)]
-pub struct PoolPlace {
+pub struct SubpoolPlace {
     pub(crate) next: RowPlace,
 }
 
 #[tactic(auto, unfolding(crate::specs::SubpoolSet::pool_before))]
-impl PoolPlace {
-    /// The subpool before the place: behind one that [`SubpoolSet::next_pool`] gave, that one.
-    pub fn pool(self) -> PoolId
+impl SubpoolPlace {
+    /// The subpool before the place: behind one that [`SubpoolSet::next_subpool`] gave, that one.
+    pub fn subpool(self) -> PoolId
         ensures { result ≡ pool_before self }
     {
         self.next.row_before()
@@ -31,37 +31,41 @@ impl PoolPlace {
 // the subpools, and what an id names
 crate::specs::SubpoolSet::pool, crate::specs::SubpoolSet::number_of, crate::specs::SubpoolSet::owner_of,
 // where a walk over them stands, what is left of it, and which one is before it
-crate::specs::SubpoolSet::IsPoolPlace, crate::specs::SubpoolSet::pools_left, crate::specs::SubpoolSet::pool_before,
+crate::specs::SubpoolSet::IsSubpoolPlace, crate::specs::SubpoolSet::pools_left, crate::specs::SubpoolSet::pool_before,
 // where the set stands
 crate::specs::SubpoolSet::IsSubpoolSet))]
 impl SubpoolSet {
     /// The place before the first subpool of any set.
-    pub fn first_place() -> PoolPlace
-        ensures place { (s : Store) (q : SubpoolSet) → IsPoolPlace s q result }
+    pub fn first_place() -> SubpoolPlace
+        ensures place { (s : Store) (q : SubpoolSet) → IsSubpoolPlace s q result }
         ensures all { (s : Store) (q : SubpoolSet) → IsSubpoolSet s q
             → pools_left s q result ≡ ids_in_order (pool s q) }
     {
-        PoolPlace {
+        SubpoolPlace {
             next: RowTable::first_place(),
         }
     }
 
     /// The subpool behind the place, and the place behind that subpool; `None` behind the last. From the first place
     /// on, the subpools come by number and then by owner.
-    pub fn next_pool(&self, elements: &Elements, place: PoolPlace) -> Option<(PoolId, PoolPlace)>
+    pub fn next_subpool(
+        &self,
+        elements: &Elements,
+        place: SubpoolPlace,
+    ) -> Option<(PoolId, SubpoolPlace)>
         requires set { IsSubpoolSet elements.now self.now }
-        requires place { IsPoolPlace elements.now self.now place }
+        requires place { IsSubpoolPlace elements.now self.now place }
         ensures none { IfNone result (pools_left elements.now self.now place ≡ []) }
         ensures next { IfSome result (λ r. pools_left elements.now self.now place
             ≡ r.0 ∷ pools_left elements.now self.now r.1) }
-        ensures pool { IfSome result (λ r. IsPool elements.now self.now r.0) }
-        ensures place { IfSome result (λ r. IsPoolPlace elements.now self.now r.1) }
+        ensures pool { IfSome result (λ r. IsSubpool elements.now self.now r.0) }
+        ensures place { IfSome result (λ r. IsSubpoolPlace elements.now self.now r.1) }
         ensures before { IfSome result (λ r. pool_before r.1 ≡ r.0) }
     {
         let mut at = place.next;
         while let Some((row, next)) = self.rows.next_row(elements, at) {
             if row.words[2] == row.words[0] {
-                return Some((row.id, PoolPlace { next }));
+                return Some((row.id, SubpoolPlace { next }));
             }
             at = next;
         }

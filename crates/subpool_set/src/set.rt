@@ -54,7 +54,7 @@ crate::specs::SubpoolSet::number_of, crate::specs::SubpoolSet::owner_of,
 // whose the elements are
 crate::specs::SubpoolSet::owned, crate::specs::SubpoolSet::IsSubpoolSet))]
 impl SubpoolSet {
-    ghost use Rattle.subpool_set.specs.SubpoolSet.{sight, pool, owned, number_of, owner_of, IsSubpoolSet, IsPool};
+    ghost use Rattle.subpool_set.specs.SubpoolSet.{sight, pool, owned, number_of, owner_of, IsSubpoolSet, IsSubpool};
     ghost use Rattle.subpool_set.specs.SubpoolSet.{parked_sight, parked_pool, parked_owned, IsParked};
     ghost use Rattle.subpool_set.specs.SubpoolSet.{QueuesStand, ParkedQueuesStand};
 
@@ -75,7 +75,7 @@ impl SubpoolSet {
     pub fn visible(&self, elements: &Elements, task: u8, number: u8) -> Option<PoolId>
         requires { IsSubpoolSet elements.now self.now }
         ensures none { IfNone result (sight elements.now self.now task number ≡ None) }
-        ensures pool { IfSome result (λ id. IsPool elements.now self.now id) }
+        ensures pool { IfSome result (λ id. IsSubpool elements.now self.now id) }
         ensures number { IfSome result (λ id. number_of elements.now id ≡ number) }
         ensures owner { IfSome result (λ id. sight elements.now self.now task number
             ≡ Some (owner_of elements.now id)) }
@@ -113,7 +113,7 @@ impl SubpoolSet {
     // The task that owns the subpool, and its number.
     fn owner_and_number(&self, elements: &Elements, id: PoolId) -> (u8, u8)
         requires set { IsSubpoolSet elements.now self.now }
-        requires pool { IsPool elements.now self.now id }
+        requires pool { IsSubpool elements.now self.now id }
         ensures owner { result.0 ≡ owner_of elements.now id }
         ensures number { result.1 ≡ number_of elements.now id }
     {
@@ -124,7 +124,7 @@ impl SubpoolSet {
     /// The task that owns the subpool.
     pub fn owner(&self, elements: &Elements, id: PoolId) -> u8
         requires set { IsSubpoolSet elements.now self.now }
-        requires pool { IsPool elements.now self.now id }
+        requires pool { IsSubpool elements.now self.now id }
         ensures { result ≡ owner_of elements.now id }
     {
         self.rows.words(elements, id)[2] as u8
@@ -133,7 +133,7 @@ impl SubpoolSet {
     /// The subpool's number.
     pub fn number(&self, elements: &Elements, id: PoolId) -> u8
         requires set { IsSubpoolSet elements.now self.now }
-        requires pool { IsPool elements.now self.now id }
+        requires pool { IsSubpool elements.now self.now id }
         ensures { result ≡ number_of elements.now id }
     {
         self.rows.words(elements, id)[1] as u8
@@ -142,7 +142,7 @@ impl SubpoolSet {
     /// The heads of the subpool's queues.
     pub fn queues(&self, elements: &Elements, id: PoolId) -> Queues
         requires set { IsSubpoolSet elements.now self.now }
-        requires pool { IsPool elements.now self.now id }
+        requires pool { IsSubpool elements.now self.now id }
         ensures { pool elements.now self.now (number_of elements.now id) (owner_of elements.now id)
             ≡ Some (record { id = id; queues = result }) }
     {
@@ -156,7 +156,7 @@ impl SubpoolSet {
     /// The subpool's queues have these heads from now on.
     pub fn set_queues(&self, elements: &mut Elements, id: PoolId, queues: Queues)
         requires set { IsSubpoolSet elements.old self.now }
-        requires pool { IsPool elements.old self.now id }
+        requires pool { IsSubpool elements.old self.now id }
         ensures set { IsSubpoolSet elements.new self.now }
         ensures sight { (t n : ℕ) → sight elements.new self.now t n ≡ sight elements.old self.now t n }
         ensures pools { (n o : ℕ) → pool elements.new self.now n o
@@ -206,7 +206,7 @@ impl SubpoolSet {
     /// It takes one element.
     pub fn share(&mut self, elements: &mut Elements, task: u8, id: PoolId)
         requires set { IsSubpoolSet elements.old self.old }
-        requires pool { IsPool elements.old self.old id }
+        requires pool { IsSubpool elements.old self.old id }
         requires range { (1 ≤ task) × (task ≤ 64) }
         requires unseen { sight elements.old self.old task (number_of elements.old id) ≡ None }
         requires room { 0 < elements.old.spare }
@@ -267,7 +267,7 @@ impl SubpoolSet {
     /// The subpool becomes the task's: its giver no longer sees it, and who shares it shares it with its new owner.
     pub fn pass(&mut self, elements: &mut Elements, id: PoolId, to: u8)
         requires set { IsSubpoolSet elements.old self.old }
-        requires pool { IsPool elements.old self.old id }
+        requires pool { IsSubpool elements.old self.old id }
         requires range { (1 ≤ to) × (to ≤ 64) }
         requires unseen { sight elements.old self.old to (number_of elements.old id) ≡ None }
         ensures set { IsSubpoolSet elements.new self.new }
@@ -291,7 +291,7 @@ impl SubpoolSet {
     /// Takes the subpool out, with its sight and its queues. Its elements, and its id, stay.
     pub fn unplug(&mut self, elements: &mut Elements, id: PoolId) -> ParkedPool
         requires set { IsSubpoolSet elements.old self.old }
-        requires pool { IsPool elements.old self.old id }
+        requires pool { IsSubpool elements.old self.old id }
         ensures set { IsSubpoolSet elements.new self.new }
         ensures parked { IsParked elements.new result }
         ensures sight { (t n : ℕ) → sight elements.new self.new t n

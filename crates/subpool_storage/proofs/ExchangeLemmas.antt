@@ -17,7 +17,7 @@ use Rattle.subpool_set.specs.declared.queues.Queues.{Queues}
 use Rattle.subpool_set.specs.declared.set.SubpoolSet.{SubpoolSet}
 use Rattle.subpool_set.specs.Pools.{Pool, pools_with}
 use Rattle.subpool_set.specs.QueueElements.{ids_of, StandApart, AreApart}
-use Rattle.subpool_set.specs.SubpoolSet.{sight, pool, owned, queue_ids, number_of, owner_of, IsSubpoolSet, IsPool, QueuesStand}
+use Rattle.subpool_set.specs.SubpoolSet.{sight, pool, owned, queue_ids, number_of, owner_of, IsSubpoolSet, IsSubpool, QueuesStand}
 use Rattle.subpool_set.proofs.LawLemmas.{pools_are_named, queue_ids_are}
 use Rattle.subpool_storage.specs.declared.storage.SubpoolStorage.{SubpoolStorage}
 use Rattle.cell_pool.specs.Laws.{AreSame}
@@ -188,7 +188,7 @@ module _ (s u : Store) (q r : SubpoolStorage) (p : Subpool) (a b : ℕ) (here aw
   pub still : IsSubpoolSet u r.set × ((c d : ℕ) → sight u r.set c d ≡ sight s r.set c d) × ((m l : ℕ) → pool u r.set m l ≡ pool s r.set m l) × (owned u r.set ≡ owned s r.set)
   still = sets_kept s u r.set g.set (λ i m. (stays s u (owned s q.set) (owned u q.set) own i ((sets_stand s r.set g.set).0.live i m) (apart_own i m)).1)
 
-  pub still_named : IsPool u r.set b × (number_of u b ≡ p.number) × (owner_of u b ≡ p.owner) × (sight u r.set p.owner p.number ≡ Some p.owner)
+  pub still_named : IsSubpool u r.set b × (number_of u b ≡ p.number) × (owner_of u b ≡ p.owner) × (sight u r.set p.owner p.number ≡ Some p.owner)
   still_named = pools_are_named u r.set p.number p.owner (record { id = b; queues = away }) still.0 (still.2 p.number p.owner ∙ there_too)
 
   module _ (t : Store) (set : IsSubpoolSet u q.set) (sights : (c d : ℕ) → sight u q.set c d ≡ sight s q.set c d)

@@ -8,7 +8,7 @@ use Rattle.vsm_elements.specs.Store.{Store}
 use Rattle.vsm_elements.proofs.ChainFrame.{false_if}
 use Rattle.subpool_set.proofs.KeyLemmas.{not_both, eqb_refl, eqb_same}
 use Rattle.subpool_set.specs.Pools.{Pool, tasks, numbers, ids_in_order}
-use Rattle.subpool_set.specs.SubpoolSet.{sight, pool, number_of, owner_of, IsPool}
+use Rattle.subpool_set.specs.SubpoolSet.{sight, pool, number_of, owner_of, IsSubpool}
 use Rattle.subpool_set.proofs.LawLemmas.{pools_are_named, own_is_there}
 use Rattle.subpool_set.proofs.PoolLemmas.{ids_some}
 use Rattle.vsm_model.specs.declared.Subpool.{Subpool}
@@ -50,7 +50,7 @@ module _ (s : Store) (q : SubpoolStorage) (h : Stands s q) where
     go : (y : Option Pool) → pool s q.set n o ≡ y → option_map (named s) (option_map (λ (x : Pool). x.id) y) ≡ (if is_there (subpools_of s q) (subpool n o) then Some (subpool n o) else None)
     go None e = sym (cond-false (is_there (subpools_of s q) (subpool n o)) (Some (subpool n o)) None (false_if (is_there (subpools_of s q) (subpool n o)) (λ k. own_is_there s q.set n o e (seen (sight s q.set o n) k))))
     go (Some x) e =
-        let k : IsPool s q.set x.id × (number_of s x.id ≡ n) × (owner_of s x.id ≡ o) × (sight s q.set o n ≡ Some o) = pools_are_named s q.set n o x h.set e in
+        let k : IsSubpool s q.set x.id × (number_of s x.id ≡ n) × (owner_of s x.id ≡ o) × (sight s q.set o n ≡ Some o) = pools_are_named s q.set n o x h.set e in
         (λ i. Some (record { number = k.1 i; owner = k.2 i }))
         ∙ sym (cond-true (is_there (subpools_of s q) (subpool n o)) (Some (subpool n o)) None (ap (holds (λ owner. owner == o)) k.3 ∙ eqb_refl o))
 
@@ -61,7 +61,7 @@ module _ (s : Store) (q : SubpoolStorage) (h : Stands s q) where
       ∙ map_order (named s) (λ n o. option_map (λ (x : Pool). x.id) (pool s q.set n o)) (subpool_at (subpools_of s q)) named_at
 
   -- the subpool of an id is there
-  pub named_there : (id n o : ℕ) → IsPool s q.set id → number_of s id ≡ n → owner_of s id ≡ o → is_there (subpools_of s q) (subpool n o) ≡ true
+  pub named_there : (id n o : ℕ) → IsSubpool s q.set id → number_of s id ≡ n → owner_of s id ≡ o → is_there (subpools_of s q) (subpool n o) ≡ true
   unfolding Stands subpools_of
   named_there id n o is a b =
       let p : (p : Pool) × (pool s q.set (number_of s id) (owner_of s id) ≡ Some p) × (p.id ≡ id) = ids_some (pool s q.set (number_of s id) (owner_of s id)) id is in

@@ -3,7 +3,7 @@ use Rattle.std.proofs.Common.{◌≡◌, ℕ, List, Option, Some, sym, ap, ◌�
 use Rattle.std.specs.Prelude.{option_map, slice_get}
 use Rattle.std.proofs.lemmas.Option.{slice_get-map}
 use Rattle.vsm_elements.specs.Store.{Store}
-use Rattle.subpool_set.specs.declared.places.PoolPlace.{PoolPlace}
+use Rattle.subpool_set.specs.declared.places.SubpoolPlace.{SubpoolPlace}
 use Rattle.subpool_set.specs.declared.queues.Queues.{Queues}
 use Rattle.subpool_set.specs.Pools.{Pool, in_order, ids_in_order}
 use Rattle.subpool_set.specs.SubpoolSet.{pool, pool_before, number_of, owner_of}
@@ -15,7 +15,7 @@ use Rattle.subpool_storage.proofs.OrderLemmas.{all_named}
 use Rattle.subpool_storage.proofs.PutLemmas.{pool_there}
 
 -- the subpool of the id before a place is there with its queues
-pub before_there : (s : Store) (q : SubpoolStorage) (place : PoolPlace) (id : ℕ) (queues : Queues) → id ≡ pool_before place
+pub before_there : (s : Store) (q : SubpoolStorage) (place : SubpoolPlace) (id : ℕ) (queues : Queues) → id ≡ pool_before place
     → pool s q.set (number_of s id) (owner_of s id) ≡ Some (record { id = id; queues = queues })
     → pool s q.set (subpool_before s place).number (subpool_before s place).owner ≡ Some (record { id = id; queues = queues })
 unfolding subpool_before

@@ -12,7 +12,7 @@ use Rattle.row_table.specs.Rows.{word}
 use Rattle.row_table.specs.RowTable.{rows, row_of, words_of, place_index}
 use Rattle.row_table.specs.RowTable
 use Rattle.subpool_set.specs.declared.set.SubpoolSet.{SubpoolSet as TheSet}
-use Rattle.subpool_set.specs.declared.places.PoolPlace.{PoolPlace}
+use Rattle.subpool_set.specs.declared.places.SubpoolPlace.{SubpoolPlace}
 use Rattle.subpool_set.specs.Kept.{owner_in}
 use Rattle.subpool_set.specs.Walks.{pool_ids}
 use Rattle.subpool_set.specs.SubpoolSet.{owned, number_of, owner_of, pools_left}
@@ -37,7 +37,7 @@ left_among [] (suc k) i h = absurd (not_both false h refl)
 left_among (n ∷ ns) (suc k) i h = among_later i n.id (ids ns) (left_among ns k i h)
 left_among (n ∷ ns) zero i h = here (owner_in (row_of n) == word n.words 0) n.id i (pool_ids (map row_of ns)) (ids ns) (left_among ns zero i) h
 
-left_owned : (s : Store) (q : TheSet) (place : PoolPlace) (i : ℕ) → among i (pools_left s q place) ≡ true → among i (owned s q) ≡ true
+left_owned : (s : Store) (q : TheSet) (place : SubpoolPlace) (i : ℕ) → among i (pools_left s q place) ≡ true → among i (owned s q) ≡ true
 unfolding pools_left owned rows RowTable.owned
 left_owned s q place i h = ap (among i) (owned_links s q.rows.tree) ∙ left_among (links s q.rows.tree) (place_index place.next) i h
 

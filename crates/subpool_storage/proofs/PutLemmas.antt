@@ -24,7 +24,7 @@ use Rattle.subpool_set.specs.declared.queues.Queues.{Queues}
 use Rattle.subpool_set.specs.declared.set.SubpoolSet.{SubpoolSet}
 use Rattle.subpool_set.specs.Pools.{Pool, pools_with}
 use Rattle.subpool_set.specs.QueueElements.{ids_of, StandApart, AreApart}
-use Rattle.subpool_set.specs.SubpoolSet.{sight, pool, owned, queue_ids, number_of, owner_of, IsSubpoolSet, IsPool, QueuesStand}
+use Rattle.subpool_set.specs.SubpoolSet.{sight, pool, owned, queue_ids, number_of, owner_of, IsSubpoolSet, IsSubpool, QueuesStand}
 use Rattle.subpool_set.proofs.HeadLemmas.{Apart-swap, both_live}
 use Rattle.subpool_set.proofs.LawLemmas.{sets_stay, queue_calls_keep, pools_are_named, queue_ids_are}
 use Rattle.subpool_set.proofs.CountLemmas.{both_once}
@@ -61,7 +61,7 @@ module _ (s r : Store) (q : SubpoolSet) (n o id : ℕ) (old new : Queues) (h : I
   pub mid_there : pool r q n o ≡ Some before
   mid_there = stay.2 n o ∙ there
 
-  pub named : IsPool r q id × (number_of r id ≡ n) × (owner_of r id ≡ o) × (sight r q o n ≡ Some o)
+  pub named : IsSubpool r q id × (number_of r id ≡ n) × (owner_of r id ≡ o) × (sight r q o n ≡ Some o)
   named = pools_are_named r q n o before stay.0 mid_there
 
   mid : AreApart r (pools_with (pool r q) n o (Some after)) (owned r q)
@@ -114,7 +114,7 @@ module _ (s r : Store) (q : SubpoolStorage) (p : Subpool) (id : ℕ) (old new : 
   unfolding Stands
   turned_set = (stay s r q.set p.number p.owner id old new h.set h.queues there call.leaves call.stand).0
 
-  pub turned_pool : IsPool r q.set id
+  pub turned_pool : IsSubpool r q.set id
   unfolding Stands
   turned_pool = (named s r q.set p.number p.owner id old new h.set h.queues there call.leaves call.stand).0
 

@@ -12,7 +12,7 @@ use Rattle.subpool_set.specs.Pools.{Pool}
 use Rattle.subpool_set.specs.SubpoolSet.{sight, pool, owned, queue_ids, number_of, owner_of, IsSubpoolSet, QueuesStand}
 use Rattle.subpool_set.specs.SubpoolSet.{pool_before}
 use Rattle.subpool_set.specs.SubpoolSet
-use Rattle.subpool_set.specs.declared.places.PoolPlace.{PoolPlace}
+use Rattle.subpool_set.specs.declared.places.SubpoolPlace.{SubpoolPlace}
 use Rattle.subpool_set.specs.declared.sharers.SharerPlace.{SharerPlace}
 use Rattle.vsm_model.specs.declared.Subpool.{Subpool}
 use Rattle.subpool_storage.specs.declared.storage.SubpoolStorage.{SubpoolStorage}
@@ -59,23 +59,23 @@ abbrev pub named : Store → ℕ → Subpool
 named s id = record { number = number_of s id; owner = owner_of s id }
 
 -- the place is before, between or behind the subpools
-unfoldable pub IsSubpoolPlace : Store → SubpoolStorage → PoolPlace → Type 0
-IsSubpoolPlace s q place = SubpoolSet.IsPoolPlace s q.set place
+unfoldable pub IsSubpoolPlace : Store → SubpoolStorage → SubpoolPlace → Type 0
+IsSubpoolPlace s q place = SubpoolSet.IsSubpoolPlace s q.set place
 
 -- the subpools behind the place
-unfoldable pub subpools_left : Store → SubpoolStorage → PoolPlace → List Subpool
+unfoldable pub subpools_left : Store → SubpoolStorage → SubpoolPlace → List Subpool
 subpools_left s q place = map (named s) (SubpoolSet.pools_left s q.set place)
 
 -- the subpool before the place, behind one that was read
-unfoldable pub subpool_before : Store → PoolPlace → Subpool
+unfoldable pub subpool_before : Store → SubpoolPlace → Subpool
 subpool_before s place = named s (pool_before place)
 
 -- the place is behind a subpool that was read
-pub record IsBehind (s : Store) (q : SubpoolStorage) (place : PoolPlace) : Type 0 where
-  pub walked : SubpoolSet.IsPoolPlace s q.set place
-  pub pool : SubpoolSet.IsPool s q.set (pool_before place)
+pub record IsBehind (s : Store) (q : SubpoolStorage) (place : SubpoolPlace) : Type 0 where
+  pub walked : SubpoolSet.IsSubpoolPlace s q.set place
+  pub pool : SubpoolSet.IsSubpool s q.set (pool_before place)
 
-unfoldable pub IsBehindSubpool : Store → SubpoolStorage → PoolPlace → Type 0
+unfoldable pub IsBehindSubpool : Store → SubpoolStorage → SubpoolPlace → Type 0
 IsBehindSubpool s q place = IsBehind s q place
 
 -- the tasks behind the place that see the subpool besides its owner

@@ -11,7 +11,7 @@ ghost use Rattle.subpool_storage.specs.Subpools.{HasPool, IsSingle, IsUnnamed};
 ghost use Rattle.subpool_storage.specs.SubpoolStorage.{subpools_of, hold, Stands, Becomes};
 
 use crate::storage::SubpoolStorage;
-use cell_pool::{CellId, CellPools, CellSettings, Header, Name};
+use cell_pool::{CellId, CellPoolHeader, CellPoolName, CellPools, CellSettings};
 use vsm_elements::Elements;
 
 #[tactic(auto, unfolding(
@@ -40,9 +40,9 @@ impl SubpoolStorage {
     pub fn build_pool(
         &mut self,
         elements: &mut Elements,
-        name: &Name,
+        name: &CellPoolName,
         settings: CellSettings,
-        header: Option<Header>,
+        header: Option<CellPoolHeader>,
         start: u32,
         count: u32,
     ) -> CellId

@@ -10,6 +10,6 @@ mod readers;
 mod sharing;
 mod storage;
 
-pub use cell_pool::{CellId, CellPools, CellSettings, Header, Name};
+pub use cell_pool::{CellId, CellPoolHeader, CellPoolName, CellPools, CellSettings};
 pub use storage::SubpoolStorage;
-pub use subpool_set::{PoolPlace, SharerPlace};
+pub use subpool_set::{SharerPlace, SubpoolPlace};

@@ -7,7 +7,7 @@ ghost use Rattle.descriptor_queue.specs.Extents.{extents as extents_in, has_page
 ghost use Rattle.descriptor_queue.specs.Extents.{IsExtents};
 ghost use Rattle.free_queue.specs.FreeQueue.{areas, is_free, owned as areas_own, IsFreeQueue};
 ghost use Rattle.subpool_set.specs.Pools.{is_shared, sharers};
-ghost use Rattle.subpool_set.specs.SubpoolSet.{IsPool};
+ghost use Rattle.subpool_set.specs.SubpoolSet.{IsSubpool};
 ghost use Rattle.subpool_storage.specs.Extents.{extents, free_areas};
 ghost use Rattle.subpool_storage.specs.Subpools.{is_there};
 ghost use Rattle.subpool_storage.specs.Order.{subpools_in_order};
@@ -17,7 +17,7 @@ ghost use Rattle.subpool_storage.specs.SubpoolStorage.{subpool_before, IsSubpool
 use crate::storage::SubpoolStorage;
 use descriptor_queue::Extents;
 use free_queue::FreeQueue;
-use subpool_set::{PoolId, PoolPlace, Queues, SharerPlace, SubpoolSet};
+use subpool_set::{PoolId, Queues, SharerPlace, SubpoolPlace, SubpoolSet};
 use vsm_elements::Elements;
 use vsm_model::Subpool;
 
@@ -33,7 +33,7 @@ crate::specs::SubpoolStorage::sharers_left))]
 impl SubpoolStorage {
     /// The place before the first subpool of any storage. A place is one as long as who sees which subpool stays as it
     /// is.
-    pub fn first_subpool_place() -> PoolPlace
+    pub fn first_subpool_place() -> SubpoolPlace
         ensures place { (s : Store) (q : SubpoolStorage) → IsSubpoolPlace s q result }
         ensures all { (s : Store) (q : SubpoolStorage) → Stands s q
             → subpools_left s q result ≡ subpools_in_order (subpools_of s q) }
@@ -46,8 +46,8 @@ impl SubpoolStorage {
     pub fn next_subpool(
         &self,
         elements: &Elements,
-        place: PoolPlace,
-    ) -> Option<(Subpool, PoolPlace)>
+        place: SubpoolPlace,
+    ) -> Option<(Subpool, SubpoolPlace)>
         requires stands { Stands elements.now self.now }
         requires place { IsSubpoolPlace elements.now self.now place }
         ensures none { IfNone result (subpools_left elements.now self.now place ≡ []) }
@@ -58,14 +58,14 @@ impl SubpoolStorage {
         ensures behind { IfSome result (λ r. IsBehindSubpool elements.now self.now r.1) }
         ensures before { IfSome result (λ r. subpool_before elements.now r.1 ≡ r.0) }
     {
-        let (id, next) = self.set.next_pool(elements, place)?;
+        let (id, next) = self.set.next_subpool(elements, place)?;
         Some((self.subpool_of(elements, id), next))
     }
 
     // The subpool that the id names.
     fn subpool_of(&self, elements: &Elements, id: PoolId) -> Subpool
         requires stands { Stands elements.now self.now }
-        requires pool { IsPool elements.now self.now.set id }
+        requires pool { IsSubpool elements.now self.now.set id }
         ensures { result ≡ named elements.now id }
     {
         Subpool {
@@ -75,7 +75,7 @@ impl SubpoolStorage {
     }
 
     // The queues of the subpool before the place.
-    fn queues_at(&self, elements: &Elements, place: PoolPlace) -> Queues
+    fn queues_at(&self, elements: &Elements, place: SubpoolPlace) -> Queues
         requires stands { Stands elements.now self.now }
         requires behind { IsBehindSubpool elements.now self.now place }
         ensures extents { IsExtents elements.now result.extents }
@@ -87,13 +87,13 @@ impl SubpoolStorage {
         ensures held { (i : ℕ) → times i (extents_own elements.now result.extents) ≤ hold elements.now self.now i }
         ensures areas_held { (i : ℕ) → times i (areas_own elements.now result.free) ≤ hold elements.now self.now i }
     {
-        self.set.queues(elements, place.pool())
+        self.set.queues(elements, place.subpool())
     }
 
     /// The extents of the subpool before the place, which was read just before: what
     /// [`SubpoolStorage::extents`] gives for it, with no look-up. (z/OS MVS Programming: Assembler Services Guide,
     /// "Subpool handling".)
-    pub fn extents_at(&self, elements: &Elements, place: PoolPlace) -> Extents
+    pub fn extents_at(&self, elements: &Elements, place: SubpoolPlace) -> Extents
         requires stands { Stands elements.now self.now }
         requires behind { IsBehindSubpool elements.now self.now place }
         ensures stands { IsExtents elements.now result }
@@ -109,7 +109,7 @@ impl SubpoolStorage {
     /// The free areas of the subpool before the place, which was read just before: what
     /// [`SubpoolStorage::free_areas`] gives for it, with no look-up. (z/OS MVS Programming: Assembler Services Guide,
     /// "Subpool handling".)
-    pub fn free_areas_at(&self, elements: &Elements, place: PoolPlace) -> FreeQueue
+    pub fn free_areas_at(&self, elements: &Elements, place: SubpoolPlace) -> FreeQueue
         requires stands { Stands elements.now self.now }
         requires behind { IsBehindSubpool elements.now self.now place }
         ensures stands { IsFreeQueue elements.now result }

@@ -5,7 +5,7 @@ ghost use Rattle.run_set.specs.Fits.{Fits, IsLeastFit, IsLongest};
 ghost use Rattle.descriptor_queue.specs.Extents.{extents as extents_in, has_page as extents_have, owned as extents_own};
 ghost use Rattle.descriptor_queue.specs.Extents.{IsExtents};
 ghost use Rattle.free_queue.specs.FreeQueue.{areas, is_free, owned as areas_own, IsFreeQueue};
-ghost use Rattle.subpool_set.specs.SubpoolSet.{IsPool, number_of, owner_of};
+ghost use Rattle.subpool_set.specs.SubpoolSet.{IsSubpool, number_of, owner_of};
 ghost use Rattle.subpool_storage.specs.Subpools.{is_there};
 ghost use Rattle.subpool_storage.specs.Extents.{extents, free_areas};
 ghost use Rattle.subpool_storage.specs.SubpoolStorage.{subpools_of, hold, Stands};
@@ -22,17 +22,6 @@ use vsm_model::Subpool;
 // the subpools, and where they stand
 crate::specs::SubpoolStorage::subpools_of, crate::specs::SubpoolStorage::Stands))]
 impl SubpoolStorage {
-    /// Whether the subpool is there: its owner sees it.
-    pub fn has_subpool(&self, elements: &Elements, subpool: Subpool) -> bool
-        requires { Stands elements.now self.now }
-        ensures { result ≡ is_there (subpools_of elements.now self.now) subpool }
-    {
-        match self.owner_seen(elements, subpool.owner, subpool.number) {
-            Some(owner) => owner == subpool.owner,
-            None => false,
-        }
-    }
-
     // The queues of the subpool; empty ones where it isn't there.
     fn queues(&self, elements: &Elements, subpool: Subpool) -> Queues
         requires { Stands elements.now self.now }
@@ -57,7 +46,7 @@ impl SubpoolStorage {
     // The name of the subpool, if it's there.
     fn find(&self, elements: &Elements, subpool: Subpool) -> Option<PoolId>
         requires { Stands elements.now self.now }
-        ensures pool { IfSome result (λ id. IsPool elements.now self.now.set id) }
+        ensures pool { IfSome result (λ id. IsSubpool elements.now self.now.set id) }
         ensures number { IfSome result (λ id. number_of elements.now id ≡ subpool.number) }
         ensures owner { IfSome result (λ id. owner_of elements.now id ≡ subpool.owner) }
         ensures there { IfSome result (λ _. is_there (subpools_of elements.now self.now) subpool ≡ true) }

@@ -4,7 +4,7 @@ ghost use Rattle.vsm_elements.specs.Owners.{Moves};
 ghost use Rattle.run_set.specs.Runs.{AllIn, NoneIn};
 ghost use Rattle.run_set.specs.Counts.{joins};
 ghost use Rattle.subpool_set.specs.Pools.{IsNumbersEnd};
-ghost use Rattle.subpool_set.specs.SubpoolSet.{IsPool, number_of, owner_of};
+ghost use Rattle.subpool_set.specs.SubpoolSet.{IsSubpool, number_of, owner_of};
 ghost use Rattle.subpool_storage.specs.Subpools.{no_subpools, is_there, with_pages, with_free, with_own};
 ghost use Rattle.subpool_storage.specs.Subpools.{with_storage_of, CanExchange};
 
@@ -68,7 +68,7 @@ impl SubpoolStorage {
     pub(crate) fn id(&self, elements: &Elements, subpool: Subpool) -> PoolId
         requires stands { Stands elements.now self.now }
         requires there { is_there (subpools_of elements.now self.now) subpool ≡ true }
-        ensures pool { IsPool elements.now self.now.set result }
+        ensures pool { IsSubpool elements.now self.now.set result }
         ensures number { number_of elements.now result ≡ subpool.number }
         ensures owner { owner_of elements.now result ≡ subpool.owner }
     {

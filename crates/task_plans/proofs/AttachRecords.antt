@@ -8,12 +8,14 @@ use Rattle.storage_exchange.specs.declared.storage.Parts.{Parts}
 use Rattle.storage_exchange.specs.Storage.{state_of}
 use Rattle.storage_swap.specs.declared.builder.ChangeBuilder.{ChangeBuilder}
 use Rattle.storage_swap.specs.Builder.{Builds, Pushes}
-use Rattle.storage_swap.proofs.BuilderLemmas.{pushes-follow}
+use Rattle.storage_swap.proofs.BuilderLemmas.{pushes-follow, made-more, refused-made}
 use Rattle.storage_changes.specs.StorageActions.{register_records}
 use Rattle.storage_changes.specs.Attaching.{attach_records, gift_records, share_records, zero_records}
 use Rattle.task_plans.specs.declared.attach.AttachPlan.{AttachPlan}
 use Rattle.task_plans.specs.TaskPlans.{attach_change, numbers}
 use Rattle.task_plans.proofs.Walks.{ok_follows}
+use Rattle.storage_swap.specs.Growth.{MakesElements}
+use Rattle.vsm_elements.specs.Store.{Store}
 
 -- the four kinds of them
 module _ (plan : AttachPlan) where
@@ -85,11 +87,17 @@ module _ (plan : AttachPlan) (s : Parts) (given shared : List ℕ) (is-given : g
       let P : ℕ → Type 0 = λ n. n ≤ s.elements.spare in
       both-first (length (of-task given shared)) 2 s.elements.spare (subst P sizes h)
 
+  pub task_refused : (e : Store) → MakesElements s.elements e (length (of-task given shared)) → MakesElements s.elements e (length whole)
+  task_refused e = made-more s.elements e (length (of-task given shared)) (length whole) (omega (arith, sizes))
+
   module _ (t : Parts) (a b : ChangeBuilder) (one : Builds s a t b) (first : Pushes s a (of-task given shared) t b) where
     pub registers_room : length whole ≤ s.elements.spare → 2 ≤ t.elements.spare
     registers_room h =
         let P : ℕ → Type 0 = λ n. n ≤ s.elements.spare in
         both-second (length (of-task given shared)) s.elements.spare t.elements.spare (subst P sizes h) first.spare
+
+    pub registers_refused : (e : Store) → MakesElements t.elements e 2 → MakesElements s.elements e (length whole)
+    registers_refused e = refused-made s.elements t.elements e (length (of-task given shared)) 2 (length whole) first.made first.live (omega (arith, sizes))
 
     pub attach_pushed : (u : Parts) (c : ChangeBuilder) → Pushes t b (its-registers (state_of t)) u c → Pushes s a whole u c
     attach_pushed u c second =

@@ -1,7 +1,7 @@
 -- The records of an end come behind one another, where the subpools of the tasks that end were parked.
 use Rattle.std.proofs.Common.{◌≡◌, ℕ, ◌+◌, ◌<◌, ◌≤◌, true, false, List, [], ◌∷◌, ◌++◌, length, length-append, sym, ap, ◌∙◌, subst, arith}
 use Rattle.std.proofs.lemmas.List.{append_assoc}
-use Rattle.vsm_elements.specs.Store.{live_count}
+use Rattle.vsm_elements.specs.Store.{live_count, Store}
 use Rattle.subpool_storage.specs.Subpools.{Subpools, no_subpools}
 use Rattle.storage_changes.specs.declared.record.Record.{Record}
 use Rattle.storage_changes.specs.declared.record.Record.TheVariants.{Turn}
@@ -12,7 +12,7 @@ use Rattle.storage_exchange.specs.Storage.{state_of}
 use Rattle.storage_swap.specs.declared.builder.ChangeBuilder.{ChangeBuilder}
 use Rattle.storage_swap.specs.Builder.{records_in, parked_in, Builds, Pushes}
 use Rattle.storage_swap.specs.Growth.{all_elements, MakesElements}
-use Rattle.storage_swap.proofs.BuilderLemmas.{makes-follow, pushes-follow}
+use Rattle.storage_swap.proofs.BuilderLemmas.{makes-follow, pushes-follow, refused-made}
 use Rattle.storage_changes.specs.Ending.{ended_below, released_records}
 use Rattle.task_plans.specs.declared.end.EndPlan.{EndPlan}
 use Rattle.task_plans.specs.TaskPlans.{end_change, parked_onto, parks_all, rest_records, ParksAll}
@@ -89,6 +89,11 @@ module _ (plan : EndPlan) (s t : Parts) (a b : ChangeBuilder) (one : Builds s a 
       subst P (sym same-released)
       (left-of names (length whole) s.elements.spare t.elements.spare (length (released (state_of s))) (length (rest_records (state_of s) plan)) h parks.spare sizes)
 
+  -- how much is made where these are refused, the turn, or the rest
+  pub released_refused : (e : Store) → MakesElements t.elements e (length (released (state_of t))) → MakesElements s.elements e (names + length whole)
+  released_refused e =
+      refused-made s.elements t.elements e names (length (released (state_of t))) (names + length whole) parks.made parks.live (omega (arith, sizes, same-released))
+
   module _ (u : Parts) (c : ChangeBuilder) (two : Builds t b u c) (second : Pushes t b (released (state_of t)) u c) where
     less-then : t.elements.spare ≤ u.elements.spare + length (released (state_of s))
     less-then =
@@ -99,6 +104,12 @@ module _ (plan : EndPlan) (s t : Parts) (a b : ChangeBuilder) (one : Builds s a 
     turn_room h =
         left-one names (length whole) s.elements.spare t.elements.spare u.elements.spare (length (released (state_of s))) (length (rest_records (state_of s) plan))
         h parks.spare less-then sizes
+
+    pub turn_refused : (e : Store) → MakesElements u.elements e 1 → MakesElements s.elements e (names + length whole)
+    turn_refused e =
+        refused-made s.elements u.elements e (names + length (released (state_of t))) 1 (names + length whole)
+        (refused-made s.elements t.elements u.elements names (length (released (state_of t))) (names + length (released (state_of t))) parks.made parks.live (omega arith) second.made)
+        (more-live names (length (released (state_of t))) (live_count s.elements) (live_count t.elements) (live_count u.elements) parks.live second.live) (omega (arith, sizes, same-released))
 
     module _ (v : Parts) (d : ChangeBuilder) (three : Builds u c v d) (third : Pushes u c (turn ∷ []) v d) where
       shows-so-far : state_of v ≡ state_of s
@@ -116,6 +127,14 @@ module _ (plan : EndPlan) (s t : Parts) (a b : ChangeBuilder) (one : Builds s a 
       turned =
           let P : List Record → Type 0 = λ xs. Pushes t b (xs ++ turn ∷ []) v d in
           subst P (ap released one.keeps.shows) (pushes-follow t u v b c d (released (state_of t)) (turn ∷ []) second third)
+
+      pub rest_refused : (e : Store) → MakesElements v.elements e (length (rest_records (state_of v) plan)) → MakesElements s.elements e (names + length whole)
+      rest_refused e m =
+          let P : StorageState → Type 0 = λ x. MakesElements v.elements e (length (rest_records x plan)) in
+          refused-made s.elements v.elements e (names + length front) (length (rest_records (state_of s) plan)) (names + length whole)
+          (refused-made s.elements t.elements v.elements names (length front) (names + length front) parks.made parks.live (omega arith) turned.made)
+          (more-live names (length front) (live_count s.elements) (live_count t.elements) (live_count v.elements) parks.live turned.live)
+          (omega (arith, ap length together, length-append front (rest_records (state_of s) plan))) (subst P shows-so-far m)
 
       pub counted : records_in s a ≡ [] → length (records_in v d) ≡ 1 + length (released (state_of s))
       counted none =

@@ -3,7 +3,7 @@ use Rattle.std.proofs.Common.{◌≡◌, ℕ, suc, ◌+◌, ◌≤◌, Bool, tru
 use Rattle.std.specs.Prelude.{if◌then◌else◌}
 use Rattle.std.specs.List.{All, AllPairs}
 use Rattle.std.proofs.lemmas.Bool.{and_parts, both_ways, eqb-true, false_from_ne_true}
-use Rattle.vsm_elements.specs.Store.{live_count}
+use Rattle.vsm_elements.specs.Store.{live_count, Store}
 use Rattle.vsm_model.specs.declared.Subpool.{Subpool}
 use Rattle.vsm_model.specs.Subpools.{same_subpool}
 use Rattle.subpool_storage.specs.Subpools.{Subpools, no_subpools, with_own}
@@ -147,6 +147,11 @@ module _ (top : ℕ) (s : Parts) (a : ChangeBuilder) where
 
       pub parks_room : length (parks_all (state_of s) top) ≤ s.elements.spare → length added ≤ t.elements.spare
       parks_room room = omega (arith, room, w.spare, ap length front, length-append added (left next))
+
+      pub parks_refused : (e : Store) → MakesElements t.elements e (length added) → MakesElements s.elements e (length (parks_all (state_of s) top))
+      parks_refused e =
+          makes-follow (all_elements s.elements) (all_elements t.elements) (all_elements e) (live_count s.elements) (live_count t.elements)
+          (length (parks_all (state_of s) top)) (length added) (length (parks_all (state_of s) top)) w.made (omega (arith, w.live, ap length front, length-append added (left next))) (omega arith)
 
       pub parks_more : (u : Parts) (c : ChangeBuilder) → Builds t b u c → ParksAll t b added u c → ParksLead top s a u c next
       parks_more u c builds all =

@@ -1,5 +1,5 @@
 -- The records of an end that stand behind the turn.
-use Rattle.std.proofs.Common.{◌≡◌, ℕ, ◌<◌, ◌≤◌, List, length, sym, subst}
+use Rattle.std.proofs.Common.{◌≡◌, ℕ, ◌<◌, ◌≤◌, List, length, sym, subst, Result, OnErr}
 use Rattle.std.specs.List.{flat_map}
 use Rattle.vsm_model.specs.declared.replies.Reply.{Reply}
 use Rattle.vsm_model.specs.declared.replies.Reply.TheVariants.{Returned}
@@ -9,6 +9,8 @@ use Rattle.storage_changes.specs.StorageActions.{register_records}
 use Rattle.storage_changes.specs.Ending.{ended_below, ended_records, removed_records, unshared_records, with_turn}
 use Rattle.task_plans.specs.declared.end.EndPlan.{EndPlan}
 use Rattle.task_plans.specs.TaskPlans.{end_registers, rest_records}
+use Rattle.storage_swap.specs.Growth.{MakesElements}
+use Rattle.vsm_elements.specs.Store.{Store}
 
 -- the plan of what ends with this task
 abbrev pub with_top : EndPlan → ℕ → EndPlan
@@ -20,6 +22,9 @@ module _ (plan : EndPlan) (top : ℕ) (is : top ≡ plan.top) where
 
   pub same_room : (m : StorageState) {n : ℕ} → length (rest_records m plan) ≤ n → length (rest_records m (with_top plan top)) ≤ n
   same_room m {n} room = let P : EndPlan → Type 0 = λ plan. length (rest_records m plan) ≤ n in subst P (sym same_plan) room
+
+  pub same_refused : (m : StorageState) (s e : Store) → MakesElements s e (length (rest_records m (with_top plan top))) → MakesElements s e (length (rest_records m plan))
+  same_refused m s e = let P : EndPlan → Type 0 = λ plan. MakesElements s e (length (rest_records m plan)) in subst P same_plan
 
 -- the four kinds of them
 module _ (plan : EndPlan) where
@@ -40,3 +45,8 @@ module _ (plan : EndPlan) where
   register_room m code is {n} room =
       let P : Reply → Type 0 = λ reply. length (register_records (with_turn m plan.next) (end_registers reply)) ≤ n in
       subst P is room
+
+  pub register_refused : {E : Type 0} (m : StorageState) (code : ℕ) → plan.reply ≡ Returned code → (s e : Store) (r : Result (Unit {0}) E) → OnErr r (MakesElements s e 1) → OnErr r (MakesElements s e (length (registers m)))
+  register_refused m code is s e r =
+      let P : Reply → Type 0 = λ reply. OnErr r (MakesElements s e (length (register_records (with_turn m plan.next) (end_registers reply)))) in
+      subst P (sym is)

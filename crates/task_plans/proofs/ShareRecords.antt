@@ -9,8 +9,9 @@ use Rattle.storage_exchange.specs.declared.storage.Parts.{Parts}
 use Rattle.storage_exchange.specs.Storage.{state_of}
 use Rattle.storage_swap.specs.declared.builder.ChangeBuilder.{ChangeBuilder}
 use Rattle.storage_swap.specs.Builder.{Builds, Pushes}
-use Rattle.storage_swap.proofs.BuilderLemmas.{Leads, leads-more, leads-all, leads-room}
+use Rattle.storage_swap.proofs.BuilderLemmas.{Leads, leads-more, leads-all, leads-room, leads-refused}
 use Rattle.storage_changes.specs.Attaching.{made, shared, share_records, sharing_records}
+use Rattle.storage_swap.specs.Growth.{MakesElements}
 
 next : (k : ℕ) → suc k ≡ k + 1
 next k = omega arith
@@ -46,6 +47,10 @@ module _ (each : StorageState → ℕ → List Record) (p t : Parts) (a b : Chan
         front-room (length (each (state_of t) (get_or xs k 0))) (length (flat_map (each (state_of p)) (drop (k + 1) xs))) (length (flat_map (each (state_of p)) (drop k xs))) t.elements.spare
         (ap length front ∙ length-append (each (state_of t) (get_or xs k 0)) (flat_map (each (state_of p)) (drop (k + 1) xs)))
         (leads-room p t a b (flat_map (each (state_of p)) xs) (flat_map (each (state_of p)) (drop k xs)) w h)
+
+    pub each_refused : (u : Parts) → MakesElements t.elements u.elements (length (each (state_of t) (get_or xs k 0))) → MakesElements p.elements u.elements (length (flat_map (each (state_of p)) xs))
+    each_refused u =
+        leads-refused p t a b (flat_map (each (state_of p)) xs) (flat_map (each (state_of p)) (drop k xs)) w u (each (state_of t) (get_or xs k 0)) (flat_map (each (state_of p)) (drop (k + 1) xs)) front
 
     pub each_more : (u : Parts) (c : ChangeBuilder) → Builds t b u c → Pushes t b (each (state_of t) (get_or xs k 0)) u c
         → Leads p a (flat_map (each (state_of p)) xs) u c (flat_map (each (state_of p)) (drop (k + 1) xs))

@@ -8,7 +8,7 @@ use Rattle.std.proofs.lemmas.List.{drop_all}
 use Rattle.subpool_set.proofs.OrderLemmas.{given_none, numbers_are}
 use Rattle.storage_changes.specs.State.{StorageState}
 use Rattle.storage_changes.specs.Ending.{SightRow, ended_below, row_at, rows_at, seen_by_these}
-use Rattle.task_plans.specs.declared.ended.Ending.{Ending}
+use Rattle.task_plans.specs.declared.ended.EndOfTasks.{EndOfTasks}
 use Rattle.task_plans.specs.declared.sights.SightPlace.{SightPlace}
 use Rattle.task_plans.specs.Sights.{tasks_below, rows_from, rows_behind, seen_left, IsEnding}
 use Rattle.task_plans.proofs.Rests.{run_next}
@@ -28,7 +28,7 @@ high_none f range task n high = go (f task n) refl where
       absurd (omega (arith, r.2, high))
 
 -- what ends stays so over a storage whose state is the same
-pub still_ends : (ending : Ending) (m k : StorageState) → k ≡ m → IsEnding m ending → IsEnding k ending
+pub still_ends : (ending : EndOfTasks) (m k : StorageState) → k ≡ m → IsEnding m ending → IsEnding k ending
 still_ends ending m k e h = let P : StorageState → Type 0 = λ x. IsEnding x ending in subst P (sym e) h
 
 module _ (m : StorageState) (top : ℕ) where

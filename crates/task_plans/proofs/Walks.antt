@@ -1,11 +1,11 @@
 -- Walks over the storage while a change of it is made: a place stays one, with what is left behind it.
-use Rattle.std.proofs.Common.{◌≡◌, ℕ, suc, ◌+◌, ◌<◌, ◌≤◌, Bool, true, false, List, [], ◌∷◌, ◌++◌, length, length-append, map, drop, Some, None, Result, Ok, Err, OnOk, refl, sym, ap, ◌∙◌, subst, arith}
+use Rattle.std.proofs.Common.{◌≡◌, ℕ, suc, ◌+◌, ◌<◌, ◌≤◌, Bool, true, false, List, [], ◌∷◌, ◌++◌, length, length-append, map, drop, Some, None, Result, Ok, Err, OnOk, refl, sym, ap, ◌∙◌, subst, arith, OnErr}
 use Rattle.std.specs.Prelude.{filter, slice_get, if◌then◌else◌}
 use Rattle.std.specs.List.{flat_map}
 use Rattle.std.proofs.lemmas.Grind.{flat_map-append}
 use Rattle.std.proofs.lemmas.List.{append-nil, map-append}
 use Rattle.std.proofs.lemmas.Option.{slice_get_within}
-use Rattle.vsm_elements.specs.Store.{at}
+use Rattle.vsm_elements.specs.Store.{at, Store}
 use Rattle.vsm_elements.specs.Owners.{times}
 use Rattle.vsm_elements.proofs.TimesLemmas.{times-some}
 use Rattle.run_set.specs.Runs.{Run}
@@ -30,12 +30,14 @@ use Rattle.storage_exchange.specs.declared.storage.Parts.{Parts}
 use Rattle.storage_exchange.specs.Storage.{hold, state_of, Stand}
 use Rattle.storage_swap.specs.declared.builder.ChangeBuilder.{ChangeBuilder}
 use Rattle.storage_swap.specs.Builder.{Keeps, Builds, Pushes}
-use Rattle.storage_swap.proofs.BuilderLemmas.{Leads, leads-more, leads-all, leads-room, pushes-follow}
+use Rattle.storage_swap.proofs.BuilderLemmas.{Leads, leads-more, leads-all, leads-room, pushes-follow, leads-refused, refused-made}
 use Rattle.storage_changes.specs.State.{StorageState}
 use Rattle.storage_changes.specs.Ending.{SightRow, is_own, owned_in, sharer_rows, unshared}
 use Rattle.task_plans.specs.declared.sights.SightPlace.{SightPlace}
 use Rattle.task_plans.specs.Sights.{seen_left}
 use Rattle.task_plans.proofs.Rests.{drop_next, drop_none}
+use Rattle.storage_swap.specs.Growth.{MakesElements}
+use Rattle.std.proofs.lemmas.Result.{on_err_weaker}
 
 -- Of the records of what the tasks of a subtree see, those from the place on are left.
 module _ (h : List SightRow → List Record) (top : ℕ) (s : Parts) (a : ChangeBuilder) (t : Parts) (b : ChangeBuilder) (place : SightPlace) (builds : Builds s a t b) where
@@ -58,6 +60,9 @@ module _ (h : List SightRow → List Record) (top : ℕ) (s : Parts) (a : Change
       walk_room room =
           let r = leads-room s t a b all (h (seen_left (state_of s) top place)) w room in
           omega (arith, r, ap length front, length-append added (h (seen_left (state_of s) top next)))
+
+      pub walk_refused : (u : Parts) → MakesElements t.elements u.elements (length added) → MakesElements s.elements u.elements (length all)
+      walk_refused u = leads-refused s t a b all (h (seen_left (state_of s) top place)) w u added (h (seen_left (state_of s) top next)) front
 
       pub walk_more : (u : Parts) (c : ChangeBuilder) → Builds t b u c → Pushes t b added u c → Leads s a all u c (h (seen_left (state_of s) top next))
       walk_more u c more pushes = leads-more s t a b all (h (seen_left (state_of s) top place)) w u c added (h (seen_left (state_of s) top next)) front more pushes
@@ -98,6 +103,9 @@ module _ (h : List ℕ → List Record) (p : Subpool) (all : List ℕ) (s : Part
       sharers_room room =
           let r = leads-room s t a b (h all) (h (sharers_left t.elements t.subpools place p)) w.leads room in
           omega (arith, r, ap length before, length-append added (h (sharers_left t.elements t.subpools next p)))
+
+      pub sharers_refused : (u : Parts) → MakesElements t.elements u.elements (length added) → MakesElements s.elements u.elements (length (h all))
+      sharers_refused u = leads-refused s t a b (h all) (h (sharers_left t.elements t.subpools place p)) w.leads u added (h (sharers_left t.elements t.subpools next p)) before
 
       pub sharers_more : (u : Parts) (c : ChangeBuilder) → Builds t b u c → Pushes t b added u c → SharersLead h p all s a u c next
       sharers_more u c builds pushes =
@@ -153,6 +161,10 @@ module _ (all : List Run) (s : Parts) (a : ChangeBuilder) (t : Parts) (b : Chang
         let r = leads-room s t a b (unassigned_records all) (unassigned_records (drop (place_index place) all)) w.leads room in
         omega (arith, r, ap length onward)
 
+    pub extents_refused : (u : Parts) → MakesElements t.elements u.elements 1 → MakesElements s.elements u.elements (length (unassigned_records all))
+    extents_refused u = leads-refused s t a b (unassigned_records all) (unassigned_records (drop (place_index place) all)) w.leads u
+        (Pages (record { run = run; assigned = false }) ∷ []) (unassigned_records (drop (place_index next) all)) onward
+
     pub extents_more : (u : Parts) (c : ChangeBuilder) → IsPlace t.elements q next → Builds t b u c → Pushes t b (Pages (record { run = run; assigned = false }) ∷ []) u c → ExtentsLead all s a u c q next
     extents_more u c there builds pushes =
         let r = extents_over s t u _ _ q w.leads.builds.keeps.held w.own w.stand builds.keeps in
@@ -175,6 +187,14 @@ pub ok_last : {E : Type 0} (s t u : Parts) (a b c : ChangeBuilder) (all left : L
 ok_last s t u a b c all left l (Ok x) builds p =
     leads-all s u a c all [] (leads-more s t a b all left l u c left [] (sym (append-nil left)) builds p) refl
 ok_last s t u a b c all left l (Err e) builds p = tt
+
+-- or they are refused
+pub err_follows : {E : Type 0} (s t : Parts) (e : Store) (a b : ChangeBuilder) (xs ys : List Record) (r : Result (Unit {0}) E) → Pushes s a xs t b → OnErr r (MakesElements t.elements e (length ys)) → OnErr r (MakesElements s.elements e (length (xs ++ ys)))
+err_follows s t e a b xs ys r p =
+    on_err_weaker r (refused-made s.elements t.elements e (length xs) (length ys) (length (xs ++ ys)) p.made p.live (omega (arith, length-append xs ys)))
+
+pub err_last : {E : Type 0} (s t u : Parts) (a b : ChangeBuilder) (all left : List Record) → Leads s a all t b left → (r : Result (Unit {0}) E) → OnErr r (MakesElements t.elements u.elements (length left)) → OnErr r (MakesElements s.elements u.elements (length all))
+err_last s t u a b all left l r = on_err_weaker r (leads-refused s t a b all left l u left [] (sym (append-nil left)))
 
 -- what one gives, of those that pass
 module _ {A B : Type 0} (f : A → Bool) (g : A → List B) where

@@ -6,16 +6,16 @@ use Rattle.subpool_set.specs.Pools.{IsNumbersEnd}
 use Rattle.storage_changes.specs.State.{StorageState}
 use Rattle.storage_changes.specs.Ending.{SightRow, ended_below, ending_tasks, row_at, rows_at}
 use Rattle.task_plans.specs.Parents.{AreParents}
-use Rattle.task_plans.specs.declared.ended.Ending.{Ending}
-use Rattle.task_plans.specs.declared.sights.Seen.{Seen}
+use Rattle.task_plans.specs.declared.ended.EndOfTasks.{EndOfTasks}
+use Rattle.task_plans.specs.declared.sights.SeenSubpool.{SeenSubpool}
 use Rattle.task_plans.specs.declared.sights.SightPlace.{SightPlace}
 
 -- the tasks that end
-abbrev pub ended_by : StorageState → Ending → List ℕ
+abbrev pub ended_by : StorageState → EndOfTasks → List ℕ
 ended_by m ending = ended_below m.tasks.parents ending.tree.top
 
 -- as a row of sight
-abbrev pub row_of : Seen → SightRow
+abbrev pub row_of : SeenSubpool → SightRow
 row_of seen = (seen.subpool, seen.task)
 
 -- the tasks of a subtree in ascending order
@@ -36,7 +36,7 @@ abbrev pub seen_left : StorageState → ℕ → SightPlace → List SightRow
 seen_left m top place = rows_from m top place ++ rows_behind m top place.number
 
 -- This is the storage's tree of tasks, those of the subtree in ascending order, and where the numbers end.
-pub record IsEnding (m : StorageState) (ending : Ending) : Type 0 where
+pub record IsEnding (m : StorageState) (ending : EndOfTasks) : Type 0 where
   pub parents : AreParents ending.tree.parents.of m.tasks.parents
   pub tasks : ending.tasks.items ≡ tasks_below m ending.tree.top
   pub numbers : IsNumbersEnd m.subpools.sight ending.numbers_end

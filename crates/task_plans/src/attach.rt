@@ -1,6 +1,6 @@
 //! Plans of tasks that come.
 
-ghost use Rattle.std.specs.Prelude.{◌≡◌, ℕ, ◌+◌, ◌≤◌, [], ◌∷◌, Bool, List, length, All, IsOk, OnOk, IfOk, IfErr};
+ghost use Rattle.std.specs.Prelude.{◌≡◌, ℕ, ◌+◌, ◌≤◌, [], ◌∷◌, Bool, List, length, All, IsOk, OnOk, OnErr, IfOk, IfErr};
 ghost use Rattle.vsm_elements.specs.Store.{live_count};
 ghost use Rattle.vsm_model.specs.declared.limits.Settings.{Settings};
 ghost use Rattle.vsm_model.specs.Services.{attach};
@@ -9,7 +9,7 @@ ghost use Rattle.storage_changes.specs.Attaching.{attach_records};
 ghost use Rattle.storage_changes.specs.StorageActions.{register_records};
 ghost use Rattle.storage_plans.specs.Places.{StandsSound};
 ghost use Rattle.storage_swap.specs.Builder.{IsBuilding, Builds, Pushes};
-ghost use Rattle.storage_swap.specs.Growth.{MakesElements};
+ghost use Rattle.storage_swap.specs.Growth.{MakesElements, MakesWithin};
 ghost use Rattle.storage_swap.specs.Reserve.{Grown, Reserves};
 ghost use Rattle.task_plans.specs.TaskPlans.{attach_change, numbers, CanBeAttached, IsAttachPlanned};
 
@@ -72,7 +72,8 @@ impl AttachPlan {
     /// one for each of two registers. The state of the storage stays as it is.
     ///
     /// `AllocError` where memory is refused: what was made before that stays, as spare elements. Where so many elements
-    /// are spare as it has records and blank elements, it takes no memory. It uses no more of them.
+    /// are spare as it has records and blank elements, it takes no memory. It uses no more of them. At most a block of
+    /// elements is made beyond these, whatever the answer, and no frame.
     pub fn reserve(self, storage: &mut Parts) -> Result<Change, AllocError>
         requires stands { Stand storage.old }
         requires once { (i : ℕ) → hold storage.old i ≤ 1 }
@@ -88,9 +89,9 @@ impl AttachPlan {
             storage.old.elements.spare ≤ storage.new.elements.spare + (length d.records + d.blanks)) }
         ensures live { IfOk result (λ _. let d = attach_change (state_of storage.old) self in
             live_count storage.new.elements ≤ live_count storage.old.elements + (length d.records + d.blanks)) }
-        ensures made { IfOk result (λ _. let d = attach_change (state_of storage.old) self in
-            MakesElements storage.old.elements storage.new.elements (length d.records + d.blanks)) }
-        ensures same_frames { IfOk result (λ _. storage.new.region ≡ storage.old.region) }
+        ensures made { let d = attach_change (state_of storage.old) self in
+            MakesWithin storage.old.elements storage.new.elements (length d.records + d.blanks) }
+        ensures same_frames { storage.new.region ≡ storage.old.region }
     {
         let mut builder = Builder::new();
         match self.push_records(storage, &mut builder) {
@@ -110,6 +111,8 @@ impl AttachPlan {
         ensures ok { OnOk result (Pushes storage.old builder.old
             (attach_change (state_of storage.old) self).records storage.new builder.new) }
         ensures blanks { IfOk result (λ n. n ≡ (attach_change (state_of storage.old) self).blanks) }
+        ensures made { OnErr result (MakesElements storage.old.elements storage.new.elements
+            (length (attach_change (state_of storage.old) self).records)) }
         ensures needless { length (attach_change (state_of storage.old) self).records ≤ storage.old.elements.spare
             → IsOk result }
     {
@@ -135,6 +138,9 @@ impl AttachPlan {
         ensures builds { Builds storage.old builder.old storage.new builder.new }
         ensures ok { OnOk result (Pushes storage.old builder.old (attach_records (state_of storage.old) self.task
             self.attach.shares_zero given.now.items shared.now.items) storage.new builder.new) }
+        ensures made { OnErr result (MakesElements storage.old.elements storage.new.elements
+            (length (attach_records (state_of storage.old) self.task self.attach.shares_zero given.now.items
+            shared.now.items))) }
         ensures needless { length (attach_records (state_of storage.old) self.task self.attach.shares_zero
             given.now.items shared.now.items) ≤ storage.old.elements.spare → IsOk result }
     {
@@ -155,6 +161,7 @@ impl AttachPlan {
         ensures builds { Builds storage.old builder.old storage.new builder.new }
         ensures ok { OnOk result (Pushes storage.old builder.old
             (register_records (state_of storage.old) ((15, 0) ∷ (1, self.task) ∷ [])) storage.new builder.new) }
+        ensures made { OnErr result (MakesElements storage.old.elements storage.new.elements 2) }
         ensures needless { 2 ≤ storage.old.elements.spare → IsOk result }
     {
         let current = storage.tasks.current();

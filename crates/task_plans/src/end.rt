@@ -1,7 +1,7 @@
 //! Plans of tasks that end.
 
 ghost use Rattle.std.specs.Prelude.{◌≡◌, ℕ, ◌+◌, ◌≤◌, ◌++◌, [], ◌∷◌, Bool, true, length, map, IsOk, OnOk, IfOk};
-ghost use Rattle.std.specs.Prelude.{IfErr};
+ghost use Rattle.std.specs.Prelude.{IfErr, OnErr};
 ghost use Rattle.std.specs.List.{flat_map};
 ghost use Rattle.vsm_elements.specs.Store.{live_count};
 ghost use Rattle.vsm_model.specs.declared.limits.Settings.{Settings};
@@ -13,7 +13,7 @@ ghost use Rattle.storage_changes.specs.Changes.{unassigned_records, empties};
 ghost use Rattle.storage_exchange.specs.Storage.{hold, state_of, Stand, IsFrameless};
 ghost use Rattle.storage_plans.specs.Places.{StandsSound};
 ghost use Rattle.storage_swap.specs.Builder.{parked_in, records_in, IsBuilding, Builds, Pushes};
-ghost use Rattle.storage_swap.specs.Growth.{MakesElements};
+ghost use Rattle.storage_swap.specs.Growth.{MakesElements, MakesWithin};
 ghost use Rattle.storage_swap.specs.Reserve.{Grown, Reserves};
 ghost use Rattle.storage_changes.specs.Ending.{owned_in, emptying_records, removed};
 ghost use Rattle.storage_changes.specs.Ending.{released_records, removed_records, rows_with, sharer_rows, unshared};
@@ -22,9 +22,9 @@ ghost use Rattle.task_plans.specs.Sights.{ended_by, row_of, IsEnding};
 ghost use Rattle.task_plans.specs.TaskPlans.{end_change, parks_all, ParksAll};
 ghost use Rattle.task_plans.specs.TaskPlans.{rest_records, CanBeEnded, CanPark, IsEndPlanned};
 
-use crate::ended::{Ending, Tree, is_ended, push_ended, read_parents, tasks_that_end};
+use crate::ended::{EndOfTasks, Tree, is_ended, push_ended, read_parents, tasks_that_end};
 use crate::registers::set_register;
-use crate::sights::{Seen, behind_number, first_seen, next_seen};
+use crate::sights::{SeenSubpool, behind_number, first_seen, next_seen};
 use crate::{Builder, Pushed};
 use descriptor_queue::Extents;
 use std::alloc::AllocError;
@@ -112,7 +112,7 @@ pub fn plan_end_task(storage: &Parts) -> Result<EndPlan, Cause>
         }
         Err(fault) => match fault {
             TreeFault::HasSubtasks => Err(Cause::HasSubtask),
-            _ => Err(Cause::NotParent),
+            TreeFault::NoTask | TreeFault::NotParent | TreeFault::TooMany => Err(Cause::NotParent),
         },
     }
 }
@@ -124,6 +124,7 @@ impl EndPlan {
     ///
     /// `AllocError` where memory is refused: what was made before that stays, as spare elements. Where so many elements
     /// are spare as it parks subpools and has records and blank elements, it takes no memory. It uses no more of them.
+    /// At most a block of elements is made beyond these, whatever the answer, and no frame.
     pub fn reserve(self, storage: &mut Parts) -> Result<Change, AllocError>
         requires stands { Stand storage.old }
         requires once { (i : ℕ) → hold storage.old i ≤ 1 }
@@ -142,10 +143,10 @@ impl EndPlan {
         ensures live { IfOk result (λ _. let d = end_change (state_of storage.old) self in
             live_count storage.new.elements ≤ live_count storage.old.elements
             + (length (parks_all (state_of storage.old) self.top) + (length d.records + d.blanks))) }
-        ensures made { IfOk result (λ _. let d = end_change (state_of storage.old) self in
-            MakesElements storage.old.elements storage.new.elements
-            (length (parks_all (state_of storage.old) self.top) + (length d.records + d.blanks))) }
-        ensures same_frames { IfOk result (λ _. storage.new.region ≡ storage.old.region) }
+        ensures made { let d = end_change (state_of storage.old) self in
+            MakesWithin storage.old.elements storage.new.elements
+            (length (parks_all (state_of storage.old) self.top) + (length d.records + d.blanks)) }
+        ensures same_frames { storage.new.region ≡ storage.old.region }
     {
         let mut builder = Builder::new();
         match self.push_records(storage, &mut builder) {
@@ -176,9 +177,9 @@ impl EndPlan {
         ensures live { OnOk result (live_count storage.new.elements
             ≤ live_count storage.old.elements + (length (parks_all (state_of storage.old) self.top)
             + length (end_change (state_of storage.old) self).records)) }
-        ensures made { OnOk result (MakesElements storage.old.elements storage.new.elements
+        ensures made { MakesElements storage.old.elements storage.new.elements
             (length (parks_all (state_of storage.old) self.top)
-            + length (end_change (state_of storage.old) self).records)) }
+            + length (end_change (state_of storage.old) self).records) }
         ensures needless { length (parks_all (state_of storage.old) self.top)
             + length (end_change (state_of storage.old) self).records ≤ storage.old.elements.spare → IsOk result }
     {
@@ -186,7 +187,7 @@ impl EndPlan {
             top: self.top,
             parents: read_parents(storage),
         };
-        let ending = Ending {
+        let ending = EndOfTasks {
             tree,
             tasks: tasks_that_end(storage, &tree),
             numbers_end: storage.subpools.numbers_end(&storage.elements),
@@ -200,13 +201,15 @@ impl EndPlan {
     }
 
     // The records behind the turn.
-    fn push_rest(self, storage: &mut Parts, builder: &mut Builder, ending: &Ending) -> Pushed
+    fn push_rest(self, storage: &mut Parts, builder: &mut Builder, ending: &EndOfTasks) -> Pushed
         requires building { IsBuilding storage.old builder.old }
         requires ending { IsEnding (state_of storage.old) ending.now }
         requires top { ending.now.tree.top ≡ self.top }
         ensures builds { Builds storage.old builder.old storage.new builder.new }
         ensures ok { OnOk result (Pushes storage.old builder.old
             (rest_records (state_of storage.old) self) storage.new builder.new) }
+        ensures made { OnErr result (MakesElements storage.old.elements storage.new.elements
+            (length (rest_records (state_of storage.old) self))) }
         ensures needless { length (rest_records (state_of storage.old) self) ≤ storage.old.elements.spare
             → IsOk result }
     {
@@ -221,13 +224,15 @@ impl EndPlan {
 }
 
 // An empty subpool is parked under the name of each that a task of the subtree owns.
-fn park_owned(storage: &mut Parts, builder: &mut Builder, ending: &Ending) -> Pushed
+fn park_owned(storage: &mut Parts, builder: &mut Builder, ending: &EndOfTasks) -> Pushed
     requires building { IsBuilding storage.old builder.old }
     requires ending { IsEnding (state_of storage.old) ending.now }
     requires none { parked_in storage.old builder.old ≡ no_subpools }
     ensures builds { Builds storage.old builder.old storage.new builder.new }
     ensures ok { OnOk result (ParksAll storage.old builder.old (parks_all (state_of storage.old) ending.now.tree.top)
         storage.new builder.new) }
+    ensures made { OnErr result (MakesElements storage.old.elements storage.new.elements
+        (length (parks_all (state_of storage.old) ending.now.tree.top))) }
     ensures needless { length (parks_all (state_of storage.old) ending.now.tree.top) ≤ storage.old.elements.spare
         → IsOk result }
 {
@@ -241,12 +246,14 @@ fn park_owned(storage: &mut Parts, builder: &mut Builder, ending: &Ending) -> Pu
 }
 
 // One is parked under this name, where the task owns what it sees.
-fn park_one(storage: &mut Parts, builder: &mut Builder, seen: Seen) -> Pushed
+fn park_one(storage: &mut Parts, builder: &mut Builder, seen: SeenSubpool) -> Pushed
     requires building { IsBuilding storage.old builder.old }
     requires can { CanPark (parked_in storage.old builder.old) (owned_in (row_of seen ∷ [])) }
     ensures builds { Builds storage.old builder.old storage.new builder.new }
     ensures ok { OnOk result (ParksAll storage.old builder.old (owned_in (row_of seen ∷ []))
         storage.new builder.new) }
+    ensures made { OnErr result (MakesElements storage.old.elements storage.new.elements
+        (length (owned_in (row_of seen ∷ [])))) }
     ensures needless { length (owned_in (row_of seen ∷ [])) ≤ storage.old.elements.spare → IsOk result }
 {
     if seen.is_own() {
@@ -257,12 +264,14 @@ fn park_one(storage: &mut Parts, builder: &mut Builder, seen: Seen) -> Pushed
 
 // The storage of each subpool that a task of the subtree owns goes over into the change, and its pages become
 // unassigned.
-fn push_released(storage: &mut Parts, builder: &mut Builder, ending: &Ending) -> Pushed
+fn push_released(storage: &mut Parts, builder: &mut Builder, ending: &EndOfTasks) -> Pushed
     requires building { IsBuilding storage.old builder.old }
     requires ending { IsEnding (state_of storage.old) ending.now }
     ensures builds { Builds storage.old builder.old storage.new builder.new }
     ensures ok { OnOk result (Pushes storage.old builder.old (released_records (state_of storage.old).subpools
         (ended_by (state_of storage.old) ending.now)) storage.new builder.new) }
+    ensures made { OnErr result (MakesElements storage.old.elements storage.new.elements
+        (length (released_records (state_of storage.old).subpools (ended_by (state_of storage.old) ending.now)))) }
     ensures needless { length (released_records (state_of storage.old).subpools
         (ended_by (state_of storage.old) ending.now)) ≤ storage.old.elements.spare → IsOk result }
 {
@@ -275,11 +284,13 @@ fn push_released(storage: &mut Parts, builder: &mut Builder, ending: &Ending) ->
 }
 
 // So does that of one, where the task owns what it sees.
-fn push_emptied(storage: &mut Parts, builder: &mut Builder, seen: Seen) -> Pushed
+fn push_emptied(storage: &mut Parts, builder: &mut Builder, seen: SeenSubpool) -> Pushed
     requires building { IsBuilding storage.old builder.old }
     ensures builds { Builds storage.old builder.old storage.new builder.new }
     ensures ok { OnOk result (Pushes storage.old builder.old (flat_map
         (emptying_records (state_of storage.old).subpools) (owned_in (row_of seen ∷ []))) storage.new builder.new) }
+    ensures made { OnErr result (MakesElements storage.old.elements storage.new.elements
+        (length (flat_map (emptying_records (state_of storage.old).subpools) (owned_in (row_of seen ∷ []))))) }
     ensures needless { length (flat_map (emptying_records (state_of storage.old).subpools)
         (owned_in (row_of seen ∷ []))) ≤ storage.old.elements.spare → IsOk result }
 {
@@ -297,6 +308,8 @@ fn push_extents(storage: &mut Parts, builder: &mut Builder, subpool: Subpool) ->
     ensures builds { Builds storage.old builder.old storage.new builder.new }
     ensures ok { OnOk result (Pushes storage.old builder.old
         (unassigned_records (extents (state_of storage.old).subpools subpool)) storage.new builder.new) }
+    ensures made { OnErr result (MakesElements storage.old.elements storage.new.elements
+        (length (unassigned_records (extents (state_of storage.old).subpools subpool)))) }
     ensures needless { length (unassigned_records (extents (state_of storage.old).subpools subpool))
         ≤ storage.old.elements.spare → IsOk result }
 {
@@ -315,12 +328,14 @@ fn push_extents(storage: &mut Parts, builder: &mut Builder, subpool: Subpool) ->
 
 // Tasks of the subtree see no subpool of others any more, nor others theirs. Of each number it's asked once whether
 // anybody shares there; what they see at one at which nobody does is passed at once.
-fn push_unshared(storage: &mut Parts, builder: &mut Builder, ending: &Ending) -> Pushed
+fn push_unshared(storage: &mut Parts, builder: &mut Builder, ending: &EndOfTasks) -> Pushed
     requires building { IsBuilding storage.old builder.old }
     requires ending { IsEnding (state_of storage.old) ending.now }
     ensures builds { Builds storage.old builder.old storage.new builder.new }
     ensures ok { OnOk result (Pushes storage.old builder.old (unshared_records (state_of storage.old).subpools
         (ended_by (state_of storage.old) ending.now)) storage.new builder.new) }
+    ensures made { OnErr result (MakesElements storage.old.elements storage.new.elements
+        (length (unshared_records (state_of storage.old).subpools (ended_by (state_of storage.old) ending.now)))) }
     ensures needless { length (unshared_records (state_of storage.old).subpools
         (ended_by (state_of storage.old) ending.now)) ≤ storage.old.elements.spare → IsOk result }
 {
@@ -342,12 +357,20 @@ fn push_unshared(storage: &mut Parts, builder: &mut Builder, ending: &Ending) ->
 
 // Where the task owns what it sees, all who share that see it no more; where the owner stays, the task doesn't. Where
 // the owner ends too, the row goes with the owner's.
-fn push_unseen(storage: &mut Parts, builder: &mut Builder, ending: &Ending, seen: Seen) -> Pushed
+fn push_unseen(
+    storage: &mut Parts,
+    builder: &mut Builder,
+    ending: &EndOfTasks,
+    seen: SeenSubpool,
+) -> Pushed
     requires building { IsBuilding storage.old builder.old }
     requires ending { IsEnding (state_of storage.old) ending.now }
     ensures builds { Builds storage.old builder.old storage.new builder.new }
     ensures ok { OnOk result (Pushes storage.old builder.old (map unshared (rows_with (state_of storage.old).subpools
         (ended_by (state_of storage.old) ending.now) (row_of seen))) storage.new builder.new) }
+    ensures made { OnErr result (MakesElements storage.old.elements storage.new.elements
+        (length (map unshared (rows_with (state_of storage.old).subpools (ended_by (state_of storage.old)
+        ending.now) (row_of seen))))) }
     ensures needless { length (map unshared (rows_with (state_of storage.old).subpools
         (ended_by (state_of storage.old) ending.now) (row_of seen))) ≤ storage.old.elements.spare
         → IsOk result }
@@ -367,6 +390,8 @@ fn push_sharers(storage: &mut Parts, builder: &mut Builder, subpool: Subpool) ->
     ensures builds { Builds storage.old builder.old storage.new builder.new }
     ensures ok { OnOk result (Pushes storage.old builder.old
         (map unshared (sharer_rows (state_of storage.old).subpools subpool)) storage.new builder.new) }
+    ensures made { OnErr result (MakesElements storage.old.elements storage.new.elements
+        (length (map unshared (sharer_rows (state_of storage.old).subpools subpool)))) }
     ensures needless { length (map unshared (sharer_rows (state_of storage.old).subpools subpool))
         ≤ storage.old.elements.spare → IsOk result }
 {
@@ -393,12 +418,14 @@ fn unseen(subpool: Subpool, task: u8) -> Record
 }
 
 // The subpools that tasks of the subtree own are gone.
-fn push_removed(storage: &mut Parts, builder: &mut Builder, ending: &Ending) -> Pushed
+fn push_removed(storage: &mut Parts, builder: &mut Builder, ending: &EndOfTasks) -> Pushed
     requires building { IsBuilding storage.old builder.old }
     requires ending { IsEnding (state_of storage.old) ending.now }
     ensures builds { Builds storage.old builder.old storage.new builder.new }
     ensures ok { OnOk result (Pushes storage.old builder.old (removed_records (state_of storage.old).subpools
         (ended_by (state_of storage.old) ending.now)) storage.new builder.new) }
+    ensures made { OnErr result (MakesElements storage.old.elements storage.new.elements
+        (length (removed_records (state_of storage.old).subpools (ended_by (state_of storage.old) ending.now)))) }
     ensures needless { length (removed_records (state_of storage.old).subpools
         (ended_by (state_of storage.old) ending.now)) ≤ storage.old.elements.spare → IsOk result }
 {
@@ -411,11 +438,13 @@ fn push_removed(storage: &mut Parts, builder: &mut Builder, ending: &Ending) -> 
 }
 
 // So is one, where the task owns what it sees.
-fn push_gone(storage: &mut Parts, builder: &mut Builder, seen: Seen) -> Pushed
+fn push_gone(storage: &mut Parts, builder: &mut Builder, seen: SeenSubpool) -> Pushed
     requires building { IsBuilding storage.old builder.old }
     ensures builds { Builds storage.old builder.old storage.new builder.new }
     ensures ok { OnOk result (Pushes storage.old builder.old (map removed (owned_in (row_of seen ∷ [])))
         storage.new builder.new) }
+    ensures made { OnErr result (MakesElements storage.old.elements storage.new.elements
+        (length (map removed (owned_in (row_of seen ∷ []))))) }
     ensures needless { length (map removed (owned_in (row_of seen ∷ []))) ≤ storage.old.elements.spare
         → IsOk result }
 {

@@ -1,9 +1,10 @@
 //! The tasks of a subtree that ends, and their records.
 
-ghost use Rattle.std.specs.Prelude.{◌≡◌, ℕ, ◌<◌, ◌≤◌, false, [], ◌∷◌, filter, length, IsOk, OnOk};
+ghost use Rattle.std.specs.Prelude.{◌≡◌, ℕ, ◌<◌, ◌≤◌, false, [], ◌∷◌, filter, length, IsOk, OnOk, OnErr};
 ghost use Rattle.vsm_model.specs.Search.{is_in};
 ghost use Rattle.storage_exchange.specs.Storage.{state_of, Stand};
 ghost use Rattle.storage_swap.specs.Builder.{IsBuilding, Builds, Pushes};
+ghost use Rattle.storage_swap.specs.Growth.{MakesElements};
 ghost use Rattle.storage_changes.specs.Ending.{cleared_quarter, is_below_by, ended_below, ended_level, ended_records};
 ghost use Rattle.std.specs.List.{flat_map};
 ghost use Rattle.task_plans.specs.Parents.{AreParents};
@@ -38,7 +39,7 @@ pub(crate) struct Tree {
 /// What ends: a tree of tasks, the tasks of it in ascending order, and what is one more than the highest number at
 /// which any task sees a subpool.
 #[derive(Drop)]
-pub(crate) struct Ending {
+pub(crate) struct EndOfTasks {
     pub(crate) tree: Tree,
     pub(crate) tasks: ArrayVec<u8, 64>,
     pub(crate) numbers_end: u8,
@@ -163,6 +164,7 @@ fn push_quarter(storage: &mut Parts, builder: &mut Builder, task: u8, quarter: u
     ensures builds { Builds storage.old builder.old storage.new builder.new }
     ensures ok { OnOk result (Pushes storage.old builder.old
         (cleared_quarter task quarter ∷ []) storage.new builder.new) }
+    ensures made { OnErr result (MakesElements storage.old.elements storage.new.elements 1) }
     ensures needless { 0 < storage.old.elements.spare → IsOk result }
 {
     let cleared = Record::Registers(RegistersRecord {
@@ -179,6 +181,8 @@ fn push_ended_task(storage: &mut Parts, builder: &mut Builder, task: u8) -> Push
     ensures builds { Builds storage.old builder.old storage.new builder.new }
     ensures ok { OnOk result (Pushes storage.old builder.old
         (ended_records (state_of storage.old) task) storage.new builder.new) }
+    ensures made { OnErr result (MakesElements storage.old.elements storage.new.elements
+        (length (ended_records (state_of storage.old) task))) }
     ensures needless { length (ended_records (state_of storage.old) task) ≤ storage.old.elements.spare → IsOk result }
 {
     let parent = storage
@@ -210,6 +214,9 @@ fn push_ended_at(
     ensures ok { OnOk result (Pushes storage.old builder.old (flat_map (ended_records (state_of storage.old))
         (filter (is_below_by (state_of storage.old).tasks.parents tree.now.top steps) (task ∷ [])))
         storage.new builder.new) }
+    ensures made { OnErr result (MakesElements storage.old.elements storage.new.elements
+        (length (flat_map (ended_records (state_of storage.old)) (filter (is_below_by (state_of
+        storage.old).tasks.parents tree.now.top steps) (task ∷ []))))) }
     ensures needless { length (flat_map (ended_records (state_of storage.old))
         (filter (is_below_by (state_of storage.old).tasks.parents tree.now.top steps) (task ∷ [])))
         ≤ storage.old.elements.spare → IsOk result }
@@ -227,6 +234,9 @@ fn push_ended_level(storage: &mut Parts, builder: &mut Builder, tree: &Tree, ste
     ensures builds { Builds storage.old builder.old storage.new builder.new }
     ensures ok { OnOk result (Pushes storage.old builder.old (flat_map (ended_records (state_of storage.old))
         (ended_level (state_of storage.old).tasks.parents tree.now.top steps)) storage.new builder.new) }
+    ensures made { OnErr result (MakesElements storage.old.elements storage.new.elements
+        (length (flat_map (ended_records (state_of storage.old)) (ended_level (state_of storage.old).tasks.parents
+        tree.now.top steps)))) }
     ensures needless { length (flat_map (ended_records (state_of storage.old))
         (ended_level (state_of storage.old).tasks.parents tree.now.top steps)) ≤ storage.old.elements.spare
         → IsOk result }
@@ -244,6 +254,9 @@ pub(crate) fn push_ended(storage: &mut Parts, builder: &mut Builder, tree: &Tree
     ensures builds { Builds storage.old builder.old storage.new builder.new }
     ensures ok { OnOk result (Pushes storage.old builder.old (flat_map (ended_records (state_of storage.old))
         (ended_below (state_of storage.old).tasks.parents tree.now.top)) storage.new builder.new) }
+    ensures made { OnErr result (MakesElements storage.old.elements storage.new.elements
+        (length (flat_map (ended_records (state_of storage.old)) (ended_below (state_of storage.old).tasks.parents
+        tree.now.top)))) }
     ensures needless { length (flat_map (ended_records (state_of storage.old))
         (ended_below (state_of storage.old).tasks.parents tree.now.top)) ≤ storage.old.elements.spare → IsOk result }
 {

@@ -1,9 +1,10 @@
 //! The records of subpools that a new task is given, and of those that it shares.
 
-ghost use Rattle.std.specs.Prelude.{◌≡◌, ◌≤◌, ◌++◌, length, All, IsOk, OnOk};
+ghost use Rattle.std.specs.Prelude.{◌≡◌, ◌≤◌, ◌++◌, length, All, IsOk, OnOk, OnErr};
 ghost use Rattle.std.specs.List.{flat_map};
 ghost use Rattle.storage_exchange.specs.Storage.{state_of};
 ghost use Rattle.storage_swap.specs.Builder.{IsBuilding, Builds, Pushes};
+ghost use Rattle.storage_swap.specs.Growth.{MakesElements};
 ghost use Rattle.storage_changes.specs.Attaching.{made, shared, gift_records, share_records, zero_records};
 
 use crate::numbers::Numbers;
@@ -39,6 +40,8 @@ fn push_gift(storage: &mut Parts, builder: &mut Builder, task: u8, number: u8) -
     ensures builds { Builds storage.old builder.old storage.new builder.new }
     ensures ok { OnOk result (Pushes storage.old builder.old
         (gift_records (state_of storage.old) task number) storage.new builder.new) }
+    ensures made { OnErr result (MakesElements storage.old.elements storage.new.elements
+        (length (gift_records (state_of storage.old) task number))) }
     ensures needless { length (gift_records (state_of storage.old) task number) ≤ storage.old.elements.spare
         → IsOk result }
 {
@@ -64,6 +67,8 @@ fn push_share(storage: &mut Parts, builder: &mut Builder, task: u8, number: u8) 
     ensures builds { Builds storage.old builder.old storage.new builder.new }
     ensures ok { OnOk result (Pushes storage.old builder.old
         (share_records (state_of storage.old) task number) storage.new builder.new) }
+    ensures made { OnErr result (MakesElements storage.old.elements storage.new.elements
+        (length (share_records (state_of storage.old) task number))) }
     ensures needless { length (share_records (state_of storage.old) task number) ≤ storage.old.elements.spare
         → IsOk result }
 {
@@ -86,6 +91,8 @@ pub fn push_zero(storage: &mut Parts, builder: &mut Builder, task: u8, shares_ze
     ensures builds { Builds storage.old builder.old storage.new builder.new }
     ensures ok { OnOk result (Pushes storage.old builder.old
         (zero_records (state_of storage.old) task shares_zero) storage.new builder.new) }
+    ensures made { OnErr result (MakesElements storage.old.elements storage.new.elements
+        (length (zero_records (state_of storage.old) task shares_zero))) }
     ensures needless { length (zero_records (state_of storage.old) task shares_zero) ≤ storage.old.elements.spare
         → IsOk result }
 {
@@ -103,6 +110,8 @@ pub fn push_gifts(storage: &mut Parts, builder: &mut Builder, task: u8, given: &
     ensures builds { Builds storage.old builder.old storage.new builder.new }
     ensures ok { OnOk result (Pushes storage.old builder.old
         (flat_map (gift_records (state_of storage.old) task) given.now.items) storage.new builder.new) }
+    ensures made { OnErr result (MakesElements storage.old.elements storage.new.elements
+        (length (flat_map (gift_records (state_of storage.old) task) given.now.items))) }
     ensures needless { length (flat_map (gift_records (state_of storage.old) task) given.now.items)
         ≤ storage.old.elements.spare → IsOk result }
 {
@@ -119,6 +128,8 @@ pub fn push_shares(storage: &mut Parts, builder: &mut Builder, task: u8, shared:
     ensures builds { Builds storage.old builder.old storage.new builder.new }
     ensures ok { OnOk result (Pushes storage.old builder.old
         (flat_map (share_records (state_of storage.old) task) shared.now.items) storage.new builder.new) }
+    ensures made { OnErr result (MakesElements storage.old.elements storage.new.elements
+        (length (flat_map (share_records (state_of storage.old) task) shared.now.items))) }
     ensures needless { length (flat_map (share_records (state_of storage.old) task) shared.now.items)
         ≤ storage.old.elements.spare → IsOk result }
 {

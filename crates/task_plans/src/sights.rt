@@ -6,14 +6,14 @@ ghost use Rattle.storage_changes.specs.Ending.{ended_below, is_own, seen_by_thes
 ghost use Rattle.storage_changes.specs.State.{StorageState};
 ghost use Rattle.task_plans.specs.Sights.{row_of, rows_behind, rows_from, seen_left, IsEnding};
 
-use crate::ended::Ending;
+use crate::ended::EndOfTasks;
 use storage_exchange::Parts;
 use subpool_storage::laws::subpools_are_there;
 use vsm_model::Subpool;
 
 /// A row of sight: a subpool, and a task that sees it.
 #[derive(Clone, Copy)]
-pub(crate) struct Seen {
+pub(crate) struct SeenSubpool {
     pub(crate) subpool: Subpool,
     pub(crate) task: u8,
 }
@@ -25,7 +25,7 @@ pub(crate) struct SightPlace {
     asked: usize,
 }
 
-impl Seen {
+impl SeenSubpool {
     /// Whether the task owns what it sees.
     pub(crate) fn is_own(self) -> bool
         ensures { result ≡ is_own (row_of self) }
@@ -46,7 +46,7 @@ pub(crate) fn first_seen() -> SightPlace
 }
 
 /// The place behind all that they see at the number.
-pub(crate) fn behind_number(ending: &Ending, number: u8) -> SightPlace
+pub(crate) fn behind_number(ending: &EndOfTasks, number: u8) -> SightPlace
     ensures { (m : StorageState) → IsEnding m ending.now
         → seen_left m ending.now.tree.top result ≡ rows_behind m ending.now.tree.top number }
 {
@@ -58,7 +58,11 @@ pub(crate) fn behind_number(ending: &Ending, number: u8) -> SightPlace
 
 // The next of the tasks that end which sees a subpool at the number, where so many were asked; `None` where no other
 // does.
-fn seen_at(storage: &Parts, ending: &Ending, place: SightPlace) -> Option<(Seen, SightPlace)>
+fn seen_at(
+    storage: &Parts,
+    ending: &EndOfTasks,
+    place: SightPlace,
+) -> Option<(SeenSubpool, SightPlace)>
     requires stands { Stand storage.now }
     requires ending { IsEnding (state_of storage.now) ending.now }
     ensures none { IfNone result (rows_from (state_of storage.now) ending.now.tree.top place ≡ []) }
@@ -72,7 +76,7 @@ fn seen_at(storage: &Parts, ending: &Ending, place: SightPlace) -> Option<(Seen,
     for asked in place.asked..ending.tasks.len() {
         let task = ending.tasks[asked];
         if let Some(owner) = storage.subpools.owner_seen(&storage.elements, task, number) {
-            let seen = Seen {
+            let seen = SeenSubpool {
                 subpool: Subpool { number, owner },
                 task,
             };
@@ -90,9 +94,9 @@ fn seen_at(storage: &Parts, ending: &Ending, place: SightPlace) -> Option<(Seen,
 /// it; `None` where they see no more.
 pub(crate) fn next_seen(
     storage: &Parts,
-    ending: &Ending,
+    ending: &EndOfTasks,
     place: SightPlace,
-) -> Option<(Seen, SightPlace)>
+) -> Option<(SeenSubpool, SightPlace)>
     requires stands { Stand storage.now }
     requires ending { IsEnding (state_of storage.now) ending.now }
     ensures none { IfNone result (seen_left (state_of storage.now) ending.now.tree.top place ≡ []) }

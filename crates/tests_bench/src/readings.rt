@@ -29,7 +29,7 @@ fn a_bench_is_read(rt: HostRuntime) -> Result<(), Fail> {
     };
     assert!(rt; bench.apply(&obtain) == Ok(obtained));
     // Register 1 of task 1 has the address; its page is subpool 5's, which task 1 owns; its bytes are zeros.
-    let address = bench.register(bench.current(), 1);
+    let address = bench.register(bench.storage().current(), 1);
     assert_eq!(rt; address, 0x6000);
     let Some(subpool) = bench.storage().subpool_of_page(address / 4096) else {
         return Err(Fail::from(std::alloc::AllocError));
@@ -38,7 +38,5 @@ fn a_bench_is_read(rt: HostRuntime) -> Result<(), Fail> {
     let mut bytes = [1; 4];
     assert!(rt; bench.storage().load(address, &mut bytes).is_ok());
     assert_eq!(rt; bytes, [0; 4]);
-    // No name was defined.
-    assert!(rt; bench.name_at(0).is_none());
     Ok(())
 }

@@ -40,6 +40,6 @@ pub(crate) fn outcome_of<F: ScriptFiles + AllocGlobal, R: Read, W: Write>(
 ) -> Result<Outcome, AllocError> {
     let words = with_name(rt.alloc(), words)?;
     let mut errors = Vec::new(rt.alloc());
-    let status = command(rt, words.as_slice(), script, output, &mut errors);
+    let status = command(rt, words.as_slice(), script, output, &mut errors, false);
     Ok(Outcome { errors, status })
 }

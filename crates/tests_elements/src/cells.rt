@@ -4,7 +4,7 @@ ghost use Rattle.std.specs.Prelude.{◌≡◌, IsSome};
 ghost use Rattle.cell_pool.specs.CellPools.{by_id, IsCellPools};
 
 use crate::checks::{all_given_back, holds, named, same, stocked};
-use cell_pool::{CellId, CellPools, CellSettings, Header, Name};
+use cell_pool::{CellId, CellPoolHeader, CellPoolName, CellPools, CellSettings};
 use std::process::Abort;
 use std::test::Fail;
 use vsm_elements::Elements;
@@ -33,7 +33,7 @@ fn build(rt: &impl Abort, elements: &mut Elements, pools: &mut CellPools, text: 
         secondary: 1,
         location: Residence::Below,
     };
-    let mut header = Header::new();
+    let mut header = CellPoolHeader::new();
     header.push(b'H');
     let id = pools.build(elements, &name, settings, Some(header));
     pools.extend(elements, id, start, 2);
@@ -51,8 +51,8 @@ fn name_after(
     rt: &impl Abort,
     elements: &Elements,
     pools: &CellPools,
-    behind: Option<&Name>,
-) -> Name
+    behind: Option<&CellPoolName>,
+) -> CellPoolName
     requires { IsCellPools elements.now pools.now }
 {
     let id = pools

@@ -3,7 +3,7 @@
 
 ghost use Rattle.std.specs.Prelude.{◌≡◌, ◌≤◌, true, IfOk};
 
-use cell_pool::Name;
+use cell_pool::CellPoolName;
 use std::alloc::{AllocError, Global};
 use std::fmt::Debug;
 use std::process::Abort;
@@ -54,8 +54,8 @@ pub(crate) fn all_given_back(rt: &impl Abort, elements: Elements) {
 }
 
 /// A name of this text.
-pub(crate) fn named(rt: &impl Abort, text: &str) -> Name {
-    let mut name = Name::new();
+pub(crate) fn named(rt: &impl Abort, text: &str) -> CellPoolName {
+    let mut name = CellPoolName::new();
     holds!(rt; name.try_push_str(text).is_ok());
     name
 }

@@ -1,7 +1,7 @@
 //! Steps that several tests of subpools take.
 
-ghost use Rattle.std.specs.Prelude.{ℕ, ◌+◌, ◌≤◌};
-ghost use Rattle.subpool_storage.specs.Subpools.{CanExchange};
+ghost use Rattle.std.specs.Prelude.{◌≡◌, ℕ, ◌+◌, ◌≤◌};
+ghost use Rattle.subpool_storage.specs.Subpools.{is_there, CanExchange};
 ghost use Rattle.subpool_storage.specs.SubpoolStorage.{subpools_of, hold, Stands};
 
 use crate::checks::holds;
@@ -9,6 +9,17 @@ use std::process::Abort;
 use subpool_storage::SubpoolStorage;
 use vsm_elements::Elements;
 use vsm_model::Subpool;
+
+/// Whether the subpool is there: its owner sees it.
+pub(crate) fn is_made(elements: &Elements, storage: &SubpoolStorage, subpool: Subpool) -> bool
+    requires { Stands elements.now storage.now }
+    ensures { result ≡ is_there (subpools_of elements.now storage.now) subpool }
+{
+    match storage.owner_seen(elements, subpool.owner, subpool.number) {
+        Some(owner) => owner == subpool.owner,
+        None => false,
+    }
+}
 
 /// The subpool is made.
 pub(crate) fn create(
@@ -43,7 +54,7 @@ pub(crate) fn pass(
     requires { Stands elements.old storage.old }
     ensures { Stands elements.new storage.new }
 {
-    holds!(rt; storage.has_subpool(elements, subpool));
+    holds!(rt; is_made(elements, storage, subpool));
     holds!(rt; to >= 1);
     holds!(rt; to <= 64);
     holds!(rt; storage.owner_seen(elements, to, subpool.number).is_none());
@@ -67,7 +78,7 @@ pub(crate) fn exchange(
     ensures apart { (i : ℕ) → hold elements.new other.new i + hold elements.new one.new i ≤ 1 }
     ensures names { CanExchange (subpools_of elements.new other.new) (subpools_of elements.new one.new) subpool }
 {
-    holds!(rt; one.has_subpool(elements, subpool));
-    holds!(rt; other.has_subpool(elements, subpool));
+    holds!(rt; is_made(elements, one, subpool));
+    holds!(rt; is_made(elements, other, subpool));
     one.exchange_storage(elements, other, subpool);
 }

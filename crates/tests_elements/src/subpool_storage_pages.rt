@@ -5,7 +5,7 @@ ghost use Rattle.subpool_storage.specs.Subpools.{CanExchange};
 ghost use Rattle.subpool_storage.specs.SubpoolStorage.{subpools_of, hold, Stands};
 
 use crate::checks::{all_given_back, holds, same, stocked};
-use crate::subpool_steps::{create, exchange};
+use crate::subpool_steps::{create, exchange, is_made};
 use descriptor_queue::{Extents, Run};
 use free_queue::{Area, Cover, FreeQueue};
 use std::process::Abort;
@@ -37,7 +37,7 @@ fn fill(
 {
     holds!(rt; page < 1_048_576);
     holds!(rt; elements.spare() > 0);
-    holds!(rt; storage.has_subpool(elements, subpool));
+    holds!(rt; is_made(elements, storage, subpool));
     holds!(rt; !storage.has_page(elements, subpool, page));
     storage.insert_run(
         elements,
@@ -75,7 +75,7 @@ fn free(
     holds!(rt; area.len <= 512);
     holds!(rt; area.start <= 536_870_400);
     holds!(rt; elements.spare() > 0);
-    holds!(rt; storage.has_subpool(elements, subpool));
+    holds!(rt; is_made(elements, storage, subpool));
     holds!(rt; storage.covers(elements, subpool, area) == Cover::None);
     storage.free_area(elements, subpool, area);
 }
@@ -94,7 +94,7 @@ fn carve(
     holds!(rt; area.len <= 512);
     holds!(rt; area.start <= 536_870_400);
     holds!(rt; elements.spare() > 0);
-    holds!(rt; storage.has_subpool(elements, subpool));
+    holds!(rt; is_made(elements, storage, subpool));
     holds!(rt; storage.covers(elements, subpool, area) == Cover::All);
     storage.carve_area(elements, subpool, area);
 }
@@ -121,7 +121,7 @@ fn empty(
             len: 512,
         },
     );
-    holds!(rt; storage.has_subpool(elements, subpool));
+    holds!(rt; is_made(elements, storage, subpool));
     holds!(rt; storage.has_page(elements, subpool, page));
     holds!(rt; elements.spare() > 0);
     storage.remove_run(
@@ -184,8 +184,8 @@ fn only_area(elements: &Elements, storage: &SubpoolStorage, subpool: Subpool) ->
     requires { Stands elements.now storage.now }
 {
     let areas = storage.free_areas(elements, subpool);
-    let (area, _) = areas.next_area(elements, FreeQueue::first_place())?;
-    (areas.count() == 1).then_some(area)
+    let (area, behind) = areas.next_area(elements, FreeQueue::first_place())?;
+    areas.next_area(elements, behind).is_none().then_some(area)
 }
 
 // The two subpools come in order, on a walk as by position, and nobody shares the first.
@@ -269,7 +269,7 @@ fn live(rt: &impl Abort, elements: &mut Elements, subpool: Subpool, page: u32) {
         start: page,
         len: 1,
     };
-    holds!(rt; storage.has_subpool(elements, subpool));
+    holds!(rt; is_made(elements, &storage, subpool));
     holds!(rt; elements.spare() > 0);
     holds!(rt; !storage.has_page(elements, subpool, page));
     storage.insert_run(elements, subpool, run);
@@ -277,21 +277,21 @@ fn live(rt: &impl Abort, elements: &mut Elements, subpool: Subpool, page: u32) {
         start: 512 * page,
         len: 512,
     };
-    holds!(rt; storage.has_subpool(elements, subpool));
+    holds!(rt; is_made(elements, &storage, subpool));
     holds!(rt; elements.spare() > 0);
     holds!(rt; storage.covers(elements, subpool, area) == Cover::None);
     storage.free_area(elements, subpool, area);
-    holds!(rt; storage.has_subpool(elements, subpool));
+    holds!(rt; is_made(elements, &storage, subpool));
     holds!(rt; elements.spare() > 0);
     holds!(rt; storage.covers(elements, subpool, area) == Cover::All);
     storage.carve_area(elements, subpool, area);
-    holds!(rt; storage.has_subpool(elements, subpool));
+    holds!(rt; is_made(elements, &storage, subpool));
     holds!(rt; elements.spare() > 0);
     holds!(rt; storage.has_page(elements, subpool, page));
     storage.remove_run(elements, subpool, run);
-    holds!(rt; storage.has_subpool(elements, subpool));
+    holds!(rt; is_made(elements, &storage, subpool));
     storage.remove(elements, subpool);
-    holds!(rt; !storage.has_subpool(elements, subpool));
+    holds!(rt; !is_made(elements, &storage, subpool));
 }
 
 #[test]

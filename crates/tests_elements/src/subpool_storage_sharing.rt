@@ -3,7 +3,7 @@
 ghost use Rattle.subpool_storage.specs.SubpoolStorage.{Stands};
 
 use crate::checks::{all_given_back, holds, same, stocked};
-use crate::subpool_steps::pass;
+use crate::subpool_steps::{is_made, pass};
 use descriptor_queue::Run;
 use free_queue::Area;
 use std::process::Abort;
@@ -38,11 +38,11 @@ fn made(rt: &impl Abort, elements: &mut Elements) -> SubpoolStorage
     let mut storage = SubpoolStorage::new();
     holds!(rt; elements.spare() > 0);
     storage.create(elements, GIVERS);
-    holds!(rt; storage.has_subpool(elements, GIVERS));
+    holds!(rt; is_made(elements, &storage, GIVERS));
     holds!(rt; elements.spare() > 0);
     holds!(rt; !storage.has_page(elements, GIVERS, PAGE.start));
     storage.insert_run(elements, GIVERS, PAGE);
-    holds!(rt; storage.has_subpool(elements, GIVERS));
+    holds!(rt; is_made(elements, &storage, GIVERS));
     holds!(rt; elements.spare() > 0);
     holds!(rt; storage.covers(elements, GIVERS, AREA) == free_queue::Cover::None);
     storage.free_area(elements, GIVERS, AREA);
@@ -53,7 +53,7 @@ fn share(rt: &impl Abort, elements: &mut Elements, storage: &mut SubpoolStorage,
     requires { Stands elements.old storage.old }
     ensures { Stands elements.new storage.new }
 {
-    holds!(rt; storage.has_subpool(elements, subpool));
+    holds!(rt; is_made(elements, storage, subpool));
     holds!(rt; elements.spare() > 0);
     holds!(rt; storage.owner_seen(elements, SHARER, subpool.number).is_none());
     storage.share(elements, subpool, SHARER);

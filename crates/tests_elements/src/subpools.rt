@@ -49,11 +49,11 @@ fn list_subpools(rt: &impl Abort, elements: &Elements, set: &SubpoolSet, want: &
     let mut place = SubpoolSet::first_place();
     let mut i = 0u32;
     for subpool in want {
-        match set.next_pool(elements, place) {
+        match set.next_subpool(elements, place) {
             Some((id, behind)) => {
                 let named = (set.number(elements, id), set.owner(elements, id));
                 same!(rt; named, *subpool);
-                same!(rt; behind.pool(), id);
+                same!(rt; behind.subpool(), id);
                 same!(rt; set.pool_at(elements, i), Some(id));
                 place = behind;
             }
@@ -61,7 +61,7 @@ fn list_subpools(rt: &impl Abort, elements: &Elements, set: &SubpoolSet, want: &
         }
         i = i.saturating_add(1);
     }
-    same!(rt; set.next_pool(elements, place), None);
+    same!(rt; set.next_subpool(elements, place), None);
     same!(rt; set.pool_at(elements, i), None);
     same!(rt; set.pool_at(elements, i.saturating_add(1)), None);
 }

@@ -176,16 +176,16 @@ fn compare_areas(rt: &impl Abort, elements: &Elements, queue: &FreeQueue, free: 
 {
     let mut place = FreeQueue::first_place();
     let mut from = 0;
-    for _ in 0..queue.count() {
+    for _ in 0..=SIZE {
         let Some((area, behind)) = queue.next_area(elements, place) else {
-            return assert!(rt; false);
+            same!(rt; area_from(free, from), None);
+            return;
         };
         same!(rt; Some(area), area_from(free, from));
         from = area.start.saturating_add(area.len);
         place = behind;
     }
-    same!(rt; queue.next_area(elements, place), None);
-    same!(rt; area_from(free, from), None);
+    assert!(rt; false);
 }
 
 fn compare(rt: &impl Abort, elements: &Elements, queue: &FreeQueue, free: &[bool])

@@ -142,8 +142,6 @@ fn the_least_run_is_the_lowest(rt: HostRuntime) -> Result<(), Fail> {
     same!(rt; assign(&rt, &mut elements, &mut pages, 12), None);
     same!(rt; assign(&rt, &mut elements, &mut pages, 11), Some(11));
     same!(rt; pages.longest_run(&elements, LOW), 0);
-    let pages = Pages::from_head(pages.head());
-    pages.discard(&mut elements);
     same!(rt; elements.release(), 1);
     Ok(())
 }

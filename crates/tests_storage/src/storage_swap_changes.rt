@@ -3,10 +3,12 @@
 
 use crate::checks::{holds, same};
 use run_set::Run;
+use std::process::Abort;
 use std::test::Fail;
 use storage_changes::{AreaRecord, ExtentRecord, PagesRecord, Record};
-use storage_swap::{Change, NewPool, fresh, release};
-use subpool_storage::{CellSettings, Header, Name};
+use storage_exchange::Parts;
+use storage_swap::{Change, ReservedCellPool, fresh};
+use subpool_storage::{CellPoolHeader, CellPoolName, CellSettings};
 use vsm_model::{Residence, Settings, Subpool};
 
 const SETTINGS: Settings = Settings {
@@ -47,6 +49,19 @@ const OBTAIN: [Record; 3] = [
     }),
 ];
 
+// The storage was made of one block of elements and so many frames.
+fn given_back(rt: &impl Abort, storage: Parts, frames: u32) {
+    let Parts {
+        elements,
+        region,
+        unassigned: _,
+        subpools: _,
+        tasks: _,
+    } = storage;
+    same!(rt; elements.release(), 1);
+    same!(rt; region.release(), frames);
+}
+
 #[test]
 fn obtained_pages_come_and_go(rt: HostRuntime) -> Result<(), Fail> {
     let mut storage = fresh(rt.alloc(), SETTINGS)?;
@@ -65,20 +80,18 @@ fn obtained_pages_come_and_go(rt: HostRuntime) -> Result<(), Fail> {
     change.discard(&mut storage);
     same!(rt; storage.elements.spare(), 121);
     same!(rt; storage.region.spare_frames(), 3);
-    let released = release(storage);
-    same!(rt; released.blocks, 1);
-    same!(rt; released.frames, 3);
+    given_back(&rt, storage, 3);
     Ok(())
 }
 
 #[test]
 fn a_cell_pool_comes_and_goes(rt: HostRuntime) -> Result<(), Fail> {
     let mut storage = fresh(rt.alloc(), SETTINGS)?;
-    let name = Name::new();
-    let mut header = Header::new();
+    let name = CellPoolName::new();
+    let mut header = CellPoolHeader::new();
     header.push(b'H');
     let header = Some(header);
-    let pool = NewPool {
+    let pool = ReservedCellPool {
         name: &name,
         settings: CellSettings {
             subpool: FIRST,
@@ -107,7 +120,6 @@ fn a_cell_pool_comes_and_goes(rt: HostRuntime) -> Result<(), Fail> {
     holds!(rt; pools.find(&storage.elements, &name).is_none());
     change.discard(&mut storage);
     same!(rt; storage.elements.spare(), 121);
-    let released = release(storage);
-    same!(rt; released.blocks, 1);
+    given_back(&rt, storage, 0);
     Ok(())
 }

@@ -10,8 +10,8 @@ use Rattle.text_output.specs.Writing.{AppendsFront}
 use Rattle.bench_core.specs.NewFault.TheVariants as new_fault
 use Rattle.script_steps.specs.Run.{Ran}
 use Rattle.vsm_bench.specs.Settings.{Residences, AreResidences, default_settings, settings_asked}
-use Rattle.vsm_bench.specs.Help.{help_end}
-use Rattle.vsm_bench.specs.Messages.{Says, fault_text}
+use Rattle.vsm_bench.specs.Help.{help_end, version_text}
+use Rattle.vsm_bench.specs.Messages.{SaysFirst, fault_text}
 use Rattle.vsm_bench.specs.Options.{command_line, file_asked}
 use Rattle.script_steps.specs.declared.faults.RunFault.{RunFault}
 use Rattle.script_steps.specs.declared.faults.RunFault.TheVariants as fault
@@ -41,12 +41,18 @@ Helped at_first now (Err fault.Write) = (options : List ℕ) × AppendsFront at_
 Helped at_first now (Err (fault.New new_fault.NoMemory)) = Appends at_first now []
 Helped at_first now (Err _) = ⊥
 
--- `said` is what is said to standard error, which is `errors` at first and `told` then.
-module _ {E : Type 0} (said : E → E → List ℕ → Bool → Type 0) (errors told : E) where
-  -- a fault has its text, and nothing is said where there is none
+-- The version went out; or a front of it.
+abbrev pub Versioned : Option (List ℕ) → Option (List ℕ) → Result (Unit {0}) RunFault → Type 0
+Versioned at_first now (Ok u) = Appends at_first now version_text
+Versioned at_first now (Err fault.Write) = AppendsFront at_first now version_text
+Versioned at_first now (Err _) = ⊥
+
+-- `said` is what is said to standard error, which is `errors` at first and `told` then; it may be a terminal.
+module _ {E : Type 0} (said : E → E → List ℕ → Bool → Type 0) (errors told : E) (at_terminal : Bool) where
+  -- a fault has its text, and nothing is said if there is none
   abbrev pub Reports : {T : Type 0} → Result T RunFault → Type 0
   Reports (Ok x) = told ≡ errors
-  Reports (Err e) = Says said errors told (fault_text e)
+  Reports (Err e) = SaysFirst said errors told at_terminal (fault_text e)
 
   -- A run with these settings, its status, and what is said of its fault.
   abbrev pub CommandedWith : Settings → Option (List ℕ) → Option (List ℕ) → Option (List ℕ) → Option (List ℕ) → ℕ
@@ -66,11 +72,12 @@ module _ {E : Type 0} (said : E → E → List ℕ → Bool → Type 0) (errors 
   RunsOpened {F} unread contents settings output later code (Some script) =
       (rest : F) × CommandedWith settings (unread script) (unread rest) (contents output) (contents later) code
   RunsOpened unread contents settings output later code None =
-      (later ≡ output) × (code ≡ 8) × Says said errors told (fault_text fault.Read)
+      (later ≡ output) × (code ≡ 8) × SaysFirst said errors told at_terminal (fault_text fault.Read)
 
   -- Nothing is written, and a new bench isn't begun for this fault.
   abbrev pub Refuses : {O : Type 0} → O → O → ℕ → RunFault → Type 0
-  Refuses output later code e = (later ≡ output) × (code ≡ fault_status e) × Says said errors told (fault_text e)
+  Refuses output later code e =
+      (later ≡ output) × (code ≡ fault_status e) × SaysFirst said errors told at_terminal (fault_text e)
 
   -- Help, with its status and what is said of its fault.
   abbrev pub Helps : Option (List ℕ) → Option (List ℕ) → ℕ → Type 0
@@ -78,10 +85,17 @@ module _ {E : Type 0} (said : E → E → List ℕ → Bool → Type 0) (errors 
       (outcome : Result (Unit {0}) RunFault) × Helped at_first now outcome × (code ≡ help_status outcome)
       × Reports outcome
 
-  -- An answer to words that ask for no run: help; or want of memory, which is said; or status 16, and nothing is
-  -- written.
+  -- The version, with its status and what is said of its fault.
+  abbrev pub Versions : Option (List ℕ) → Option (List ℕ) → ℕ → Type 0
+  Versions at_first now code =
+      (outcome : Result (Unit {0}) RunFault) × Versioned at_first now outcome × (code ≡ help_status outcome)
+      × Reports outcome
+
+  -- An answer to words that ask for no run: help, or the version; or want of memory, which is said; or status 16, and
+  -- nothing is written.
   abbrev pub Answers : {O : Type 0} → (O → Option (List ℕ)) → ErrorKind → O → O → ℕ → Type 0
   Answers contents kind.DisplayHelp output later code = Helps (contents output) (contents later) code
+  Answers contents kind.DisplayVersion output later code = Versions (contents output) (contents later) code
   Answers contents kind.OutOfMemory output later code = Refuses output later code (fault.New new_fault.NoMemory)
   Answers contents _ output later code = (later ≡ output) × (code ≡ 16)
 
@@ -89,17 +103,19 @@ module _ {E : Type 0} (said : E → E → List ℕ → Bool → Type 0) (errors 
 -- what an open script has left to be read.
 module _ {F I O E : Type 0} (opened : Text → Option F → Type 0) (unread : F → Option (List ℕ))
     (remaining : I → Option (List ℕ)) (contents : O → Option (List ℕ)) (said : E → E → List ℕ → Bool → Type 0)
-    (input left : I) (output later : O) (errors told : E) (code : ℕ) where
+    (input left : I) (output later : O) (errors told : E) (at_terminal : Bool) (code : ℕ) where
   -- the input is read where the words name no file, and else left as it was
   abbrev pub Runs : Settings → Option Text → Type 0
-  Runs settings None = CommandedWith said errors told settings (remaining input) (remaining left) (contents output)
+  Runs settings None =
+      CommandedWith said errors told at_terminal settings (remaining input) (remaining left) (contents output)
       (contents later) code
   Runs settings (Some path) = (left ≡ input) × ((script : Option F) × opened path script
-      × RunsOpened said errors told unread contents settings output later code script)
+      × RunsOpened said errors told at_terminal unread contents settings output later code script)
 
   -- a number above 32 bits is refused before the file is opened
   abbrev pub Obeys : Option Settings → Option Text → Type 0
-  Obeys None file = (left ≡ input) × Refuses said errors told output later code (fault.New new_fault.Setting)
+  Obeys None file =
+      (left ≡ input) × Refuses said errors told at_terminal output later code (fault.New new_fault.Setting)
   Obeys (Some settings) file = Runs settings file
 
   -- by the faults of the words, and by what they say where they have none
@@ -107,10 +123,10 @@ module _ {F I O E : Type 0} (opened : Text → Option F → Type 0) (unread : F 
   DoesBy [] rows = Obeys (settings_asked rows) (file_asked rows)
   DoesBy (k ∷ ks) rows =
       (what : ErrorKind) × IsAmong what (k ∷ ks) × (left ≡ input)
-      × Answers said errors told contents what output later code
+      × Answers said errors told at_terminal contents what output later code
 
   -- or there is no memory to read the words, which is said
   abbrev pub Does : List Text → Type 0
-  Does words = ((left ≡ input) × Refuses said errors told output later code (fault.New new_fault.NoMemory))
+  Does words = ((left ≡ input) × Refuses said errors told at_terminal output later code (fault.New new_fault.NoMemory))
       ⊎ ((values : Residences) × AreResidences values
       × DoesBy (fault_of (command_line values) words) (matches_of (command_line values) words))

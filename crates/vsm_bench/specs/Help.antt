@@ -1,4 +1,4 @@
--- What help says behind the options.
+-- What help says after the options, and the version.
 use Rattle.std.specs.Prelude.{ℕ, ◌++◌, List, codes}
 
 abbrev pub help_end : List ℕ
@@ -24,3 +24,6 @@ help_end =
     ++ codes "  0000002 RC=0\n"
     ++ codes "  0000003 KEPT=1\n"
     ++ codes "\nnilbozad 0.1.0 (rattle-kit-13f logic dac8208d650f15bf)\n"
+
+abbrev pub version_text : List ℕ
+version_text = codes "vsm 0.1.0 (rattle-kit-13f logic dac8208d650f15bf)\n"

@@ -24,3 +24,8 @@ WritesWhere false old new text = AppendsFront old new text
 module _ {E : Type 0} (said : E → E → List ℕ → Bool → Type 0) (errors told : E) where
   abbrev pub Says : List ℕ → Type 0
   Says text = (whole : Bool) × said errors told text whole
+
+-- A text was said; and nothing follows it, except at a terminal.
+module _ {E : Type 0} (said : E → E → List ℕ → Bool → Type 0) (errors told : E) (at_terminal : Bool) where
+  abbrev pub SaysFirst : List ℕ → Type 0
+  SaysFirst text = (first : E) × Says said errors first text × (at_terminal ≡ false → told ≡ first)

@@ -1,9 +1,10 @@
-//! Help: what is told of the options, and of all else behind that.
+//! Help: what it says of the options, and of all else after that; and the version.
 ghost use Rattle.std.specs.Prelude.{◌≡◌, ◌++◌};
 ghost use Rattle.text_output.specs.Writing.{Writes};
-ghost use Rattle.vsm_bench.specs.Command.{Helped};
-ghost use Rattle.vsm_bench.specs.Help.{help_end};
+ghost use Rattle.vsm_bench.specs.Command.{Helped, Versioned};
+ghost use Rattle.vsm_bench.specs.Help.{help_end, version_text};
 
+use crate::messages::write_text;
 use clap::Error;
 use script_steps::{NewFault, RunFault};
 use std::alloc::Global;
@@ -69,6 +70,23 @@ pub(crate) fn write_help<O: Write>(
         return Err(RunFault::New(NewFault::NoMemory));
     };
     match write_both(output, text.as_str()) {
+        Ok(()) => Ok(()),
+        Err(_) => Err(RunFault::Write),
+    }
+}
+
+/// The version of the program, with the kit's, in a line.
+pub(crate) fn version_line() -> &'static str
+    ensures { result.now ≡ version_text }
+{
+    "vsm 0.1.0 (rattle-kit-13f logic dac8208d650f15bf)\n"
+}
+
+/// Writes the version. `Write` if a write fails, and a front of it went out.
+pub(crate) fn write_version<O: Write>(output: &mut O) -> Result<(), RunFault>
+    ensures { Versioned (O.contents output.old) (O.contents output.new) result }
+{
+    match write_text(output, version_line()) {
         Ok(()) => Ok(()),
         Err(_) => Err(RunFault::Write),
     }

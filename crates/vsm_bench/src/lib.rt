@@ -1,6 +1,7 @@
 //! A bench of z/OS virtual storage: it carries out statements, steps back and forward, and runs scripts.
 #![tactic(auto)]
 
+mod advice;
 mod commands;
 mod help;
 pub mod laws;

@@ -5,6 +5,7 @@ ghost use Rattle.clap.specs.Words.{app_of, found_of, rows_of};
 ghost use Rattle.vsm_bench.specs.Settings.{Residences, AreResidences};
 ghost use Rattle.vsm_bench.specs.Options.{command_line, file_asked, Reads};
 
+use crate::help::version_line;
 use crate::settings::with_settings;
 use clap::{Arg, ArgMatches, Command, Error};
 use std::alloc::{AllocError, Global};
@@ -17,7 +18,9 @@ fn command_line<'a>(alloc: Global) -> Result<Command<'a>, AllocError>
     ensures { IfOk result (λ c. (values : Residences) × AreResidences values × (app_of c ≡ command_line values)) }
 {
     let file = Arg::new(alloc, "FILE").help("The script [default: standard input]");
-    let command = Command::new(alloc, "vsm").about(ABOUT);
+    let command = Command::new(alloc, "vsm")
+        .version(version_line())
+        .about(ABOUT);
     with_settings(alloc, command)?.arg(file)
 }
 

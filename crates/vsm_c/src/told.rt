@@ -11,17 +11,17 @@ use vsm_model::Settings;
 
 /// A code, and the text of the answers.
 #[derive(Drop)]
-pub(crate) struct Told {
+pub(crate) struct CallAnswer {
     pub(crate) code: CallCode,
     pub(crate) text: Vec<u8>,
 }
 
 /// No text.
-pub(crate) fn nothing_told(alloc: Global, code: CallCode) -> Told
+pub(crate) fn nothing_told(alloc: Global, code: CallCode) -> CallAnswer
     ensures code { result.code ≡ code }
     ensures text { result.text.items ≡ [] }
 {
-    Told {
+    CallAnswer {
         code,
         text: Vec::new(alloc),
     }
@@ -39,17 +39,17 @@ fn code_for(refused: u32) -> CallCode
 }
 
 /// A text that has all its answers; none where memory was wanting for a statement.
-fn checked(alloc: Global, code: CallCode, text: Vec<u8>) -> Told
+fn checked(alloc: Global, code: CallCode, text: Vec<u8>) -> CallAnswer
     ensures { IsChecked code text.items result.code result.text.items }
 {
     if lacks_memory(&text) {
         return nothing_told(alloc, CallCode::NoMemory);
     }
-    Told { code, text }
+    CallAnswer { code, text }
 }
 
 /// What a script tells that has ended.
-pub(crate) fn script_told(alloc: Global, settings: Settings, script: &[u8]) -> Told
+pub(crate) fn script_told(alloc: Global, settings: Settings, script: &[u8]) -> CallAnswer
     ensures { ScriptTold script.now settings result.code result.text.items }
 {
     let mut reader = script;
@@ -63,7 +63,7 @@ pub(crate) fn script_told(alloc: Global, settings: Settings, script: &[u8]) -> T
 }
 
 /// What the lines so far tell of a script that has not ended.
-pub(crate) fn lines_told(alloc: Global, settings: Settings, script: &[u8]) -> Told
+pub(crate) fn lines_told(alloc: Global, settings: Settings, script: &[u8]) -> CallAnswer
     ensures { LinesTold script.now settings result.code result.text.items }
 {
     let mut reader = OpenScript { rest: script };

@@ -1,23 +1,23 @@
 -- The exit status.
 use Rattle.std.specs.Prelude.{◌≡◌, ◌⊎◌, ℕ, Bool, if◌then◌else◌, Result, Ok, Err, ⊤}
 use Rattle.explain_list.specs.declared.faults.ListFault.{ListFault}
-use Rattle.vsm_explain.specs.declared.faults.Fault.{Fault}
-use Rattle.vsm_explain.specs.declared.faults.Fault.TheVariants as fault
+use Rattle.vsm_explain.specs.declared.faults.CommandFault.{CommandFault}
+use Rattle.vsm_explain.specs.declared.faults.CommandFault.TheVariants as fault
 
 -- 8 where the script can't be read or is too long, or the output can't be written; else 16
-abbrev pub fault_status : Fault → ℕ
+abbrev pub fault_status : CommandFault → ℕ
 fault_status (fault.Script name why) = 8
 fault_status fault.TooLong = 8
 fault_status fault.Write = 8
 fault_status _ = 16
 
 -- 4 where an answer tells of a refusal
-abbrev pub status : Result Bool Fault → ℕ
+abbrev pub status : Result Bool CommandFault → ℕ
 status (Ok refused) = if refused then 4 else 0
 status (Err e) = fault_status e
 
 -- A listing's outcome, as the program has it: whether a statement was refused, or that it failed.
-abbrev pub IsOutcome : Result Bool ListFault → Result Bool Fault → Type 0
+abbrev pub IsOutcome : Result Bool ListFault → Result Bool CommandFault → Type 0
 IsOutcome (Ok wrong) (Ok refused) = refused ≡ wrong
 IsOutcome (Err e) (Err f) = ⊤
 IsOutcome _ _ = ⊥

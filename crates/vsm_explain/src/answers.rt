@@ -4,11 +4,11 @@ ghost use Rattle.explain_list.specs.Listing.{Shows};
 ghost use Rattle.explain_list.specs.declared.faults.ListFault.{ListFault};
 ghost use Rattle.vsm_explain.specs.Status.{IsOutcome};
 
-use crate::faults::Fault;
+use crate::faults::CommandFault;
 use explain_list::{ListFault, Shown, list};
 use explain_questions::{About, Asking, Question, WordRefusal};
 use explain_report::{ReportFault, over_time, report};
-use explain_who::{Asked, WhoFault, log, who};
+use explain_who::{Subject, WhoFault, log, who};
 use explain_why::{MeaningFault, WhyFault, code, why};
 use script_steps::{NewFault, Watch};
 use std::alloc::Global;
@@ -16,57 +16,57 @@ use std::io::Write;
 use vsm_model::Settings;
 
 /// What is said where there is no bench.
-fn new_fault<'a>(fault: NewFault) -> Fault<'a> {
+fn new_fault<'a>(fault: NewFault) -> CommandFault<'a> {
     match fault {
-        NewFault::Setting => Fault::Words(WordRefusal::Settings),
-        NewFault::NoMemory => Fault::Memory,
+        NewFault::Setting => CommandFault::Words(WordRefusal::Settings),
+        NewFault::NoMemory => CommandFault::Memory,
     }
 }
 
 /// What is said where a script can't be listed.
-fn list_fault<'a>(fault: ListFault) -> Fault<'a> {
+fn list_fault<'a>(fault: ListFault) -> CommandFault<'a> {
     match fault {
         ListFault::New(fault) => new_fault(fault),
-        ListFault::TooLong => Fault::TooLong,
-        ListFault::Write => Fault::Write,
+        ListFault::TooLong => CommandFault::TooLong,
+        ListFault::Write => CommandFault::Write,
     }
 }
 
 /// What is said where the statement of a line can't be explained.
-fn why_fault<'a>(line: u32, fault: WhyFault) -> Fault<'a> {
+fn why_fault<'a>(line: u32, fault: WhyFault) -> CommandFault<'a> {
     match fault {
         WhyFault::New(fault) => new_fault(fault),
-        WhyFault::TooLong => Fault::TooLong,
-        WhyFault::Write => Fault::Write,
-        WhyFault::NoLine(lines) => Fault::NoLine { line, lines },
-        WhyFault::Aside => Fault::Aside(line),
-        WhyFault::Dropped => Fault::Dropped(line),
+        WhyFault::TooLong => CommandFault::TooLong,
+        WhyFault::Write => CommandFault::Write,
+        WhyFault::NoLine(lines) => CommandFault::NoLine { line, lines },
+        WhyFault::Aside => CommandFault::Aside(line),
+        WhyFault::Dropped => CommandFault::Dropped(line),
     }
 }
 
 /// What is said where there is no report behind a line.
-fn report_fault<'a>(line: Option<u32>, fault: ReportFault) -> Fault<'a> {
+fn report_fault<'a>(line: Option<u32>, fault: ReportFault) -> CommandFault<'a> {
     let line = line.unwrap_or(0);
     match fault {
         ReportFault::New(fault) => new_fault(fault),
-        ReportFault::TooLong => Fault::TooLong,
-        ReportFault::Write => Fault::Write,
-        ReportFault::NoLine(lines) => Fault::NoLine { line, lines },
-        ReportFault::Aside => Fault::Aside(line),
-        ReportFault::Dropped => Fault::Dropped(line),
+        ReportFault::TooLong => CommandFault::TooLong,
+        ReportFault::Write => CommandFault::Write,
+        ReportFault::NoLine(lines) => CommandFault::NoLine { line, lines },
+        ReportFault::Aside => CommandFault::Aside(line),
+        ReportFault::Dropped => CommandFault::Dropped(line),
     }
 }
 
 /// What is said where no lines can be named.
-fn who_fault<'a>(fault: WhoFault) -> Fault<'a> {
+fn who_fault<'a>(fault: WhoFault) -> CommandFault<'a> {
     match fault {
         WhoFault::New(fault) => new_fault(fault),
-        WhoFault::TooLong => Fault::TooLong,
-        WhoFault::Write => Fault::Write,
-        WhoFault::Memory => Fault::Memory,
-        WhoFault::Count => Fault::Words(WordRefusal::Count("")),
-        WhoFault::NoTask(task) => Fault::NoTask(task),
-        WhoFault::NoName(_) => Fault::NoName,
+        WhoFault::TooLong => CommandFault::TooLong,
+        WhoFault::Write => CommandFault::Write,
+        WhoFault::Memory => CommandFault::Memory,
+        WhoFault::Count => CommandFault::Words(WordRefusal::Count("")),
+        WhoFault::NoTask(task) => CommandFault::NoTask(task),
+        WhoFault::NoName(_) => CommandFault::NoName,
     }
 }
 
@@ -78,7 +78,7 @@ fn list_shown<'a, W: Write, P: Watch>(
     shown: Shown<'_>,
     out: &mut W,
     watch: &mut P,
-) -> Result<bool, Fault<'a>>
+) -> Result<bool, CommandFault<'a>>
     ensures { (outcome : Result Bool ListFault)
         × Shows settings script.now shown.entry (W.contents out.old) (W.contents out.new) outcome
         × IsOutcome outcome result }
@@ -103,11 +103,11 @@ fn explain_words<'a, W: Write>(
     words: &str,
     first: &'a str,
     out: &mut W,
-) -> Result<bool, Fault<'a>> {
+) -> Result<bool, CommandFault<'a>> {
     match code(words.as_bytes(), out) {
         Ok(()) => Ok(false),
-        Err(MeaningFault::NoAnswer) => Err(Fault::Words(WordRefusal::NoLine(first))),
-        Err(MeaningFault::Write) => Err(Fault::Write),
+        Err(MeaningFault::NoAnswer) => Err(CommandFault::Words(WordRefusal::NoLine(first))),
+        Err(MeaningFault::Write) => Err(CommandFault::Write),
     }
 }
 
@@ -117,32 +117,32 @@ pub(crate) fn explain_code<'a, W: Write>(
     first: &'a str,
     second: Option<&'a str>,
     out: &mut W,
-) -> Result<bool, Fault<'a>> {
+) -> Result<bool, CommandFault<'a>> {
     let Some(second) = second else {
         return explain_words(first, first, out);
     };
     match format!(in alloc; "{first} {second}") {
         Ok(both) => explain_words(both.as_str(), first, out),
-        Err(_) => Err(Fault::Memory),
+        Err(_) => Err(CommandFault::Memory),
     }
 }
 
 /// What is asked for, as it's asked of a bench.
-fn asked(about: About) -> Asked {
+fn asked(about: About) -> Subject {
     match about {
-        About::Bytes { address, count } => Asked::Bytes {
+        About::Bytes { address, count } => Subject::Bytes {
             address,
             count: count.min(256) as u16,
         },
-        About::Register { task, register } => Asked::Register { task, register },
-        About::Name(name) => Asked::Name(name),
-        About::Subpool(subpool) => Asked::Subpool(subpool),
-        About::Holder(address) => Asked::Holder(address),
+        About::Register { task, register } => Subject::Register { task, register },
+        About::Name(name) => Subject::Name(name),
+        About::Subpool(subpool) => Subject::Subpool(subpool),
+        About::Holder(address) => Subject::Holder(address),
     }
 }
 
 /// What `why` came to. `true` where the statement of the line was refused.
-fn explained<'a>(line: u32, outcome: Result<bool, WhyFault>) -> Result<bool, Fault<'a>> {
+fn explained<'a>(line: u32, outcome: Result<bool, WhyFault>) -> Result<bool, CommandFault<'a>> {
     match outcome {
         Ok(refused) => Ok(refused),
         Err(fault) => Err(why_fault(line, fault)),
@@ -150,7 +150,10 @@ fn explained<'a>(line: u32, outcome: Result<bool, WhyFault>) -> Result<bool, Fau
 }
 
 /// What a report behind this line came to, which tells of no refusal.
-fn reported<'a>(line: Option<u32>, outcome: Result<(), ReportFault>) -> Result<bool, Fault<'a>> {
+fn reported<'a>(
+    line: Option<u32>,
+    outcome: Result<(), ReportFault>,
+) -> Result<bool, CommandFault<'a>> {
     match outcome {
         Ok(()) => Ok(false),
         Err(fault) => Err(report_fault(line, fault)),
@@ -158,7 +161,7 @@ fn reported<'a>(line: Option<u32>, outcome: Result<(), ReportFault>) -> Result<b
 }
 
 /// What `who` came to, which tells of no refusal.
-fn followed<'a>(outcome: Result<(), WhoFault>) -> Result<bool, Fault<'a>> {
+fn followed<'a>(outcome: Result<(), WhoFault>) -> Result<bool, CommandFault<'a>> {
     match outcome {
         Ok(()) => Ok(false),
         Err(fault) => Err(who_fault(fault)),
@@ -173,7 +176,7 @@ pub(crate) fn answer<'a, W: Write, P: Watch>(
     script: &[u8],
     out: &mut W,
     watch: &mut P,
-) -> Result<bool, Fault<'a>> {
+) -> Result<bool, CommandFault<'a>> {
     let settings = asking.settings;
     match asking.question {
         Question::List { is_check } => {

@@ -3,7 +3,7 @@ ghost use Rattle.std.specs.Prelude.{◌≡◌};
 ghost use Rattle.vsm_explain.specs.Status.{IsStatus, IsWordless, status};
 
 use crate::answers::{answer, explain_code};
-use crate::faults::{Fault, report};
+use crate::faults::{CommandFault, report};
 use crate::options::read_words;
 use crate::progress::{Progress, Stopwatch};
 use crate::scripts::{Unread, read_whole};
@@ -51,13 +51,13 @@ fn answer_words<O: Write, E: Write>(
     match error.kind() {
         ErrorKind::DisplayHelp | ErrorKind::DisplayVersion => match write!(output, "{error}") {
             Ok(()) => 0,
-            Err(_) => report(errors, Fault::Write),
+            Err(_) => report(errors, CommandFault::Write),
         },
-        ErrorKind::OutOfMemory => report(errors, Fault::Memory),
+        ErrorKind::OutOfMemory => report(errors, CommandFault::Memory),
         _ => {
             match format!(in alloc; "{error}") {
                 Ok(text) => put_first_paragraph(errors, text.as_str()),
-                Err(_) => return report(errors, Fault::Memory),
+                Err(_) => return report(errors, CommandFault::Memory),
             }
             16
         }
@@ -71,14 +71,14 @@ fn script_of<'a, R: ScriptFiles, I: Read>(
     asking: &Asking<'a>,
     terminals: Terminals,
     input: &mut I,
-) -> Result<Vec<u8>, Fault<'a>> {
+) -> Result<Vec<u8>, CommandFault<'a>> {
     let Some(path) = asking.file else {
         if terminals.input {
-            return Err(Fault::Terminal);
+            return Err(CommandFault::Terminal);
         }
         return match read_whole(alloc, input) {
             Ok(bytes) => Ok(bytes),
-            Err(unread) => Err(Fault::Script(NO_NAME, unread)),
+            Err(unread) => Err(CommandFault::Script(NO_NAME, unread)),
         };
     };
     let read = match rt.open_script(path) {
@@ -87,7 +87,7 @@ fn script_of<'a, R: ScriptFiles, I: Read>(
     };
     match read {
         Ok(bytes) => Ok(bytes),
-        Err(unread) => Err(Fault::Script(path, unread)),
+        Err(unread) => Err(CommandFault::Script(path, unread)),
     }
 }
 
@@ -104,14 +104,14 @@ fn answer_asking<'a, R: ScriptFiles + Stopwatch + AllocGlobal, I: Read, O: Write
     input: &mut I,
     output: &mut O,
     errors: &mut E,
-) -> Result<bool, Fault<'a>> {
+) -> Result<bool, CommandFault<'a>> {
     if let Question::Code { first, second } = asking.question {
         return explain_code(rt.alloc(), first, second, output);
     }
     let script = script_of(rt, rt.alloc(), asking, terminals, input)?;
     let name = asking.file.unwrap_or(NO_NAME);
     if !is_listing(&asking.question) && memchr(0, script.as_slice()).is_some() {
-        return Err(Fault::Script(name, Unread::Binary));
+        return Err(CommandFault::Script(name, Unread::Binary));
     }
     let mut progress = Progress::new(rt, errors, terminals.errors);
     answer(
@@ -125,7 +125,7 @@ fn answer_asking<'a, R: ScriptFiles + Stopwatch + AllocGlobal, I: Read, O: Write
 }
 
 /// The exit status of an answer; a fault is said on `errors`.
-fn end<E: Write>(errors: &mut E, outcome: Result<bool, Fault<'_>>) -> u8
+fn end<E: Write>(errors: &mut E, outcome: Result<bool, CommandFault<'_>>) -> u8
     ensures status { result ≡ status outcome.entry }
     ensures all { IsStatus result }
 {
@@ -159,7 +159,7 @@ pub fn command<R: ScriptFiles + Stopwatch + AllocGlobal, I: Read, O: Write, E: W
     };
     let asking = match asking_of(&matches) {
         Ok(asking) => asking,
-        Err(refusal) => return report(errors, Fault::Words(refusal)),
+        Err(refusal) => return report(errors, CommandFault::Words(refusal)),
     };
     let outcome = answer_asking(rt, &asking, terminals, input, output, errors);
     end(errors, outcome)

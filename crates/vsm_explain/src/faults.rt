@@ -10,7 +10,7 @@ use std::io::Write;
 
 /// Why a question has no answer.
 #[derive(Clone, Copy)]
-pub(crate) enum Fault<'a> {
+pub(crate) enum CommandFault<'a> {
     /// The words ask for nothing.
     Words(WordRefusal<'a>),
     /// No script is named, and standard input is a terminal.
@@ -37,9 +37,9 @@ pub(crate) enum Fault<'a> {
 
 /// What is said of a script that can't be explained.
 #[derive(Clone, Copy)]
-struct Said<'a>(&'a str, Unread);
+struct UnreadText<'a>(&'a str, Unread);
 
-impl Display for Said<'_> {
+impl Display for UnreadText<'_> {
     fn fmt<W: fmt::Write>(&self, f: &mut Formatter<W>) -> fmt::Result {
         let name = self.0;
         match self.1 {
@@ -51,28 +51,33 @@ impl Display for Said<'_> {
     }
 }
 
-impl Display for Fault<'_> {
+impl Display for CommandFault<'_> {
     fn fmt<W: fmt::Write>(&self, f: &mut Formatter<W>) -> fmt::Result {
         match *self {
-            Fault::Words(refusal) => write!(f, "{refusal}"),
-            Fault::Terminal => f.write_str("no FILE is named, and standard input is a terminal"),
-            Fault::Script(name, unread) => write!(f, "{}", Said(name, unread)),
-            Fault::Memory => f.write_str("there is no memory"),
-            Fault::TooLong => f.write_str(
+            CommandFault::Words(refusal) => write!(f, "{refusal}"),
+            CommandFault::Terminal => f.write_str(
+                "no FILE is named, and standard input is a terminal",
+            ),
+            CommandFault::Script(name, unread) => write!(f, "{}", UnreadText(name, unread)),
+            CommandFault::Memory => f.write_str("there is no memory"),
+            CommandFault::TooLong => f.write_str(
                 "the script is too long: it has more than 1048576 lines, or one of more than 65536 bytes",
             ),
-            Fault::Write => f.write_str("the output can't be written"),
-            Fault::NoLine { line, lines } => write!(
+            CommandFault::Write => f.write_str("the output can't be written"),
+            CommandFault::NoLine { line, lines } => write!(
                 f,
                 "there is no line {line}: the script has {lines}"
             ),
-            Fault::Aside(line) => write!(f, "line {line} is a comment or empty, and has no answer"),
-            Fault::Dropped(line) => write!(
+            CommandFault::Aside(line) => write!(
+                f,
+                "line {line} is a comment or empty, and has no answer"
+            ),
+            CommandFault::Dropped(line) => write!(
                 f,
                 "line {line} isn't carried out: a line before it breaks a rule of continuation",
             ),
-            Fault::NoTask(task) => write!(f, "no statement that stands makes a task {task}"),
-            Fault::NoName => f.write_str(
+            CommandFault::NoTask(task) => write!(f, "no statement that stands makes a task {task}"),
+            CommandFault::NoName => f.write_str(
                 "no statement that stands defines the name that --name asks for",
             ),
         }
@@ -80,25 +85,25 @@ impl Display for Fault<'_> {
 }
 
 /// The exit status of a fault: 8 where the script can't be read or the output can't be written, else 16.
-fn status_of(fault: &Fault<'_>) -> u8
+fn status_of(fault: &CommandFault<'_>) -> u8
     ensures status { result ≡ fault_status fault.now }
     ensures failure { IsFailure result }
 {
     match fault {
-        Fault::Script(_, _) | Fault::TooLong | Fault::Write => 8,
-        Fault::Words(_)
-        | Fault::Terminal
-        | Fault::Memory
-        | Fault::NoLine { .. }
-        | Fault::Aside(_)
-        | Fault::Dropped(_)
-        | Fault::NoTask(_)
-        | Fault::NoName => 16,
+        CommandFault::Script(_, _) | CommandFault::TooLong | CommandFault::Write => 8,
+        CommandFault::Words(_)
+        | CommandFault::Terminal
+        | CommandFault::Memory
+        | CommandFault::NoLine { .. }
+        | CommandFault::Aside(_)
+        | CommandFault::Dropped(_)
+        | CommandFault::NoTask(_)
+        | CommandFault::NoName => 16,
     }
 }
 
 /// Says on standard error why a question has no answer, and gives the exit status.
-pub(crate) fn report<E: Write>(errors: &mut E, fault: Fault<'_>) -> u8
+pub(crate) fn report<E: Write>(errors: &mut E, fault: CommandFault<'_>) -> u8
     ensures status { result ≡ fault_status fault.entry }
     ensures failure { IsFailure result }
 {

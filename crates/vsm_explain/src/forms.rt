@@ -4,7 +4,7 @@ use crate::help::{
 };
 
 /// What a command takes a word for; a value has a name of its own in help.
-pub(crate) enum Kind {
+pub(crate) enum WordKind {
     /// An option that is there or isn't.
     Flag,
     /// An option that takes a value.
@@ -16,125 +16,125 @@ pub(crate) enum Kind {
 }
 
 /// An option or operand of a command.
-pub(crate) struct Row {
+pub(crate) struct WordRow {
     pub(crate) name: &'static str,
-    pub(crate) kind: Kind,
+    pub(crate) kind: WordKind,
     pub(crate) help: &'static str,
 }
 
 /// A command: what it's for, how it's used, and what it takes besides vsm's options.
-pub(crate) struct Form {
+pub(crate) struct CommandForm {
     pub(crate) name: &'static str,
     pub(crate) about: &'static str,
     pub(crate) after: &'static str,
-    pub(crate) rows: &'static [Row],
+    pub(crate) rows: &'static [WordRow],
 }
 
 /// The commands, in the order of help.
-pub(crate) fn commands() -> &'static [Form] {
+pub(crate) fn commands() -> &'static [CommandForm] {
     COMMANDS.as_slice()
 }
 
-static COMMANDS: [Form; 4] = [
-    Form {
+static COMMANDS: [CommandForm; 4] = [
+    CommandForm {
         name: "list",
         about: LIST_ABOUT,
         after: LIST_AFTER,
         rows: &[
-            Row {
+            WordRow {
                 name: "check",
-                kind: Kind::Flag,
+                kind: WordKind::Flag,
                 help: "Print the places of faults alone, as FILE:LINE:COLUMN: text",
             },
-            Row {
+            WordRow {
                 name: "FILE",
-                kind: Kind::Operand("FILE"),
+                kind: WordKind::Operand("FILE"),
                 help: "The script [default: standard input]",
             },
         ],
     },
-    Form {
+    CommandForm {
         name: "why",
         about: WHY_ABOUT,
         after: WHY_AFTER,
         rows: &[
-            Row {
+            WordRow {
                 name: "FILE",
-                kind: Kind::File,
+                kind: WordKind::File,
                 help: "The script; or an answer, as S878",
             },
-            Row {
+            WordRow {
                 name: "LINE",
-                kind: Kind::Operand("LINE"),
+                kind: WordKind::Operand("LINE"),
                 help: "The number of a line of the statement",
             },
         ],
     },
-    Form {
+    CommandForm {
         name: "report",
         about: REPORT_ABOUT,
         after: REPORT_AFTER,
         rows: &[
-            Row {
+            WordRow {
                 name: "over-time",
-                kind: Kind::Flag,
+                kind: WordKind::Flag,
                 help: "Print a row of CSV behind each statement",
             },
-            Row {
+            WordRow {
                 name: "FILE",
-                kind: Kind::File,
+                kind: WordKind::File,
                 help: "The script",
             },
-            Row {
+            WordRow {
                 name: "LINE",
-                kind: Kind::Operand("LINE"),
+                kind: WordKind::Operand("LINE"),
                 help: "The line of the statement behind which it is reported [default: the last]",
             },
         ],
     },
-    Form {
+    CommandForm {
         name: "who",
         about: WHO_ABOUT,
         after: WHO_AFTER,
         rows: &[
-            Row {
+            WordRow {
                 name: "register",
-                kind: Kind::Valued("T,R"),
+                kind: WordKind::Valued("T,R"),
                 help: "Ask for register R of task T",
             },
-            Row {
+            WordRow {
                 name: "name",
-                kind: Kind::Valued("P"),
+                kind: WordKind::Valued("P"),
                 help: "Ask for the word of name P",
             },
-            Row {
+            WordRow {
                 name: "subpool",
-                kind: Kind::Valued("T,N"),
+                kind: WordKind::Valued("T,N"),
                 help: "Ask for the pages and free storage of subpool N of task T, or, with N alone, of task 1",
             },
-            Row {
+            WordRow {
                 name: "holds",
-                kind: Kind::Valued("ADDRESS"),
+                kind: WordKind::Valued("ADDRESS"),
                 help: "Ask for the subpool that holds the page of ADDRESS",
             },
-            Row {
+            WordRow {
                 name: "log",
-                kind: Kind::Flag,
+                kind: WordKind::Flag,
                 help: "List each change that is kept, and each that is undone, with its line",
             },
-            Row {
+            WordRow {
                 name: "FILE",
-                kind: Kind::File,
+                kind: WordKind::File,
                 help: "The script",
             },
-            Row {
+            WordRow {
                 name: "ADDRESS",
-                kind: Kind::Operand("ADDRESS"),
+                kind: WordKind::Operand("ADDRESS"),
                 help: "The address of the first byte",
             },
-            Row {
+            WordRow {
                 name: "COUNT",
-                kind: Kind::Operand("N"),
+                kind: WordKind::Operand("N"),
                 help: "How many bytes: 1 to 256 [default: 1]",
             },
         ],

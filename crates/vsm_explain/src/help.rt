@@ -56,7 +56,7 @@ pub(crate) const WHO_ABOUT: &str =
         and after.";
 
 pub(crate) const WHO_AFTER: &str =
-    "ADDRESS and N are written as in a script: 24582 or X'6006'. Asked for is one thing: N bytes at ADDRESS, or
+    "ADDRESS and N are written as in a script: 24582 or X'6006'. Subject for is one thing: N bytes at ADDRESS, or
 what one of the options names.
 
 Examples, as a shell takes them:

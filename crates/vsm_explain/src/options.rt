@@ -1,5 +1,5 @@
 //! The command line: the commands of `forms`, as clap has them.
-use crate::forms::{Form, Kind, Row, commands};
+use crate::forms::{CommandForm, WordKind, WordRow, commands};
 use crate::help::{ABOUT, AFTER, VERSION};
 use clap::{Arg, ArgAction, ArgMatches, Command, Error};
 use std::alloc::{AllocError, Global};
@@ -7,13 +7,13 @@ use vsm_bench::with_settings;
 
 /// The argument that an option or operand is. Nothing is promised of it, nor of what's below, so that no caller carries
 /// all that is known of them.
-fn argument_of<'a>(alloc: Global, row: &'static Row) -> Arg<'a> {
+fn argument_of<'a>(alloc: Global, row: &'static WordRow) -> Arg<'a> {
     let argument = Arg::new(alloc, row.name).help(row.help);
     match row.kind {
-        Kind::Flag => argument.long(row.name).action(ArgAction::SetTrue),
-        Kind::Valued(value) => argument.long(row.name).value_name(value),
-        Kind::Operand(value) => argument.value_name(value),
-        Kind::File => argument.required(true),
+        WordKind::Flag => argument.long(row.name).action(ArgAction::SetTrue),
+        WordKind::Valued(value) => argument.long(row.name).value_name(value),
+        WordKind::Operand(value) => argument.value_name(value),
+        WordKind::File => argument.required(true),
     }
 }
 
@@ -21,7 +21,7 @@ fn argument_of<'a>(alloc: Global, row: &'static Row) -> Arg<'a> {
 fn with_rows<'a>(
     alloc: Global,
     command: Command<'a>,
-    rows: &'static [Row],
+    rows: &'static [WordRow],
 ) -> Result<Command<'a>, AllocError> {
     let mut command = command;
     for row in rows {
@@ -31,7 +31,7 @@ fn with_rows<'a>(
 }
 
 /// A command with vsm's options and its own.
-fn command_of<'a>(alloc: Global, form: &'static Form) -> Result<Command<'a>, AllocError> {
+fn command_of<'a>(alloc: Global, form: &'static CommandForm) -> Result<Command<'a>, AllocError> {
     let command = Command::new(alloc, form.name)
         .about(form.about)
         .after_help(form.after);
@@ -42,7 +42,7 @@ fn command_of<'a>(alloc: Global, form: &'static Form) -> Result<Command<'a>, All
 fn with_command<'a>(
     alloc: Global,
     command: Command<'a>,
-    form: &'static Form,
+    form: &'static CommandForm,
 ) -> Result<Command<'a>, AllocError> {
     command.subcommand(command_of(alloc, form)?)
 }
@@ -51,7 +51,7 @@ fn with_command<'a>(
 fn with_commands<'a>(
     alloc: Global,
     command: Command<'a>,
-    forms: &'static [Form],
+    forms: &'static [CommandForm],
 ) -> Result<Command<'a>, AllocError> {
     let mut command = command;
     for form in forms {

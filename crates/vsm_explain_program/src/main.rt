@@ -1,23 +1,39 @@
 //! The program `vsm-explain`: explains a script of storage macros.
 #![tactic(auto)]
 
-use std::env;
 use std::io::{IsTerminal, Write};
 use std::process::ExitCode;
+use std::{env, io};
 use vsm_explain::{Terminals, command};
 
-/// The words of the command line, where there is memory for them.
-fn words_of(rt: &HostRuntime) -> Option<Vec<String>> {
-    let words = env::args(rt).ok()?;
-    words.collect::<Vec<String>>(rt.alloc()).ok()
+const NO_MEMORY: &str = "vsm-explain: there is no memory\n";
+
+const NOT_UTF_8: &str =
+    "vsm-explain: a word of the command line isn't UTF-8: a file of such a name is read by - < FILE\n";
+
+/// The words of the command line; or what is wrong, in a line.
+fn words_of(rt: &HostRuntime) -> Result<Vec<String>, &'static str> {
+    match env::args(rt) {
+        Ok(words) => match words.collect::<Vec<String>>(rt.alloc()) {
+            Ok(words) => Ok(words),
+            Err(_) => Err(NO_MEMORY),
+        },
+        Err(error) => match error.kind() {
+            io::ErrorKind::InvalidData => Err(NOT_UTF_8),
+            _ => Err(NO_MEMORY),
+        },
+    }
 }
 
 /// Calls `command` with the words of the command line and the standard streams, and ends with the status that it gives.
 fn main(rt: HostRuntime) -> ExitCode {
     let mut errors = rt.stderr();
-    let Some(words) = words_of(&rt) else {
-        let _ = errors.write_all(b"vsm-explain: there is no memory\n");
-        return ExitCode::from(16);
+    let words = match words_of(&rt) {
+        Ok(words) => words,
+        Err(line) => {
+            let _ = errors.write_all(line.as_bytes());
+            return ExitCode::from(16);
+        }
     };
     let mut input = rt.stdin();
     let mut output = rt.stdout();

@@ -1,5 +1,5 @@
 -- What is made for a statement.
-use Rattle.std.proofs.Common.{◌+◌, ◌*◌, List, [], ◌∷◌, subst, sym}
+use Rattle.std.proofs.Common.{◌+◌, ◌*◌, List, [], ◌∷◌, subst, sym, arith}
 use Rattle.storage_core.proofs.Making.{makes_more, makes_still, none_made, none_follow, none_swapped, none_discarded}
 use Rattle.storage_core.specs.Memory.{Makes, MakesNone}
 use Rattle.step_history.specs.Walk.{DiscardsAll}
@@ -25,3 +25,13 @@ makes_in_all m r t u x p c d cs can made swaps all =
     makes_still m.storage.parts r.storage.parts u.storage.parts (32 + 8 * weight_asked (shown m) x) (fresh_pages p.plan).len
     (makes_more m.storage.parts r.storage.parts (elements_needed (shown m).storage p.plan) (32 + 8 * weight_asked (shown m) x) (fresh_pages p.plan).len can.light made)
     (none_follow r.storage.parts t.storage.parts u.storage.parts (none_swapped r.storage.parts t.storage.parts c.storage d.storage swaps.storage) (discards_make cs t u all))
+
+-- nothing was made yet
+pub made_none : (m : Machine) (x : Act) (p : Planned) → MakesFor m x p m
+made_none m x p = record { elements = omega arith; frames = omega arith }
+
+-- for one that is refused for want of memory it's what was made before that
+pub makes_wanting : (m r : Machine) (x : Act) (p : Planned) → CanCarryOut (shown m) x p
+    → Makes m.storage.parts r.storage.parts (elements_needed (shown m).storage p.plan) (fresh_pages p.plan).len → MakesFor m x p r
+makes_wanting m r x p can made =
+    makes_more m.storage.parts r.storage.parts (elements_needed (shown m).storage p.plan) (32 + 8 * weight_asked (shown m) x) (fresh_pages p.plan).len can.light made

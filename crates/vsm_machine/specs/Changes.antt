@@ -17,7 +17,6 @@ use Rattle.storage_changes.specs.Props.{Fit-prop}
 use Rattle.storage_changes.proofs.WalkLemmas.{changes_lead_back}
 use Rattle.storage_swap.specs.declared.change.Change.{Change as RawChange}
 use Rattle.storage_swap.specs.Swap as swap
-use Rattle.storage_swap.specs.declared.steps.Steps.{Steps}
 use Rattle.storage_swap.specs.Apart.{AreApart, AreWhole}
 use Rattle.storage_swap.specs.HistoryProps.{AreApart-prop, AreWhole-prop}
 use Rattle.storage_swap.specs.Steps.{storage_steps}
@@ -184,10 +183,6 @@ turns_back m d f =
     let named = name_turns_back m.names d.known d.step (names_fit m d f).0 in
     λ i. record { storage = back.2 i; step = named i; known = sym (names_fit m d f).1 i }
 
--- the storage of a machine as the state of a history of its own
-abbrev pub steps_in : Machine → Steps
-steps_in m = record { storage = m.storage.parts }
-
 -- a change means the same where its change of the storage does, and the table is ready for it alike
 pub same_meaning : (m n : Machine) (c : MachineChange)
     → swap.means n.storage.parts.elements c.storage ≡ swap.means m.storage.parts.elements c.storage
@@ -206,7 +201,7 @@ pub machine_steps : SingleSteps fit overlay inverse shown means Apart Whole CanS
 machine_steps = record {
   inverts = record { fits_back = fits_back; leads_back = leads_back; turns_back = turns_back };
   can = λ m c f h. record {
-    ready = (storage_steps.can (steps_in m) c.storage f.0.fits h).ready;
+    ready = (storage_steps.can m.storage.parts c.storage f.0.fits h).ready;
     fits = f.0;
     can = can_step m.names (step_of c) (names_fit (shown m) (means m c) f).0;
   };
@@ -217,37 +212,37 @@ machine_steps = record {
   });
   swap_means = λ m n c d w. (λ i. record { storage = w.storage.turned i; step = w.inverse_step i; known = w.ready i });
   swap_others = λ m n c d x h w.
-      same_meaning m n x (storage_steps.swap_others (steps_in m) (steps_in n) c.storage d.storage x.storage h w.storage)
+      same_meaning m n x (storage_steps.swap_others m.storage.parts n.storage.parts c.storage d.storage x.storage h w.storage)
       (same_ready m.names n.names w.same (step_of x));
   swap_apart = λ m n c d xs h w.
-      storage_steps.swap_apart (steps_in m) (steps_in n) c.storage d.storage (storages xs) h w.storage;
+      storage_steps.swap_apart m.storage.parts n.storage.parts c.storage d.storage (storages xs) h w.storage;
   swap_whole = λ xs ys c d m n h w.
       subst (AreWhole n.storage.parts) (sym (storages_at xs ys d))
-      (storage_steps.swap_whole (storages xs) (storages ys) c.storage d.storage (steps_in m) (steps_in n)
+      (storage_steps.swap_whole (storages xs) (storages ys) c.storage d.storage m.storage.parts n.storage.parts
       (subst (AreWhole m.storage.parts) (storages_at xs ys c) h) w.storage);
   discard_shows = λ m n c w. (λ i. record {
     settings = w.settings i;
-    storage = storage_steps.discard_shows (steps_in m) (steps_in n) c.storage w.storage i;
+    storage = storage_steps.discard_shows m.storage.parts n.storage.parts c.storage w.storage i;
     names = rows_of (w.names i);
   });
   discard_others = λ m n c x h w.
-      same_meaning m n x (storage_steps.discard_others (steps_in m) (steps_in n) c.storage x.storage h w.storage)
+      same_meaning m n x (storage_steps.discard_others m.storage.parts n.storage.parts c.storage x.storage h w.storage)
       (ap (λ t. is_ready t (step_of x)) w.names);
   discard_apart = λ m n c xs h w.
-      storage_steps.discard_apart (steps_in m) (steps_in n) c.storage (storages xs) h w.storage;
+      storage_steps.discard_apart m.storage.parts n.storage.parts c.storage (storages xs) h w.storage;
   discard_whole = λ xs ys c m n h w.
       subst (AreWhole n.storage.parts) (sym (storages_of xs ys))
-      (storage_steps.discard_whole (storages xs) (storages ys) c.storage (steps_in m) (steps_in n)
+      (storage_steps.discard_whole (storages xs) (storages ys) c.storage m.storage.parts n.storage.parts
       (subst (AreWhole m.storage.parts) (storages_at xs ys c) h) w.storage);
   pick = λ xs ys c m h.
       subst (λ l. AreApart m.storage.parts (c.storage ∷ l)) (sym (storages_of xs ys))
-      (storage_steps.pick (storages xs) (storages ys) c.storage (steps_in m)
+      (storage_steps.pick (storages xs) (storages ys) c.storage m.storage.parts
       (subst (AreApart m.storage.parts) (storages_at xs ys c) h));
   put = λ xs ys c m h.
       subst (AreApart m.storage.parts) (sym (storages_at xs ys c))
-      (storage_steps.put (storages xs) (storages ys) c.storage (steps_in m)
+      (storage_steps.put (storages xs) (storages ys) c.storage m.storage.parts
       (subst (λ l. AreApart m.storage.parts (c.storage ∷ l)) (storages_of xs ys) h));
-  rest = λ xs c m h. storage_steps.rest (storages xs) c.storage (steps_in m) h;
+  rest = λ xs c m h. storage_steps.rest (storages xs) c.storage m.storage.parts h;
 }
 
 pub machine_laws : ReversibleLaws shown machine_fits machine_states Apart Whole CanSwap Swaps Discards

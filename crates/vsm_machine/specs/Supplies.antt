@@ -43,9 +43,8 @@ abbrev pub FindsMemory : Result Reply Refusal → Type 0
 FindsMemory (Err NoMemory) = ⊥
 FindsMemory _ = ⊤
 
--- For a statement that was carried out by this plan, at most a block of elements was made beyond the live ones and
--- those that its weight asks for, and no frame beyond those of the pages that come to be assigned and those that
--- weren't spare.
+-- For a statement with this plan at most a block of elements was made beyond the live ones and those that its weight
+-- asks for, and no frame beyond those of the pages that come to be assigned and those that weren't spare.
 abbrev pub MakesFor : Machine → Act → Planned → Machine → Type 0
 MakesFor m x p n =
     Makes m.storage.parts n.storage.parts (32 + 8 * weight_asked (shown m) x) (fresh_pages p.plan).len

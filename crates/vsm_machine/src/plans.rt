@@ -53,7 +53,9 @@ fn name_change(names: &NameTable, name: Option<&Name>, reply: Reply) -> Option<N
         (Some(name), Reply::Obtained { address, .. } | Reply::Cell(address)) => {
             Some(names.change_to(*name, address))
         }
-        _ => None,
+        (None, _)
+        | (Some(_), Reply::Returned(_) | Reply::Attached(_) | Reply::Turn(_) | Reply::Stored) =>
+            None,
     }
 }
 
@@ -120,7 +122,7 @@ fn make_ready(names: &mut NameTable, new: Option<Name>) -> Result<(), AllocError
 /// Refused where there is no memory for it; the table then holds the names that it held. Where as many elements are
 /// spare as the change takes, and a frame and a table for each page that comes to be assigned, and there is room for
 /// the name that is defined, if one is, it takes no memory. At most a block of elements is made beyond those that the
-/// change takes, and no frame beyond those of its pages.
+/// change takes, and no frame beyond those of its pages, whatever the answer: they stay as spare ones.
 pub fn reserve(machine: &mut Machine, planned: Planned) -> Result<MachineChange, AllocError>
     requires { CanBeReserved (state_in_place machine.old.storage) planned.plan }
     ensures is { IfOk result (λ c. IsChangeOf machine.old planned machine.new c) }
@@ -132,8 +134,8 @@ pub fn reserve(machine: &mut Machine, planned: Planned) -> Result<MachineChange,
     ensures same { OnErr result ((name : List ℕ) → knows machine.new.names name ≡ knows machine.old.names name) }
     ensures needless { elements_needed (state_in_place machine.old.storage) planned.plan
         ≤ machine.old.storage.parts.elements.spare → NeedsNoMore machine.old planned → IsOk result }
-    ensures made { IfOk result (λ _. Makes machine.old.storage.parts machine.new.storage.parts
-        (elements_needed (state_in_place machine.old.storage) planned.plan) (pages_assigned planned.plan)) }
+    ensures made { Makes machine.old.storage.parts machine.new.storage.parts
+        (elements_needed (state_in_place machine.old.storage) planned.plan) (pages_assigned planned.plan) }
 {
     let Planned { plan, name } = planned;
     let storage = match machine.storage.reserve(plan) {

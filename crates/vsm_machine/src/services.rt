@@ -21,7 +21,7 @@ use storage_core::{Attach, Boundary, Lengths, Location, Obtain, Passed, Release,
 use vsm_model::{Build, Get};
 
 /// The service that is asked for; `None` where a name in one of its values isn't defined.
-pub type Asked<'a> = Option<Service<'a>>;
+pub type ServiceAsked<'a> = Option<Service<'a>>;
 
 /// The register that is set besides register 1, if the place is one.
 fn register_of(place: &Option<Place>) -> Option<u8>
@@ -62,7 +62,12 @@ fn passed_of(machine: &Machine, subpools: &Subpools) -> Option<Passed>
 }
 
 /// The new task that a statement asks for; `None` where a name in one of its values isn't defined.
-fn attach_of<'a>(machine: &Machine, given: &Subpools, shared: &Subpools, zero: bool) -> Asked<'a>
+fn attach_of<'a>(
+    machine: &Machine,
+    given: &Subpools,
+    shared: &Subpools,
+    zero: bool,
+) -> ServiceAsked<'a>
     requires given { IsSubpools (subpools_in given.now) }
     requires shared { IsSubpools (subpools_in shared.now) }
     ensures is { option_map service_in result ≡ with_passed zero
@@ -86,7 +91,7 @@ fn obtain_of<'a>(
     boundary: Boundary,
     location: Location,
     form: &Form,
-) -> Asked<'a>
+) -> ServiceAsked<'a>
     requires length { IsLength (length_in length.now) }
     requires subpool { IsValue (written_in subpool.now) }
     requires place { IfSome (option_map target_in place.now) IsTarget }
@@ -113,7 +118,7 @@ fn release_of<'a>(
     address: &Value,
     subpool: &Value,
     conditional: bool,
-) -> Asked<'a>
+) -> ServiceAsked<'a>
     requires length { IsValue (written_in length.now) }
     requires address { IsValue (written_in address.now) }
     requires subpool { IsValue (written_in subpool.now) }
@@ -133,7 +138,12 @@ fn release_of<'a>(
 
 /// The store that a statement asks for; `None` where a name in one of its values isn't defined. A value that is stored
 /// is written into `room`.
-fn store_of<'a>(machine: &Machine, address: &Value, bytes: &'a Content, room: Room<'a>) -> Asked<'a>
+fn store_of<'a>(
+    machine: &Machine,
+    address: &Value,
+    bytes: &'a Content,
+    room: Room<'a>,
+) -> ServiceAsked<'a>
     requires address { IsValue (written_in address.now) }
     requires bytes { IsStored (stored_in bytes.now) }
     ensures is { option_map service_in result ≡ with_bytes (looked_up (plain_of machine.now) (written_in address.now))
@@ -189,7 +199,7 @@ fn header_text(header: &Option<Header>) -> Option<&str>
 }
 
 /// The cell pool that a statement asks for; `None` where a name in one of its values isn't defined.
-fn build_of<'a>(machine: &Machine, cells: &'a NewCellPool) -> Asked<'a>
+fn build_of<'a>(machine: &Machine, cells: &'a NewCellPool) -> ServiceAsked<'a>
     requires valid { IsValidAct (build_in cells.now) }
     ensures is { option_map service_in result ≡ service_asked (plain_of machine.now) (build_in cells.now) }
     ensures bounds { IfSome result (λ service. CanBePlanned (service_in service)) }
@@ -217,7 +227,7 @@ fn get_of<'a>(pool: &'a Name, place: &Option<Place>, conditional: bool) -> Servi
 }
 
 /// The release of a whole subpool; `None` where a name in the value isn't defined.
-fn whole_of<'a>(machine: &Machine, subpool: &Value) -> Asked<'a>
+fn whole_of<'a>(machine: &Machine, subpool: &Value) -> ServiceAsked<'a>
     requires { IsValue (written_in subpool.now) }
     ensures is { option_map service_in result
         ≡ option_map whole (looked_up (plain_of machine.now) (written_in subpool.now)) }
@@ -228,7 +238,7 @@ fn whole_of<'a>(machine: &Machine, subpool: &Value) -> Asked<'a>
 }
 
 /// The end of a task; `None` where a name in the value isn't defined.
-fn detach_of<'a>(machine: &Machine, task: &Value) -> Asked<'a>
+fn detach_of<'a>(machine: &Machine, task: &Value) -> ServiceAsked<'a>
     requires { IsValue (written_in task.now) }
     ensures is { option_map service_in result
         ≡ option_map detach (looked_up (plain_of machine.now) (written_in task.now)) }
@@ -239,7 +249,7 @@ fn detach_of<'a>(machine: &Machine, task: &Value) -> Asked<'a>
 }
 
 /// The turn of a task; `None` where a name in the value isn't defined.
-fn run_of<'a>(machine: &Machine, task: &Value) -> Asked<'a>
+fn run_of<'a>(machine: &Machine, task: &Value) -> ServiceAsked<'a>
     requires { IsValue (written_in task.now) }
     ensures is { option_map service_in result
         ≡ option_map run (looked_up (plain_of machine.now) (written_in task.now)) }
@@ -251,7 +261,11 @@ fn run_of<'a>(machine: &Machine, task: &Value) -> Asked<'a>
 
 /// The service that a statement asks for, with the words of its values; `None` where a name in one of them isn't
 /// defined. A value that is stored is written into `room`.
-pub fn service_of<'a>(machine: &Machine, statement: &'a Statement, room: Room<'a>) -> Asked<'a>
+pub fn service_of<'a>(
+    machine: &Machine,
+    statement: &'a Statement,
+    room: Room<'a>,
+) -> ServiceAsked<'a>
     requires { IsValidAct (act_in statement.now) }
     ensures is { option_map service_in result ≡ service_asked (plain_of machine.now) (act_in statement.now) }
     ensures bounds { IfSome result (λ service. CanBePlanned (service_in service)) }

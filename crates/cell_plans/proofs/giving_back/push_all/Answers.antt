@@ -1,6 +1,6 @@
 use Rattle.std.proofs.Common.{◌+◌, drop, refl}
-use Rattle.storage_swap.proofs.BuilderLemmas.{builds-follow, leads-none, leads-more}
-use Rattle.cell_plans.proofs.AreaWalks.{next_record, records_done, record_room, never}
+use Rattle.storage_swap.proofs.BuilderLemmas.{builds-follow, leads-none, leads-more, if-refused}
+use Rattle.cell_plans.proofs.AreaWalks.{next_record, records_done, record_room, record_refused, never}
 use Rattle.cell_plans.proofs.giving_back.push_all.Goals as goal
 
 pub loop-k-init : goal.loop-k-init
@@ -12,6 +12,11 @@ returns-in_err-push-clause-builds c = builds-follow _ _ _ _ _ _ c.loop-k.invaria
 pub returns-in_err-push-clause-needless : goal.returns-in_err-push-clause-needless
 returns-in_err-push-clause-needless c = λ room.
     never (c.in_err-push.ensures.needless (record_room _ _ _ _ c.args.records.now c.loop-k.k c.loop-k.invariant c.loop-k-test.true room))
+
+pub returns-in_err-push-clause-made : goal.returns-in_err-push-clause-made
+returns-in_err-push-clause-made c =
+    if-refused _ c.from_residual.result
+    (record_refused _ _ _ _ c.args.records.now c.loop-k.k c.loop-k.invariant c.push.new.storage.elements c.loop-k-test.true c.in_err-push.ensures.made)
 
 pub loop-k-preserved : goal.loop-k-preserved
 loop-k-preserved c =

@@ -2,10 +2,12 @@ use Rattle.std.proofs.Common.{◌≡◌, ℕ, ◌+◌, ◌*◌, List, length, ap
 use Rattle.storage_changes.specs.declared.record.Record.{Record}
 use Rattle.storage_exchange.specs.declared.storage.Parts.{Parts}
 use Rattle.storage_exchange.specs.Storage.{state_of}
+use Rattle.storage_swap.specs.Growth.{MakesElements}
 use Rattle.cell_plans.specs.Areas.{areas_of}
 use Rattle.cell_plans.specs.CellPlans.{pool_given_back}
 use Rattle.cell_plans.specs.Noted.{noted_count, BuildsBeside, PushesBeside}
-use Rattle.cell_plans.proofs.AreaWalks.{AreasLead, still_can, its_subpool, pool_as_areas, areas_count, areas_given_back, areas_none, first_noted, all_came, all_counted, is_one_more, area_room, pushed_builds, note_room, noted_so, area_more}
+use Rattle.cell_plans.proofs.AreaWalks.{AreasLead, still_can, its_subpool, pool_as_areas, areas_count, areas_given_back, areas_none, first_noted, all_came, all_counted, is_one_more, area_room, pushed_builds, note_room, noted_so, area_more, area_refused, note_refused, as_needed}
+use Rattle.storage_swap.proofs.BuilderLemmas.{if-refused}
 use Rattle.cell_plans.proofs.giving_back.push_each.Goals as goal
 
 pub loop-area-init : goal.loop-area-init
@@ -25,6 +27,35 @@ returns-then-count-eq-EXTENTS_MOST-clause-needless c = λ room.
     let more = is_one_more _ _ _ _ _ _ _ _ c.loop-area.invariant c.in-Some.area (sym c.in-Some.ensures.area) in
     let o = (state_of c.args.storage.now).subpools.cells c.args.pool in
     absurd (omega (arith, more, room, areas_count o, c.if-count-eq-EXTENTS_MOST.true, c.spares_are_few.ensures))
+
+pub returns-then-count-eq-EXTENTS_MOST-clause-made : goal.returns-then-count-eq-EXTENTS_MOST-clause-made
+returns-then-count-eq-EXTENTS_MOST-clause-made c =
+    let m = (state_of c.args.storage.now).subpools in
+    let o = m.cells c.args.pool in
+    let p = c.settings.result.subpool in
+    let whole : areas_given_back m p (areas_of o) ≡ pool_given_back m o = pool_as_areas m p o (its_subpool _ o c.settings.result (c.cell_pools-pools.ensures.pools c.args.pool) c.settings.ensures) in
+    subst (MakesElements c.args.storage.now.elements c.loop-area.storage.elements) (as_needed (ap length whole) (areas_count o)) c.loop-area.invariant.made
+
+pub returns-in_err-push_area-clause-made : goal.returns-in_err-push_area-clause-made
+returns-in_err-push_area-clause-made c =
+    let m = (state_of c.args.storage.now).subpools in
+    let o = m.cells c.args.pool in
+    let p = c.settings.result.subpool in
+    let whole : areas_given_back m p (areas_of o) ≡ pool_given_back m o = pool_as_areas m p o (its_subpool _ o c.settings.result (c.cell_pools-pools.ensures.pools c.args.pool) c.settings.ensures) in
+    if-refused _ c.from_residual.result
+    (subst (MakesElements c.args.storage.now.elements c.push_area.new.storage.elements) (as_needed (ap length whole) (areas_count o))
+    (area_refused _ _ _ _ _ _ _ _ c.loop-area.invariant c.in-Some.area (sym c.in-Some.ensures.area) c.push_area.new.storage.elements c.in_err-push_area.ensures.made))
+
+pub returns-in_err-note-clause-made : goal.returns-in_err-note-clause-made
+returns-in_err-note-clause-made c =
+    let m = (state_of c.args.storage.now).subpools in
+    let o = m.cells c.args.pool in
+    let p = c.settings.result.subpool in
+    let whole : areas_given_back m p (areas_of o) ≡ pool_given_back m o = pool_as_areas m p o (its_subpool _ o c.settings.result (c.cell_pools-pools.ensures.pools c.args.pool) c.settings.ensures) in
+    if-refused _ c.from_residual-in_err-note.result
+    (subst (MakesElements c.args.storage.now.elements c.note.new.storage.elements) (as_needed (ap length whole) (areas_count o))
+    (note_refused _ _ _ _ _ _ _ _ c.loop-area.invariant c.in-Some.area (sym c.in-Some.ensures.area) c.push_area.new.storage c.push_area.new.builder c.push_area.ensures.builds
+    c.in_ok-push_area.ensures.ok c.note.new.storage.elements c.in_err-note.ensures.made))
 
 pub returns-in_err-push_area-clause-builds : goal.returns-in_err-push_area-clause-builds
 returns-in_err-push_area-clause-builds c =

@@ -1,7 +1,9 @@
-use Rattle.std.proofs.Common.{◌||◌, sym, ap, ◌∙◌, length}
+use Rattle.std.proofs.Common.{◌||◌, sym, ap, ◌∙◌, length, arith}
 use Rattle.run_set.specs.Runs.{inside}
 use Rattle.free_queue.specs.FreeQueue.{owned}
 use Rattle.free_queue.proofs.QueueLemmas.{queues_stand}
+use Rattle.storage_swap.specs.Growth.{MakesElements}
+use Rattle.storage_swap.proofs.BuilderLemmas.{if-refused}
 use Rattle.cell_plans.proofs.NotedLemmas.{owned-live, notes-one, grown-stands, grown-free, grown-owned, grown-moves, then-moves}
 use Rattle.cell_plans.proofs.noting.note.Goals as goal
 
@@ -10,6 +12,9 @@ returns-in_err-reserve-clause-queue c = grown-stands c.args.storage.now.elements
 
 pub returns-in_err-reserve-clause-moves : goal.returns-in_err-reserve-clause-moves
 returns-in_err-reserve-clause-moves c = grown-moves c.args.storage.now.elements c.reserve.new.self c.args.noted.now c.requires.queue c.reserve.ensures.kept
+
+pub returns-in_err-reserve-clause-made : goal.returns-in_err-reserve-clause-made
+returns-in_err-reserve-clause-made c = if-refused (MakesElements c.args.storage.now.elements c.reserve.new.self 2) c.from_residual.result (omega (arith, c.reserve.ensures.live, c.reserve.ensures.bounded))
 
 pub note_area-requires-clause-queue : goal.note_area-requires-clause-queue
 note_area-requires-clause-queue c = grown-stands c.args.storage.now.elements c.reserve.new.self c.args.noted.now c.requires.queue c.reserve.ensures.kept

@@ -1,6 +1,6 @@
 use Rattle.std.proofs.Common.{◌≡◌, sym, ◌∙◌}
 use Rattle.macro_reader.specs.Columns.{is_skipped, is_continued}
-use Rattle.macro_reader.specs.declared.reading.Stand.TheVariants as stand
+use Rattle.macro_reader.specs.declared.reading.ReaderState.TheVariants as stand
 use Rattle.statement_faults.specs.declared.roles.Brought.TheVariants as brought
 use Rattle.statement_faults.proofs.RoleCases.{aside_is, open_is, told_is}
 use Rattle.statement_faults.proofs.roles.first_role.Goals as goal

@@ -1,4 +1,5 @@
-use Rattle.std.proofs.Common.{◌==◌, ap, ◌∙◌}
+use Rattle.std.proofs.Common.{◌≡◌, ◌==◌, ap, ◌∙◌, arith}
+use Rattle.macro_operands.specs.declared.faults.FaultKind.TheVariants.{Continuation}
 use Rattle.macro_reader.specs.Columns.{used, is_continued}
 use Rattle.macro_reader.specs.Continuation.{with_line}
 use Rattle.statement_faults.proofs.NoBreaks.{breaks}
@@ -10,10 +11,11 @@ returns-in-Continuation c = λ number n card j count line h.
     breaking_is (with_line j (used line)) (is_continued line) (count == 8) n card count
     (ap brings_break (h ∙ c.in-Fault.is) ∙ ap breaks c.in-Continuation.is)
 
-pub returns-in_default : goal.returns-in_default
-returns-in_default c = λ number n card j count line h.
+pub returns-in-Column : goal.returns-in-Column
+returns-in-Column c = λ number n card j count line h.
+    let other : c.in-Fault.kind ≡ Continuation → ⊥ = λ e. grind (arith, e, c.in-Column.is) in
     further_is (with_line j (used line)) (is_continued line) (count == 8) n card count
-    (ap brings_break (h ∙ c.in-Fault.is) ∙ other_kind c.in-Fault.kind c.in_default.not-Continuation)
+    (ap brings_break (h ∙ c.in-Fault.is) ∙ other_kind c.in-Fault.kind other)
 
 pub returns-in-Answer : goal.returns-in-Answer
 returns-in-Answer c = λ number n card j count line h.

@@ -2,13 +2,13 @@ use Rattle.std.proofs.Common.{refl, sym, subst}
 use Rattle.subpool_storage.specs.Subpools.{Subpools}
 use Rattle.storage_exchange.specs.Storage.{state_of}
 use Rattle.storage_changes.specs.Ending.{ended_below}
-use Rattle.storage_swap.proofs.BuilderLemmas.{builds-follow}
+use Rattle.storage_swap.proofs.BuilderLemmas.{builds-follow, if-refused}
 use Rattle.task_plans.specs.Sights.{row_of}
 use Rattle.task_plans.specs.TaskPlans.{parks_all, CanPark}
 use Rattle.task_plans.proofs.EndRecords.{never}
 use Rattle.task_plans.proofs.OwnedNames.{owned_are_names}
 use Rattle.task_plans.proofs.SightLemmas.{still_ends}
-use Rattle.task_plans.proofs.Parks.{names_can, parks_none, parks_done, parks_can, parks_room, parks_more}
+use Rattle.task_plans.proofs.Parks.{names_can, parks_none, parks_done, parks_can, parks_room, parks_more, parks_refused}
 use Rattle.task_plans.proofs.Walks.{walk_less}
 use Rattle.task_plans.proofs.end.park_owned.Goals as goal
 
@@ -51,3 +51,9 @@ returns-clause-ok c = parks_done c.args.ending.now.tree.top c.args.storage.now c
 
 pub returns-clause-needless : goal.returns-clause-needless
 returns-clause-needless c = λ room. refl
+
+pub returns-in_err-park_one-clause-made : goal.returns-in_err-park_one-clause-made
+returns-in_err-park_one-clause-made c =
+    if-refused _ c.from_residual.result
+    (parks_refused c.args.ending.now.tree.top c.args.storage.now c.args.builder.now c.loop-seen.storage c.loop-seen.builder c.loop-seen.place c.loop-seen.invariant c.in-Some.next (row_of c.in-Some.seen) c.in-Some.ensures.next
+    c.park_one.new.storage.elements c.in_err-park_one.ensures.made)

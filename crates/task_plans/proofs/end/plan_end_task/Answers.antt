@@ -1,4 +1,4 @@
-use Rattle.std.proofs.Common.{◌≡◌, ℕ, Some, is_some, sym, ◌∙◌, ap, inl, inr}
+use Rattle.std.proofs.Common.{◌≡◌, ℕ, Some, is_some, sym, ◌∙◌, ap, inl, inr, arith}
 use Rattle.std.specs.Prelude.{unwrap_or}
 use Rattle.storage_exchange.specs.Storage.{state_of}
 use Rattle.task_plans.proofs.EndPlans.{end_planned, has_one, is_first}
@@ -29,11 +29,11 @@ returns-in-HasSubtasks c = λ settings names_full valid stands.
       | inr its ↦ absurd (cc (its.0, c.in-HasSubtasks.is))
     ]
 
-pub returns-in_default : goal.returns-in_default
-returns-in_default c = λ settings names_full valid stands.
+pub returns-in-NoTask : goal.returns-in-NoTask
+returns-in-NoTask c = λ settings names_full valid stands.
     let m = state_of c.args.storage.now in
     let here : c.current-current.result ≡ m.tasks.current = c.current-current.ensures in
     elim c.in-Err.ensures.err [
-      | inl its ↦ absurd (c.in_default.not-HasSubtasks its.0)
+      | inl its ↦ absurd (grind (arith, its.0, c.in-NoTask.is))
       | inr its ↦ is_first settings names_full m (λ t at. its.2 t (at ∙ ap Some (sym here))) (sym here ∙ its.1)
     ]

@@ -1,6 +1,6 @@
 use Rattle.std.proofs.Common.{arith}
-use Rattle.storage_swap.proofs.BuilderLemmas.{builds-follow}
-use Rattle.task_plans.proofs.Walks.{extents_done, extents_less, extents_room, extents_more}
+use Rattle.storage_swap.proofs.BuilderLemmas.{builds-follow, if-refused}
+use Rattle.task_plans.proofs.Walks.{extents_done, extents_less, extents_room, extents_more, extents_refused}
 use Rattle.task_plans.proofs.end.push_extents.Goals as goal
 
 pub returns-in_err-push-clause-builds : goal.returns-in_err-push-clause-builds
@@ -21,3 +21,8 @@ loop-run-preserved c =
 
 pub returns-clause-ok : goal.returns-clause-ok
 returns-clause-ok c = extents_done _ _ _ _ _ _ _ c.loop-run.invariant c.in_default.ensures.run
+
+pub returns-in_err-push-clause-made : goal.returns-in_err-push-clause-made
+returns-in_err-push-clause-made c =
+    if-refused _ c.from_residual.result
+    (extents_refused _ _ _ _ _ _ _ c.loop-run.invariant c.in-Some.run' c.in-Some.next c.in-Some.ensures.run c.in-Some.ensures.next.1 c.push.new.storage c.in_err-push.ensures.made)

@@ -4,11 +4,11 @@ use Rattle.storage_changes.specs.Ending.{SightRow, ended_below, owned_in, seen_b
 use Rattle.storage_changes.specs.State.{StorageState}
 use Rattle.storage_changes.specs.declared.record.Record.{Record}
 use Rattle.storage_exchange.specs.Storage.{state_of}
-use Rattle.storage_swap.proofs.BuilderLemmas.{Leads, builds-follow, leads-none}
+use Rattle.storage_swap.proofs.BuilderLemmas.{Leads, builds-follow, leads-none, if-refused}
 use Rattle.task_plans.specs.Sights.{row_of}
 use Rattle.task_plans.proofs.EndRecords.{never}
 use Rattle.task_plans.proofs.SightLemmas.{still_ends}
-use Rattle.task_plans.proofs.Walks.{walk_all, walk_room, walk_more, walk_less, given_first}
+use Rattle.task_plans.proofs.Walks.{walk_all, walk_room, walk_more, walk_less, given_first, walk_refused}
 use Rattle.task_plans.proofs.end.push_released.Goals as goal
 
 pub loop-seen-init : goal.loop-seen-init
@@ -72,3 +72,19 @@ returns-clause-ok c =
 
 pub returns-clause-needless : goal.returns-clause-needless
 returns-clause-needless c = λ room. refl
+
+pub returns-in_err-push_emptied-clause-made : goal.returns-in_err-push_emptied-clause-made
+returns-in_err-push_emptied-clause-made c =
+    let p = c.args.storage.now in
+    let t = c.loop-seen.storage in
+    let top = c.args.ending.now.tree.top in
+    let m = state_of p in
+    let x = row_of c.in-Some.seen in
+    let w = c.loop-seen.invariant in
+    let h : List SightRow → List Record = λ rows. flat_map (emptying_records m.subpools) (owned_in rows) in
+    let all = h (seen_by_these m.subpools (ended_below m.tasks.parents top)) in
+    let added : StorageState → List Record = λ m. flat_map (emptying_records m.subpools) (owned_in (x ∷ [])) in
+    let its : added (state_of t) ≡ h (x ∷ []) = ap added w.builds.keeps.shows in
+    if-refused _ c.from_residual.result
+    (walk_refused h top p c.args.builder.now t c.loop-seen.builder c.loop-seen.place w.builds all w (given_first (emptying_records m.subpools)) c.in-Some.next x c.in-Some.ensures.next (added (state_of t)) its
+    c.push_emptied.new.storage c.in_err-push_emptied.ensures.made)

@@ -1,13 +1,14 @@
-use Rattle.std.proofs.Common.{◌≡◌, List, [], ◌∷◌, refl, sym, ap, subst}
+use Rattle.std.proofs.Common.{◌≡◌, List, [], ◌∷◌, refl, sym, ap, subst, length}
 use Rattle.std.specs.Prelude.{map}
 use Rattle.subpool_set.specs.Pools.{sharers}
 use Rattle.storage_changes.specs.declared.record.Record.{Record}
 use Rattle.storage_changes.specs.Ending.{unshared}
 use Rattle.storage_exchange.specs.Storage.{state_of}
 use Rattle.storage_swap.specs.Builder.{Pushes}
-use Rattle.storage_swap.proofs.BuilderLemmas.{builds-follow}
+use Rattle.storage_swap.proofs.BuilderLemmas.{builds-follow, if-refused}
 use Rattle.task_plans.proofs.EndRecords.{never}
-use Rattle.task_plans.proofs.Walks.{sharers_all, sharers_room, sharers_more, sharers_less, one_first, rows_are, fewer_rows}
+use Rattle.task_plans.proofs.Walks.{sharers_all, sharers_room, sharers_more, sharers_less, one_first, rows_are, fewer_rows, sharers_refused}
+use Rattle.storage_swap.specs.Growth.{MakesElements}
 use Rattle.task_plans.proofs.end.push_sharers.Goals as goal
 
 pub loop-task-smaller : goal.loop-task-smaller
@@ -53,3 +54,16 @@ returns-clause-ok c =
 
 pub returns-clause-needless : goal.returns-clause-needless
 returns-clause-needless c = λ room. refl
+
+pub returns-in_err-push-clause-made : goal.returns-in_err-push-clause-made
+returns-in_err-push-clause-made c =
+    let p = c.args.storage.now in
+    let q = c.args.subpool in
+    let all = sharers (state_of p).subpools.sight q.number q.owner in
+    let x = c.in-Some.task in
+    let is : c.unseen.result ∷ [] ≡ unshared (q, x) ∷ [] = ap (λ (r : Record). r ∷ []) c.unseen.ensures in
+    let P : List Record → Type 0 = λ rs. MakesElements p.elements c.push.new.storage.elements (length rs) in
+    if-refused _ c.from_residual.result
+    (subst P (sym (rows_are (state_of p).subpools q))
+    (sharers_refused (map (λ task. unshared (q, task))) q all p c.args.builder.now c.loop-task.storage c.loop-task.builder c.loop-task.place c.loop-task.invariant (one_first (λ task. unshared (q, task))) c.in-Some.next x c.in-Some.ensures.next
+    (c.unseen.result ∷ []) is c.push.new.storage c.in_err-push.ensures.made))

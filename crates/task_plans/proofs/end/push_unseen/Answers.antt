@@ -1,4 +1,4 @@
-use Rattle.std.proofs.Common.{◌≡◌, List, [], ◌∷◌, OnOk, refl, sym, ap, ◌∙◌, subst, length, ◌≤◌, arith}
+use Rattle.std.proofs.Common.{◌≡◌, List, [], ◌∷◌, OnOk, refl, sym, ap, ◌∙◌, subst, length, ◌≤◌, arith, OnErr}
 use Rattle.std.specs.Prelude.{map}
 use Rattle.storage_changes.specs.declared.record.Record.{Record}
 use Rattle.storage_changes.specs.Ending.{SightRow, ended_below, rows_with, unshared}
@@ -7,6 +7,7 @@ use Rattle.storage_swap.specs.Builder.{Pushes}
 use Rattle.storage_swap.proofs.BuilderLemmas.{builds-none, pushes-none}
 use Rattle.task_plans.specs.Sights.{row_of}
 use Rattle.task_plans.proofs.EmptyingRecords.{own_goes, others_goes, stays_goes}
+use Rattle.storage_swap.specs.Growth.{MakesElements}
 use Rattle.task_plans.proofs.end.push_unseen.Goals as goal
 
 pub returns-then-is_own : goal.returns-then-is_own
@@ -19,6 +20,7 @@ returns-then-is_own c =
     record {
       builds = done.ensures.builds;
       ok = subst P (sym is) done.ensures.ok;
+      made = (let Q : List SightRow → Type 0 = λ rows. OnErr done.result (MakesElements p.elements done.new.storage.elements (length (map unshared rows))) in subst Q (sym is) done.ensures.made);
       needless = λ room. done.ensures.needless (let Q : List SightRow → Type 0 = λ rows. length (map unshared rows) ≤ p.elements.spare in subst Q is room);
     }
 
@@ -31,6 +33,7 @@ returns-then-is_ended c =
     record {
       builds = builds-none _ _ c.requires.building;
       ok = subst P (sym is) (pushes-none p c.args.builder.now);
+      made = tt;
       needless = λ room. refl;
     }
 
@@ -46,5 +49,6 @@ returns c =
     record {
       builds = done.ensures.builds;
       ok = subst P (sym is) done.ensures.ok;
+      made = (let Q : List Record → Type 0 = λ rs. OnErr done.result (MakesElements p.elements done.new.storage.elements (length rs)) in subst Q (sym is) done.ensures.made);
       needless = λ room. done.ensures.needless (omega (arith, room, ap length is));
     }

@@ -6,13 +6,13 @@ use Rattle.storage_changes.specs.Ending.{SightRow, ended_below, seen_by_these, r
 use Rattle.storage_changes.specs.State.{StorageState}
 use Rattle.storage_changes.specs.declared.record.Record.{Record}
 use Rattle.storage_exchange.specs.Storage.{state_of}
-use Rattle.storage_swap.proofs.BuilderLemmas.{Leads, builds-follow, leads-none}
+use Rattle.storage_swap.proofs.BuilderLemmas.{Leads, builds-follow, leads-none, if-refused}
 use Rattle.task_plans.specs.declared.sights.SightPlace.{SightPlace}
 use Rattle.task_plans.specs.Sights.{row_of, seen_left}
 use Rattle.task_plans.proofs.EndRecords.{never}
 use Rattle.task_plans.proofs.SightLemmas.{still_ends}
 use Rattle.task_plans.proofs.Unshared.{goes_behind, fewer_behind}
-use Rattle.task_plans.proofs.Walks.{walk_all, walk_room, walk_more, walk_less, rows_first}
+use Rattle.task_plans.proofs.Walks.{walk_all, walk_room, walk_more, walk_less, rows_first, walk_refused}
 use Rattle.task_plans.proofs.end.push_unshared.Goals as goal
 
 pub loop-seen-init : goal.loop-seen-init
@@ -110,3 +110,19 @@ returns-clause-needless c = λ room. refl
 
 pub push_unseen-requires-clause-ending : goal.push_unseen-requires-clause-ending
 push_unseen-requires-clause-ending c = still_ends c.args.ending.now _ _ (c.loop-seen.invariant.builds.keeps.shows) c.requires.ending
+
+pub returns-in_err-push_unseen-clause-made : goal.returns-in_err-push_unseen-clause-made
+returns-in_err-push_unseen-clause-made c =
+    let p = c.args.storage.now in
+    let t = c.loop-seen.storage in
+    let top = c.args.ending.now.tree.top in
+    let m = state_of p in
+    let x = row_of c.in-Some.seen in
+    let w = c.loop-seen.invariant in
+    let h : List SightRow → List Record = λ rows. map unshared (flat_map (rows_with m.subpools (ended_below m.tasks.parents top)) rows) in
+    let all = h (seen_by_these m.subpools (ended_below m.tasks.parents top)) in
+    let added : StorageState → List Record = λ m. map unshared (rows_with m.subpools (ended_below m.tasks.parents top) x) in
+    let its : added (state_of t) ≡ h (x ∷ []) = ap added w.builds.keeps.shows ∙ ap (map unshared) (sym (append-nil (rows_with m.subpools (ended_below m.tasks.parents top) x))) in
+    if-refused _ c.from_residual.result
+    (walk_refused h top p c.args.builder.now t c.loop-seen.builder c.loop-seen.place w.builds all w (rows_first unshared (rows_with m.subpools (ended_below m.tasks.parents top))) c.in-Some.next x c.in-Some.ensures.next (added (state_of t)) its
+    c.push_unseen.new.storage c.in_err-push_unseen.ensures.made)

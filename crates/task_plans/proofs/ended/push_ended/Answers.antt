@@ -4,11 +4,11 @@ use Rattle.std.proofs.lemmas.Grind.{flat_map-append}
 use Rattle.storage_changes.specs.declared.record.Record.{Record}
 use Rattle.storage_changes.specs.State.{StorageState}
 use Rattle.storage_exchange.specs.Storage.{state_of}
-use Rattle.storage_swap.proofs.BuilderLemmas.{Leads, builds-follow, leads-none, leads-more, leads-room}
+use Rattle.storage_swap.proofs.BuilderLemmas.{Leads, builds-follow, leads-none, leads-more, leads-room, leads-refused, if-refused}
 use Rattle.storage_changes.specs.Ending.{ended_from, ended_level, ended_below, ended_records}
 use Rattle.task_plans.proofs.Climbs.{level_next}
 use Rattle.task_plans.proofs.Levels.{ended_levels}
-use Rattle.task_plans.proofs.Walks.{ok_last}
+use Rattle.task_plans.proofs.Walks.{ok_last, err_last}
 use Rattle.task_plans.proofs.ended.push_ended.Goals as goal
 
 pub loop-done-init : goal.loop-done-init
@@ -99,3 +99,39 @@ returns-clause-needless c = λ room.
     ∙ ap (λ (x : StorageState). flat_map (ended_records x) (ended_level x.tasks.parents top 0)) (sym w.builds.keeps.shows) in
     let r = leads-room _ _ _ _ _ _ w room in
     c.push_ended_level-2.ensures.needless (omega (arith, r, ap length last))
+
+pub returns-in_err-push_ended_level-clause-made : goal.returns-in_err-push_ended_level-clause-made
+returns-in_err-push_ended_level-clause-made c =
+    let p = c.args.storage.now in
+    let t = c.loop-done.storage in
+    let m = state_of p in
+    let top = c.args.tree.now.top in
+    let levels = c.deepest-levels.result in
+    let done = c.loop-done.done in
+    let w = c.loop-done.invariant in
+    let level : StorageState → List Record = λ x. flat_map (ended_records x) (ended_level x.tasks.parents top (levels - done)) in
+    let later = flat_map (ended_records m) (ended_from m.tasks.parents top (levels - (done + 1))) in
+    let is : flat_map (ended_records m) (ended_from m.tasks.parents top (levels - done)) ≡ level (state_of t) ++ later =
+    ap (flat_map (ended_records m)) (level_next m.tasks.parents top levels done c.loop-done-test.true)
+    ∙ flat_map-append (ended_records m) (ended_level m.tasks.parents top (levels - done)) (ended_from m.tasks.parents top (levels - (done + 1)))
+    ∙ ap (λ (x : StorageState). level x ++ later) (sym w.builds.keeps.shows) in
+    if-refused _ c.from_residual.result
+    (leads-refused _ _ _ _ _ _ w c.push_ended_level.new.storage (level (state_of t)) later is c.in_err-push_ended_level.ensures.made)
+
+pub returns-clause-made : goal.returns-clause-made
+returns-clause-made c =
+    let p = c.args.storage.now in
+    let t = c.loop-done.storage in
+    let m = state_of p in
+    let top = c.args.tree.now.top in
+    let levels = c.deepest-levels.result in
+    let done = c.loop-done.done in
+    let w = c.loop-done.invariant in
+    let none : levels - done ≡ 0 = omega (arith, c.loop-done-test.false) in
+    let last : flat_map (ended_records m) (ended_from m.tasks.parents top (levels - done)) ≡ flat_map (ended_records (state_of t)) (ended_level (state_of t).tasks.parents top 0) =
+    ap (λ n. flat_map (ended_records m) (ended_from m.tasks.parents top n)) none
+    ∙ ap (λ (x : StorageState). flat_map (ended_records x) (ended_level x.tasks.parents top 0)) (sym w.builds.keeps.shows) in
+    let all = flat_map (ended_records m) (ended_below m.tasks.parents top) in
+    let P : List Record → Type 0 = λ rs. Leads p c.args.builder.now all t c.loop-done.builder rs in
+    let end = c.push_ended_level-2 in
+    err_last p t end.new.storage c.args.builder.now c.loop-done.builder all (flat_map (ended_records (state_of t)) (ended_level (state_of t).tasks.parents top 0)) (subst P last w) end.result end.ensures.made

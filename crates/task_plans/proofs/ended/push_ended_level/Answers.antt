@@ -4,7 +4,7 @@ use Rattle.std.specs.List.{flat_map, range_with_len}
 use Rattle.storage_changes.specs.declared.record.Record.{Record}
 use Rattle.storage_changes.specs.State.{StorageState}
 use Rattle.storage_exchange.specs.Storage.{state_of}
-use Rattle.storage_swap.proofs.BuilderLemmas.{builds-follow, leads-more, leads-room}
+use Rattle.storage_swap.proofs.BuilderLemmas.{builds-follow, leads-more, leads-room, leads-refused, if-refused}
 use Rattle.storage_changes.specs.Ending.{is_below_by, ended_records}
 use Rattle.task_plans.proofs.Rests.{run_next}
 use Rattle.task_plans.proofs.Walks.{passed_first}
@@ -45,3 +45,18 @@ loop-task-preserved c =
 
 pub push_ended_at-requires-clause-tree : goal.push_ended_at-requires-clause-tree
 push_ended_at-requires-clause-tree c = still c.args.tree.now.parents.of _ _ (c.loop-task.invariant.builds.keeps.shows) c.requires.tree
+
+pub returns-in_err-push_ended_at-clause-made : goal.returns-in_err-push_ended_at-clause-made
+returns-in_err-push_ended_at-clause-made c =
+    let p = c.args.storage.now in
+    let t = c.loop-task.storage in
+    let task = c.loop-task.task in
+    let w = c.loop-task.invariant in
+    let each : StorageState → List ℕ → List Record = λ m ts. flat_map (ended_records m) (filter (is_below_by m.tasks.parents c.args.tree.now.top c.args.steps) ts) in
+    let later = range_with_len (task + 1) (65 - (task + 1)) in
+    let m = state_of p in
+    let is : each m (range_with_len task (65 - task)) ≡ each (state_of t) (task ∷ []) ++ each m later =
+    ap (each m) (run_next task 65 c.loop-task-test.true) ∙ passed_first (is_below_by m.tasks.parents c.args.tree.now.top c.args.steps) (ended_records m) task later
+    ∙ ap (λ (x : StorageState). each x (task ∷ []) ++ each m later) (sym w.builds.keeps.shows) in
+    if-refused _ c.from_residual.result
+    (leads-refused _ _ _ _ _ _ w c.push_ended_at.new.storage (each (state_of t) (task ∷ [])) (each m later) is c.in_err-push_ended_at.ensures.made)

@@ -3,10 +3,11 @@ use Rattle.storage_changes.specs.declared.record.Record.{Record}
 use Rattle.storage_changes.specs.State.{StorageState}
 use Rattle.storage_exchange.specs.Storage.{state_of}
 use Rattle.storage_swap.specs.Builder.{Pushes}
-use Rattle.storage_swap.proofs.BuilderLemmas.{builds-follow, leads-none}
+use Rattle.storage_swap.proofs.BuilderLemmas.{builds-follow, leads-none, if-refused}
 use Rattle.storage_changes.specs.Attaching.{share_records}
 use Rattle.task_plans.proofs.EndRecords.{never}
-use Rattle.task_plans.proofs.ShareRecords.{each_done, each_room, each_more}
+use Rattle.task_plans.proofs.ShareRecords.{each_done, each_room, each_more, each_refused}
+use Rattle.storage_swap.specs.Growth.{MakesElements}
 use Rattle.task_plans.proofs.passing.push_shares.Goals as goal
 
 pub loop-k-init : goal.loop-k-init
@@ -43,3 +44,12 @@ returns-clause-ok c =
 
 pub returns-clause-needless : goal.returns-clause-needless
 returns-clause-needless c = λ room. refl
+
+pub returns-in_err-push_share-clause-made : goal.returns-in_err-push_share-clause-made
+returns-in_err-push_share-clause-made c =
+    let k = c.loop-k.k in
+    let each : StorageState → ℕ → List Record = λ m. share_records m c.args.task in
+    let P : List ℕ → Type 0 = λ ys. MakesElements c.loop-k.storage.elements c.push_share.new.storage.elements (length (each (state_of c.loop-k.storage) (get_or ys k 0))) in
+    if-refused _ c.from_residual.result
+    (each_refused each c.args.storage.now c.loop-k.storage c.args.builder.now c.loop-k.builder c.args.shared.now.items k c.loop-k.invariant (omega (arith, c.loop-k-test.true, c.len-k-end.ensures.value))
+    c.push_share.new.storage (subst P c.deref.ensures.0 c.in_err-push_share.ensures.made))

@@ -6,5 +6,5 @@ use Rattle.tests_elements.proofs.cells.the_pools_of_a_subpool_are_parked_and_res
 
 pub park_pools-rest-requires : goal.park_pools-rest-requires
 park_pools-rest-requires g c =
-    (pools_stay c.park_pools-parked.new.elements c.discard.new.elements (parked_owned c.park_pools-parked.new.elements c.park_pools-parked.result) [] c.park_pools-parked.new.self c.discard.ensures c.park_pools-parked.ensures.pools
-    (Apart-sym (owned c.park_pools-parked.new.elements c.park_pools-parked.new.self) (parked_owned c.park_pools-parked.new.elements c.park_pools-parked.result) c.park_pools-parked.ensures.apart)).stand
+    (pools_stay c.park_pools-parked.new.elements c.discard.new.elements (parked_owned c.park_pools-parked.new.elements c.park_pools-parked.result) [] c.park_pools-parked.new.self c.discard.ensures c.park_pools-parked.ensures.takes.pools
+    (Apart-sym (owned c.park_pools-parked.new.elements c.park_pools-parked.new.self) (parked_owned c.park_pools-parked.new.elements c.park_pools-parked.result) c.park_pools-parked.ensures.takes.apart)).stand

@@ -1,12 +1,9 @@
-use Rattle.std.proofs.lemmas.Result.{IfOk-weaker}
 use Rattle.macro_statements.specs.Requests.{act_in}
 use Rattle.vsm_machine.specs.Meaning.{settings_of}
 use Rattle.bench_core.specs.Stands.{bench_of}
-use Rattle.vsm_machine.specs.Planned.{CanCarryOut}
-use Rattle.vsm_machine.specs.Changes.{shown}
-use Rattle.vsm_machine.specs.Supplies.{MakesFor}
 use Rattle.bench_core.specs.Sparing.{MakesForStatement}
 use Rattle.bench_core.proofs.Accepted.{refused_as}
+use Rattle.bench_core.proofs.Wanting.{if_ok, spares_wanting}
 use Rattle.bench_core.proofs.bench.Bench.apply.Goals as goal
 
 pub returns-in-Err-clause-keeps : goal.returns-in-Err-clause-keeps
@@ -21,9 +18,12 @@ carry_out-requires c = (act_in c.args.statement.now, c.in-Ok.ensures)
 
 pub returns-in-Ok-clause-made : goal.returns-in-Ok-clause-made
 returns-in-Ok-clause-made c =
+    let x = act_in c.args.statement.now in
+    if_ok c.carry_out.result (MakesForStatement c.args.self.now.machine x c.carry_out.new.self.machine) (c.in-Ok.planned, c.in-Ok.ensures, c.carry_out.ensures.made x c.in-Ok.ensures)
+
+pub returns-in-Ok-clause-sparing : goal.returns-in-Ok-clause-sparing
+returns-in-Ok-clause-sparing c =
     let m = c.args.self.now.machine in
     let n = c.carry_out.new.self.machine in
     let x = act_in c.args.statement.now in
-    let p = c.in-Ok.planned in
-    IfOk-weaker c.carry_out.result (λ _. (y : _) → CanCarryOut (shown m) y p → MakesFor m y p n) (λ _. MakesForStatement m x n)
-    (λ reply made. (p, c.in-Ok.ensures, made x c.in-Ok.ensures)) c.carry_out.ensures.made
+    spares_wanting m x n c.carry_out.result c.carry_out.ensures.wants (c.in-Ok.planned, c.in-Ok.ensures, c.carry_out.ensures.made x c.in-Ok.ensures)

@@ -8,7 +8,7 @@ use Rattle.vsm_machine.specs.Changes.{Whole, DefineNone, UndefineNone, shown, pl
 use Rattle.bench_core.specs.Stands.{bench_of, bench_at}
 use Rattle.bench_core.proofs.Accepted.{reserved_of, accepted_as, stays_readied, gives_of, failed_isnt_ok}
 use Rattle.bench_core.proofs.Applied.{can_swap, applied_fits, applied_apart, applied_whole, applied_settings, kept_bench, kept_directed, next, unchanged_bench, unchanged_fits}
-use Rattle.vsm_machine.proofs.MakingLemmas.{makes_in_all}
+use Rattle.vsm_machine.proofs.MakingLemmas.{makes_in_all, made_none, makes_wanting}
 use Rattle.bench_core.proofs.Supplied.{needs_no_more}
 use Rattle.bench_core.proofs.Moves.{discards_settings}
 use Rattle.bench_core.proofs.bench.Bench.carry_out.Goals as goal
@@ -168,4 +168,10 @@ returns-in-Err-clause-needless c = λ x planned supplied.
 pub returns-clause-made : goal.returns-clause-made
 returns-clause-made c = λ x planned.
     makes_in_all c.args.self.now.machine c.reserve.new.machine c.swap.new.self c.push_reserved.new.s x c.args.planned c.in-Ok.change c.swap.new.c _
-    planned c.in-Ok.ensures.made c.swap.ensures c.push_reserved.ensures.discarded
+    planned c.reserve.ensures.made c.swap.ensures c.push_reserved.ensures.discarded
+
+pub returns-in_err-reserve_place-clause-made : goal.returns-in_err-reserve_place-clause-made
+returns-in_err-reserve_place-clause-made c = λ x planned. made_none c.args.self.now.machine x c.args.planned
+
+pub returns-in-Err-clause-made : goal.returns-in-Err-clause-made
+returns-in-Err-clause-made c = λ x planned. makes_wanting c.args.self.now.machine c.reserve.new.machine x c.args.planned planned c.reserve.ensures.made

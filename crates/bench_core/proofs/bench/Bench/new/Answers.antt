@@ -15,6 +15,7 @@ returns c =
       (λ i. bench_at (c.in_ok-history.ensures i).kept (record { storage = c.in_ok-storage.storage; names = c.new-3.result }) (c.in_ok-history.ensures i).undone)
           ∙ (λ i. new_bench (record { storage = first i; names = c.new-3.ensures.rows i })),
       c.in_ok-storage.ensures.settings,
+      c.in_ok-storage.ensures.made,
     )
 
 pub invariant_of-result : goal.invariant_of-result

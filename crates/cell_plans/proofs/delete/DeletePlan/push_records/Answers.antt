@@ -1,8 +1,8 @@
-use Rattle.std.proofs.Common.{ℕ, ◌+◌, ◌*◌, List, refl, subst, arith}
+use Rattle.std.proofs.Common.{ℕ, ◌+◌, ◌*◌, List, refl, subst, arith, length}
 use Rattle.storage_changes.specs.declared.record.Record.{Record}
 use Rattle.storage_exchange.specs.Storage.{state_of}
-use Rattle.storage_swap.proofs.BuilderLemmas.{builds-follow}
-use Rattle.cell_plans.specs.CellPlans.{delete_change, extents_of_pool}
+use Rattle.storage_swap.proofs.BuilderLemmas.{builds-follow, refused-made, if-refused}
+use Rattle.cell_plans.specs.CellPlans.{delete_change, extents_of_pool, extents_need}
 use Rattle.cell_plans.specs.Noted.{PushesBeside}
 use Rattle.cell_plans.proofs.AreaWalks.{still_can, pushed-before, pushed-behind}
 use Rattle.cell_plans.proofs.DeletePlans.{found_pool, records_are, blanks_are, all_counted}
@@ -44,6 +44,53 @@ returns-in_err-push-2-clause-needless c = λ room.
     let own = (c.cell_pools_are_named.ensures storage.elements storage.subpools c.requires.building.ready.stands.storage.subpools).ids id found.0 found.1 in
     let counted = all_counted m u same id found.0 found.1 own in
     absurd (cc (c.in_err-push-2.ensures.needless (omega (arith, room, counted, c.in_ok-push.ensures.ok.spare, c.in_ok-extents.ensures.ok.spare))))
+
+pub returns-in_err-push-clause-made : goal.returns-in_err-push-clause-made
+returns-in_err-push-clause-made c =
+    let storage = c.args.storage.now in
+    let m = state_of storage in
+    let d = delete_change m c.args.self in
+    let id = c.args.self.pool in
+    let found = found_pool (m.subpools.cells id) c.requires.can.there in
+    let own = (c.cell_pools_are_named.ensures storage.elements storage.subpools c.requires.building.ready.stands.storage.subpools).ids id found.0 found.1 in
+    let counted = all_counted m m refl id found.0 found.1 own in
+    if-refused _ c.from_residual.result
+    (refused-made storage.elements storage.elements c.push.new.storage.elements 0 1 (length d.records + d.blanks) (omega arith) (omega arith) (omega (arith, counted)) c.in_err-push.ensures.made)
+
+pub returns-in_err-extents-clause-made : goal.returns-in_err-extents-clause-made
+returns-in_err-extents-clause-made c =
+    let storage = c.args.storage.now in
+    let m = state_of storage in
+    let d = delete_change m c.args.self in
+    let u = state_of c.push.new.storage in
+    let same = c.push.ensures.builds.keeps.shows in
+    let id = c.args.self.pool in
+    let found = found_pool (m.subpools.cells id) c.requires.can.there in
+    let own = (c.cell_pools_are_named.ensures storage.elements storage.subpools c.requires.building.ready.stands.storage.subpools).ids id found.0 found.1 in
+    let counted = all_counted m u same id found.0 found.1 own in
+    let blanks = blanks_are m u same id found.0 found.1 own _ refl in
+    if-refused _ c.from_residual-in_err-extents.result
+    (refused-made storage.elements c.push.new.storage.elements c.push_extents.new.storage.elements 1 (extents_need u id) (length d.records + d.blanks) c.in_ok-push.ensures.ok.made c.in_ok-push.ensures.ok.live
+    (omega (arith, counted, blanks)) c.in_err-extents.ensures.made)
+
+pub returns-in_err-push-2-clause-made : goal.returns-in_err-push-2-clause-made
+returns-in_err-push-2-clause-made c =
+    let storage = c.args.storage.now in
+    let m = state_of storage in
+    let d = delete_change m c.args.self in
+    let t = c.push.new.storage in
+    let u = state_of t in
+    let v = c.push_extents.new.storage in
+    let same = c.push.ensures.builds.keeps.shows in
+    let id = c.args.self.pool in
+    let found = found_pool (m.subpools.cells id) c.requires.can.there in
+    let own = (c.cell_pools_are_named.ensures storage.elements storage.subpools c.requires.building.ready.stands.storage.subpools).ids id found.0 found.1 in
+    let counted = all_counted m u same id found.0 found.1 own in
+    let blanks = blanks_are m u same id found.0 found.1 own _ refl in
+    let before = pushed-before _ _ _ _ _ _ _ _ _ c.in_ok-push.ensures.ok c.in_ok-extents.ensures.ok in
+    if-refused _ c.from_residual-in_err-push-2.result
+    (refused-made storage.elements v.elements c.push-2.new.storage.elements (extents_need u id + 1) 1 (length d.records + d.blanks) (omega (arith, before.made)) (omega (arith, before.live))
+    (omega (arith, counted, blanks)) c.in_err-push-2.ensures.made)
 
 pub returns-clause-ok : goal.returns-clause-ok
 returns-clause-ok c =

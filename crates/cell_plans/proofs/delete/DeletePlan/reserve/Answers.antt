@@ -1,12 +1,13 @@
 use Rattle.std.proofs.Common.{◌≡◌, ◌+◌, ◌≤◌, ◌++◌, List, length, ap, ◌∙◌, arith}
 use Rattle.std.proofs.lemmas.Result.{IfOk-weaker}
-use Rattle.vsm_elements.specs.Store.{live_count}
+use Rattle.vsm_elements.specs.Store.{made, live_count}
 use Rattle.subpool_storage.specs.Subpools.{no_subpools}
 use Rattle.storage_changes.specs.declared.record.Record.{Record}
 use Rattle.storage_changes.specs.Changes.{change_of, no_pages}
 use Rattle.storage_exchange.specs.Storage.{state_of}
+use Rattle.storage_exchange.specs.declared.storage.Parts.{Parts}
 use Rattle.storage_swap.specs.Builder.{records_in, parked_in}
-use Rattle.storage_swap.specs.Growth.{all_elements, MakesElements}
+use Rattle.storage_swap.specs.Growth.{all_elements}
 use Rattle.storage_swap.proofs.BuilderLemmas.{made-reserves, makes-follow}
 use Rattle.cell_plans.specs.CellPlans.{delete_change}
 use Rattle.cell_plans.proofs.DeletePlans.{delete_is}
@@ -50,6 +51,15 @@ returns-in-Ok-clause-made c =
     let t = c.push_records.new.storage in
     let u = c.finish.new.storage in
     let d = delete_change (state_of p) c.args.self in
-    IfOk-weaker c.finish.result (λ _. MakesElements t.elements u.elements c.in-Ok.blanks) (λ _. MakesElements p.elements u.elements (length d.records + d.blanks))
-    (λ change more. makes-follow (all_elements p.elements) (all_elements t.elements) (all_elements u.elements) (live_count p.elements) (live_count t.elements)
-    (length d.records + d.blanks) c.in-Ok.blanks (length d.records + d.blanks) c.in-Ok.ensures.ok.made (omega (arith, c.in-Ok.ensures.ok.live, c.in-Ok.ensures.blanks)) (omega arith) more) c.finish.ensures.made
+    makes-follow (all_elements p.elements) (all_elements t.elements) (made u.elements) (live_count p.elements) (live_count t.elements)
+    (length d.records + d.blanks) c.in-Ok.blanks (length d.records + d.blanks) c.in-Ok.ensures.ok.made (omega (arith, c.in-Ok.ensures.ok.live, c.in-Ok.ensures.blanks)) (omega arith) c.finish.ensures.made
+
+pub returns-in-Ok-clause-same_frames : goal.returns-in-Ok-clause-same_frames
+returns-in-Ok-clause-same_frames c = c.finish.ensures.same_frames ∙ ap (λ (z : Parts). z.region) c.push_records.ensures.builds.keeps.same
+
+pub returns-in-Err-clause-made : goal.returns-in-Err-clause-made
+returns-in-Err-clause-made c = omega (arith, c.in-Err.ensures.made, c.discard.ensures.as_many)
+
+pub returns-in-Err-clause-same_frames : goal.returns-in-Err-clause-same_frames
+returns-in-Err-clause-same_frames c =
+    ap (λ (z : Parts). z.region) c.discard.ensures.keeps.same ∙ ap (λ (z : Parts). z.region) c.push_records.ensures.builds.keeps.same

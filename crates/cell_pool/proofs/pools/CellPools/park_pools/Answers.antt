@@ -12,7 +12,7 @@ use Rattle.cell_pool.specs.CellPools.{owned, IsCellPools}
 use Rattle.cell_extents.proofs.EntryLemmas.{pool_subpool}
 use Rattle.vsm_model.specs.declared.Subpool.{Subpool}
 use Rattle.vsm_model.specs.Subpools.{same_subpool}
-use Rattle.cell_pool.proofs.ParkLemmas.{moved, append_none, left_is, fewer, gone_rest, gone_went, kept_rest, kept_went, all_rest, all_went, leaves_same, left_kept, out_kept, left_names, left_ids, out_names, out_ids}
+use Rattle.cell_pool.proofs.ParkLemmas.{moved, append_none, left_is, fewer, gone_rest, gone_went, kept_rest, kept_went, all_rest, all_went, leaves_same, takes_out}
 use Rattle.cell_pool.proofs.pools.CellPools.park_pools.Goals as goal
 
 pub count-count-requires : goal.count-count-requires
@@ -69,46 +69,9 @@ loop-left-preserved c =
       spares = c.loop-left.invariant.spares;
     }
 
-pub returns-clause-pools : goal.returns-clause-pools
-unfolding IsCellPools
-returns-clause-pools c =
+pub returns-clause-takes : goal.returns-clause-takes
+unfolding IsCellPools owned
+returns-clause-takes c =
     let past : length (entries c.loop-left.elements c.loop-left.self.table) ≤ c.loop-left.place.index = omega arith in
-    left_kept (lies_in c.args.subpool) c.args.elements.now c.loop-left.elements c.args.self.now c.loop-left.self (record { table = c.loop-left.out }) c.requires c.loop-left.invariant.table c.loop-left.invariant.out (all_rest (lies_in c.args.subpool) (entries c.args.elements.now c.args.self.now.table) (entries c.loop-left.elements c.loop-left.self.table) (entries c.loop-left.elements c.loop-left.out) c.loop-left.place.index past c.loop-left.invariant.rest) (all_went (lies_in c.args.subpool) (entries c.args.elements.now c.args.self.now.table) (entries c.loop-left.elements c.loop-left.self.table) (entries c.loop-left.elements c.loop-left.out) c.loop-left.place.index past c.loop-left.invariant.went)
-
-pub returns-clause-parked : goal.returns-clause-parked
-unfolding IsCellPools
-returns-clause-parked c =
-    let past : length (entries c.loop-left.elements c.loop-left.self.table) ≤ c.loop-left.place.index = omega arith in
-    out_kept (lies_in c.args.subpool) c.args.elements.now c.loop-left.elements c.args.self.now c.loop-left.self (record { table = c.loop-left.out }) c.requires c.loop-left.invariant.table c.loop-left.invariant.out (all_rest (lies_in c.args.subpool) (entries c.args.elements.now c.args.self.now.table) (entries c.loop-left.elements c.loop-left.self.table) (entries c.loop-left.elements c.loop-left.out) c.loop-left.place.index past c.loop-left.invariant.rest) (all_went (lies_in c.args.subpool) (entries c.args.elements.now c.args.self.now.table) (entries c.loop-left.elements c.loop-left.self.table) (entries c.loop-left.elements c.loop-left.out) c.loop-left.place.index past c.loop-left.invariant.went)
-
-pub returns-clause-names : goal.returns-clause-names
-unfolding IsCellPools
-returns-clause-names c =
-    let past : length (entries c.loop-left.elements c.loop-left.self.table) ≤ c.loop-left.place.index = omega arith in
-    left_names (lies_in c.args.subpool) c.args.elements.now c.loop-left.elements c.args.self.now c.loop-left.self (record { table = c.loop-left.out }) c.requires c.loop-left.invariant.table c.loop-left.invariant.out (all_rest (lies_in c.args.subpool) (entries c.args.elements.now c.args.self.now.table) (entries c.loop-left.elements c.loop-left.self.table) (entries c.loop-left.elements c.loop-left.out) c.loop-left.place.index past c.loop-left.invariant.rest) (all_went (lies_in c.args.subpool) (entries c.args.elements.now c.args.self.now.table) (entries c.loop-left.elements c.loop-left.self.table) (entries c.loop-left.elements c.loop-left.out) c.loop-left.place.index past c.loop-left.invariant.went)
-
-pub returns-clause-ids : goal.returns-clause-ids
-unfolding IsCellPools
-returns-clause-ids c =
-    let past : length (entries c.loop-left.elements c.loop-left.self.table) ≤ c.loop-left.place.index = omega arith in
-    left_ids (lies_in c.args.subpool) c.args.elements.now c.loop-left.elements c.args.self.now c.loop-left.self (record { table = c.loop-left.out }) c.requires c.loop-left.invariant.table c.loop-left.invariant.out (all_rest (lies_in c.args.subpool) (entries c.args.elements.now c.args.self.now.table) (entries c.loop-left.elements c.loop-left.self.table) (entries c.loop-left.elements c.loop-left.out) c.loop-left.place.index past c.loop-left.invariant.rest) (all_went (lies_in c.args.subpool) (entries c.args.elements.now c.args.self.now.table) (entries c.loop-left.elements c.loop-left.self.table) (entries c.loop-left.elements c.loop-left.out) c.loop-left.place.index past c.loop-left.invariant.went)
-
-pub returns-clause-names_out : goal.returns-clause-names_out
-unfolding IsCellPools
-returns-clause-names_out c =
-    let past : length (entries c.loop-left.elements c.loop-left.self.table) ≤ c.loop-left.place.index = omega arith in
-    out_names (lies_in c.args.subpool) c.args.elements.now c.loop-left.elements c.args.self.now c.loop-left.self (record { table = c.loop-left.out }) c.requires c.loop-left.invariant.table c.loop-left.invariant.out (all_rest (lies_in c.args.subpool) (entries c.args.elements.now c.args.self.now.table) (entries c.loop-left.elements c.loop-left.self.table) (entries c.loop-left.elements c.loop-left.out) c.loop-left.place.index past c.loop-left.invariant.rest) (all_went (lies_in c.args.subpool) (entries c.args.elements.now c.args.self.now.table) (entries c.loop-left.elements c.loop-left.self.table) (entries c.loop-left.elements c.loop-left.out) c.loop-left.place.index past c.loop-left.invariant.went)
-
-pub returns-clause-ids_out : goal.returns-clause-ids_out
-unfolding IsCellPools
-returns-clause-ids_out c =
-    let past : length (entries c.loop-left.elements c.loop-left.self.table) ≤ c.loop-left.place.index = omega arith in
-    out_ids (lies_in c.args.subpool) c.args.elements.now c.loop-left.elements c.args.self.now c.loop-left.self (record { table = c.loop-left.out }) c.requires c.loop-left.invariant.table c.loop-left.invariant.out (all_rest (lies_in c.args.subpool) (entries c.args.elements.now c.args.self.now.table) (entries c.loop-left.elements c.loop-left.self.table) (entries c.loop-left.elements c.loop-left.out) c.loop-left.place.index past c.loop-left.invariant.rest) (all_went (lies_in c.args.subpool) (entries c.args.elements.now c.args.self.now.table) (entries c.loop-left.elements c.loop-left.self.table) (entries c.loop-left.elements c.loop-left.out) c.loop-left.place.index past c.loop-left.invariant.went)
-
-pub returns-clause-apart : goal.returns-clause-apart
-unfolding owned
-returns-clause-apart c = c.loop-left.invariant.apart
-
-pub returns-clause-owned : goal.returns-clause-owned
-unfolding owned
-returns-clause-owned c = c.loop-left.invariant.owned
+    takes_out (lies_in c.args.subpool) c.args.elements.now c.loop-left.elements c.args.self.now c.loop-left.self (record { table = c.loop-left.out }) c.requires c.loop-left.invariant.table c.loop-left.invariant.out (all_rest (lies_in c.args.subpool) (entries c.args.elements.now c.args.self.now.table) (entries c.loop-left.elements c.loop-left.self.table) (entries c.loop-left.elements c.loop-left.out) c.loop-left.place.index past c.loop-left.invariant.rest) (all_went (lies_in c.args.subpool) (entries c.args.elements.now c.args.self.now.table) (entries c.loop-left.elements c.loop-left.self.table) (entries c.loop-left.elements c.loop-left.out) c.loop-left.place.index past c.loop-left.invariant.went)
+    c.loop-left.invariant.apart c.loop-left.invariant.owned

@@ -8,7 +8,7 @@ use Rattle.cell_pool.specs.Pools.{Pool, first_with, is_named, is_of, id_in}
 use Rattle.cell_extents.specs.Items.{pool_of}
 use Rattle.cell_pool.specs.Kept.{pools_of}
 use Rattle.cell_pool.specs.CellPools.{pool, by_id, IsCellPools}
-use Rattle.cell_pool.specs.Order.{is_behind, is_between, IsNext}
+use Rattle.cell_pool.specs.Order.{is_after, is_between, IsNext}
 use Rattle.cell_pool.proofs.PoolLemmas.{none_more, none_all, found_other, one_named, name_refl}
 use Rattle.cell_extents.proofs.EntryLemmas.{pool_name}
 use Rattle.cell_pool.proofs.OrderLemmas.{lies_between, nearer, none_lies, low_passes, between_low}
@@ -35,7 +35,7 @@ abbrev high_name : Option Candidate → Option (List ℕ)
 high_name o = option_map (λ c. c.name.bytes) o
 
 abbrev IsFound : List Pool → Option (List ℕ) → Option Candidate → Type 0
-IsFound ps low o = IfSome o (λ c. (p : Pool) × (id_in c.id ps ≡ Some p) × (p.name ≡ c.name.bytes) × (is_behind low c.name.bytes ≡ true))
+IsFound ps low o = IfSome o (λ c. (p : Pool) × (id_in c.id ps ≡ Some p) × (p.name ≡ c.name.bytes) × (is_after low c.name.bytes ≡ true))
 
 pub loop-place-preserved : goal.loop-place-preserved
 loop-place-preserved c =
@@ -55,7 +55,7 @@ loop-place-preserved c =
           let M : Option (List ℕ) → Type 0 = λ o. first_with (lies_between low o) (pools_of (take (c.loop-place.place.index + 1) es)) ≡ None in
           record {
             place = c.row-row.ensures.next;
-            found = subst F (sym w.next-is) (p, own, sym named, ap (is_behind low) named ∙ between_low low high p.name hit);
+            found = subst F (sym w.next-is) (p, own, sym named, ap (is_after low) named ∙ between_low low high p.name hit);
             earlier = subst N (sym w.next-is) (subst M (ap Some (sym named)) (nearer low high es c.loop-place.place.index e c.row-row.ensures.entry c.loop-place.invariant.earlier hit));
           })
       | else-is_between w ↦ record {
@@ -90,7 +90,7 @@ returns-in-Some-clause-next c =
     let G : Option Pool → Type 0 = λ z. IfSome z (λ (p : Pool). IsNext (pool c.args.elements.now c.args.self.now) low p.name) in
     subst G (sym f.1) (record {
       there = subst Q (sym (found_other (is_of c.in-Some.candidate.id) (is_named p.name) ps p f.1 (one_named p.name ps c.requires.single) (name_refl p.name))) refl;
-      behind = ap (is_behind low) f.2 ∙ f.3;
+      behind = ap (is_after low) f.2 ∙ f.3;
       first = λ n there behind. sym (low_passes low p.name n behind) ∙ none_lies low (Some p.name) ps near n there;
     })
 

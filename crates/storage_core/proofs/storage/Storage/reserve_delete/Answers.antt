@@ -29,8 +29,8 @@ returns c = record {
       let m = state_in_place s in
       uses_within (live_count c.reserve.new.storage.elements) (live_count s.parts.elements) _ _ (omega (arith, delete-short m (m.subpools.cells c.args.plan.pool))) c.reserve.result c.reserve.ensures.live);
   made = (let s = c.args.self.now in
-      makes_within s.parts.elements c.reserve.new.storage.elements _ _ (omega (arith, delete-short (state_in_place s) ((state_in_place s).subpools.cells c.args.plan.pool))) c.reserve.result c.reserve.ensures.made);
-  made_frames = no_frame_made c.args.self.now.parts.region c.reserve.new.storage.region c.reserve.result c.reserve.ensures.same_frames;
+      makes_within s.parts.elements c.reserve.new.storage.elements _ _ (omega (arith, delete-short (state_in_place s) ((state_in_place s).subpools.cells c.args.plan.pool))) c.reserve.ensures.made);
+  made_frames = no_frame_made c.args.self.now.parts.region c.reserve.new.storage.region c.reserve.ensures.same_frames;
   err = (let s = c.args.self.now in
       failed_stays s.parts c.reserve.new.storage s.held.stands c.reserve.result c.reserve.ensures.grown);
   needless = (λ spare.

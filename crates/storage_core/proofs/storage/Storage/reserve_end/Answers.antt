@@ -26,8 +26,8 @@ returns c = record {
   live = (let s = c.args.self.now in
       uses_within (live_count c.reserve.new.storage.elements) (live_count s.parts.elements) _ _ (end-fits (state_in_place s) c.args.plan) c.reserve.result c.reserve.ensures.live);
   made = (let s = c.args.self.now in
-      makes_within s.parts.elements c.reserve.new.storage.elements _ _ (end-fits (state_in_place s) c.args.plan) c.reserve.result c.reserve.ensures.made);
-  made_frames = no_frame_made c.args.self.now.parts.region c.reserve.new.storage.region c.reserve.result c.reserve.ensures.same_frames;
+      makes_within s.parts.elements c.reserve.new.storage.elements _ _ (end-fits (state_in_place s) c.args.plan) c.reserve.ensures.made);
+  made_frames = no_frame_made c.args.self.now.parts.region c.reserve.new.storage.region c.reserve.ensures.same_frames;
   err = (let s = c.args.self.now in
       failed_stays s.parts c.reserve.new.storage s.held.stands c.reserve.result c.reserve.ensures.grown);
   needless = (λ spare. c.reserve.ensures.needless (omega (arith, spare, end-fits (state_in_place c.args.self.now) c.args.plan)));

@@ -1,5 +1,6 @@
-use Rattle.std.proofs.Common.{ℕ, List, [], sym, subst}
+use Rattle.std.proofs.Common.{ℕ, List, [], sym, ap, subst, arith}
 use Rattle.raw_region.specs.Frames.{PageFrame}
+use Rattle.storage_exchange.specs.declared.storage.Parts.{Parts}
 use Rattle.storage_swap.specs.declared.change.Change.{Change as TheChange}
 use Rattle.storage_swap.specs.Builder.{builder_holds, Finishes}
 use Rattle.storage_swap.proofs.BuilderLemmas.{grown-builds, keeps-follow, finishes}
@@ -17,6 +18,12 @@ returns-in-Err-clause-err c =
     let q = over p c.reserve.new.self in
     keeps-follow p q c.discard.new.storage (builder_holds p b) (builder_holds q b) no_ids
     (grown-builds p b c.requires c.reserve.new.self c.reserve.ensures.kept).keeps c.discard.ensures.keeps
+
+pub returns-in-Err-clause-made : goal.returns-in-Err-clause-made
+returns-in-Err-clause-made c = omega (arith, c.reserve.ensures.live, c.reserve.ensures.bounded, c.discard.ensures.as_many)
+
+pub returns-in-Err-clause-same_frames : goal.returns-in-Err-clause-same_frames
+returns-in-Err-clause-same_frames c = ap (λ (z : Parts). z.region) c.discard.ensures.keeps.same
 
 pub returns-clause-ok : goal.returns-clause-ok
 returns-clause-ok c =

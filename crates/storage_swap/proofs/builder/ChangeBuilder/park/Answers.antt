@@ -1,6 +1,7 @@
 use Rattle.std.proofs.Common.{[], ap, ◌∙◌, arith, true}
 use Rattle.subpool_storage.specs.Subpools.{Subpools, with_own}
 use Rattle.storage_swap.specs.Builder.{Pushes}
+use Rattle.storage_swap.specs.Growth.{MakesElements}
 use Rattle.storage_swap.proofs.KeptLemmas.{over}
 use Rattle.storage_swap.proofs.BuilderLemmas.{if-refused, grown-builds, grown-parked, grown-pushes, park-builds, park-records}
 use Rattle.storage_swap.proofs.builder.ChangeBuilder.park.Goals as goal
@@ -13,6 +14,9 @@ returns-in_err-reserve-clause-err c =
     let p = c.args.storage.now in
     let b = c.args.self.now in
     if-refused (Pushes p b [] (over p c.reserve.new.self) b) c.from_residual.result (grown-pushes p b c.requires.building c.reserve.new.self c.reserve.ensures.kept c.reserve.ensures.grows c.reserve.ensures.live c.reserve.ensures.bounded)
+
+pub returns-in_err-reserve-clause-made : goal.returns-in_err-reserve-clause-made
+returns-in_err-reserve-clause-made c = if-refused (MakesElements c.args.storage.now.elements c.reserve.new.self 1) c.from_residual.result (omega (arith, c.reserve.ensures.live, c.reserve.ensures.bounded))
 
 pub create-requires-clause-stands : goal.create-requires-clause-stands
 create-requires-clause-stands c = (grown-builds c.args.storage.now c.args.self.now c.requires.building c.reserve.new.self c.reserve.ensures.kept).building.ready.stands.parked

@@ -1,6 +1,7 @@
-use Rattle.std.proofs.Common.{[], sym, ap, ◌∙◌}
+use Rattle.std.proofs.Common.{[], arith, sym, ap, ◌∙◌}
 use Rattle.vsm_elements.specs.Chain.{last_or}
 use Rattle.storage_swap.specs.Builder.{Pushes}
+use Rattle.storage_swap.specs.Growth.{MakesElements}
 use Rattle.storage_swap.proofs.KeptLemmas.{over}
 use Rattle.storage_swap.proofs.BuilderLemmas.{if-refused, grown-chain, grown-builds, grown-pushes, push-builds, push-pushes}
 use Rattle.storage_swap.proofs.builder.ChangeBuilder.push.Goals as goal
@@ -13,6 +14,9 @@ returns-in_err-reserve-clause-err c =
     let p = c.args.storage.now in
     let b = c.args.self.now in
     if-refused (Pushes p b [] (over p c.reserve.new.self) b) c.from_residual.result (grown-pushes p b c.requires c.reserve.new.self c.reserve.ensures.kept c.reserve.ensures.grows c.reserve.ensures.live c.reserve.ensures.bounded)
+
+pub returns-in_err-reserve-clause-made : goal.returns-in_err-reserve-clause-made
+returns-in_err-reserve-clause-made c = if-refused (MakesElements c.args.storage.now.elements c.reserve.new.self 1) c.from_residual.result (omega (arith, c.reserve.ensures.live, c.reserve.ensures.bounded))
 
 pub append-self-requires-clause-chain : goal.append-self-requires-clause-chain
 append-self-requires-clause-chain c = (grown-chain c.args.storage.now c.args.self.now c.requires c.reserve.new.self c.reserve.ensures.kept).0

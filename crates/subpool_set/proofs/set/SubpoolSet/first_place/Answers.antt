@@ -1,9 +1,9 @@
-use Rattle.subpool_set.specs.SubpoolSet.{pool, pools_left, IsPoolPlace, IsSubpoolSet}
+use Rattle.subpool_set.specs.SubpoolSet.{pool, pools_left, IsSubpoolPlace, IsSubpoolSet}
 use Rattle.subpool_set.proofs.WalkLemmas.{front_pools}
 use Rattle.subpool_set.proofs.set.SubpoolSet.first_place.Goals as goal
 
 pub returns-clause-place : goal.returns-clause-place
-unfolding IsPoolPlace
+unfolding IsSubpoolPlace
 returns-clause-place c s q = c.first_place.ensures.place s q.rows
 
 pub returns-clause-all : goal.returns-clause-all

@@ -2,9 +2,9 @@ use Rattle.std.proofs.Common.{ℕ, ◌≤◌, List, sym, subst}
 use Rattle.std.specs.List.{All}
 use Rattle.storage_changes.specs.State.{StorageState}
 use Rattle.storage_exchange.specs.Storage.{state_of}
-use Rattle.storage_swap.proofs.BuilderLemmas.{builds-follow}
+use Rattle.storage_swap.proofs.BuilderLemmas.{builds-follow, if-refused}
 use Rattle.task_plans.specs.TaskPlans.{numbers}
-use Rattle.task_plans.proofs.AttachRecords.{task_room, registers_room, attach_pushed}
+use Rattle.task_plans.proofs.AttachRecords.{task_room, registers_room, attach_pushed, task_refused, registers_refused}
 use Rattle.task_plans.proofs.EndRecords.{never}
 use Rattle.task_plans.proofs.NumberLists.{first_private, second_private}
 use Rattle.task_plans.proofs.attach.AttachPlan.push_records.Goals as goal
@@ -45,3 +45,14 @@ pub returns-clause-ok : goal.returns-clause-ok
 returns-clause-ok c =
     attach_pushed c.args.self c.args.storage.now _ _ c.numbers_or_none-given.ensures c.numbers_or_none-shared.ensures
     _ c.args.builder.now _ c.push_task.ensures.builds c.in_ok-push_task.ensures.ok _ _ c.in_ok-push_registers.ensures.ok
+
+pub returns-in_err-push_task-clause-made : goal.returns-in_err-push_task-clause-made
+returns-in_err-push_task-clause-made c =
+    if-refused _ c.from_residual.result
+    (task_refused c.args.self c.args.storage.now _ _ c.numbers_or_none-given.ensures c.numbers_or_none-shared.ensures c.push_task.new.storage.elements c.in_err-push_task.ensures.made)
+
+pub returns-in_err-push_registers-clause-made : goal.returns-in_err-push_registers-clause-made
+returns-in_err-push_registers-clause-made c =
+    if-refused _ c.from_residual-in_err-push_registers.result
+    (registers_refused c.args.self c.args.storage.now _ _ c.numbers_or_none-given.ensures c.numbers_or_none-shared.ensures
+    _ c.args.builder.now _ c.push_task.ensures.builds c.in_ok-push_task.ensures.ok c.push_registers.new.storage.elements c.in_err-push_registers.ensures.made)

@@ -6,16 +6,17 @@ use Rattle.storage_changes.specs.declared.record.Record.TheVariants.{Register}
 use Rattle.storage_changes.specs.StorageActions.{register_records}
 use Rattle.storage_exchange.specs.Storage.{state_of}
 use Rattle.storage_swap.specs.Builder.{Pushes}
-use Rattle.storage_swap.proofs.BuilderLemmas.{builds-follow}
+use Rattle.storage_swap.proofs.BuilderLemmas.{builds-follow, if-refused}
 use Rattle.storage_changes.specs.Ending.{with_turn}
 use Rattle.task_plans.specs.declared.end.EndPlan.{EndPlan}
 use Rattle.task_plans.specs.TaskPlans.{end_registers, rest_records}
 use Rattle.task_plans.proofs.EndRecords.{never}
-use Rattle.task_plans.proofs.FourSteps.{first_room, second_room, third_room, fourth_room, three_pushed}
-use Rattle.task_plans.proofs.RestRecords.{with_top, same_plan, same_room, unseen, gone, tasks, registers, register_room}
+use Rattle.task_plans.proofs.FourSteps.{first_room, second_room, third_room, fourth_room, three_pushed, first_refused, second_refused, third_refused, fourth_refused}
+use Rattle.task_plans.proofs.RestRecords.{with_top, same_plan, same_room, unseen, gone, tasks, registers, register_room, same_refused, register_refused}
 use Rattle.task_plans.proofs.RecordCounts.{no_register}
 use Rattle.task_plans.proofs.Walks.{ok_follows}
 use Rattle.task_plans.proofs.SightLemmas.{still_ends}
+use Rattle.std.proofs.lemmas.Result.{on_err_weaker}
 use Rattle.task_plans.proofs.end.EndPlan.push_rest.Goals as goal
 
 pub returns-in_err-push_unshared-clause-builds : goal.returns-in_err-push_unshared-clause-builds
@@ -88,6 +89,7 @@ returns-in_default c =
       builds = builds-follow _ _ _ _ _ _ (builds-follow _ _ _ _ _ _ c.push_unshared.ensures.builds c.push_removed.ensures.builds) c.push_ended.ensures.builds;
       ok = subst whole same (subst P (sym (append-nil base) ∙ sym (ap (λ rows. base ++ register_records (with_turn m next) rows) (no_register c.args.self.reply c.in_default.not-Returned)))
           (three_pushed (unseen plan) (gone plan) (tasks plan) (registers plan) p _ a _ c.push_unshared.ensures.builds c.in_ok-push_unshared.ensures.ok _ _ c.push_removed.ensures.builds c.in_ok-push_removed.ensures.ok _ _ c.push_ended.ensures.builds c.in_ok-push_ended.ensures.ok));
+      made = tt;
       needless = λ room. refl;
     }
 
@@ -97,3 +99,33 @@ push_removed-requires-clause-ending c = still_ends c.args.ending.now _ _ (c.push
 pub push_ended-requires-clause-tree : goal.push_ended-requires-clause-tree
 push_ended-requires-clause-tree c =
     (still_ends c.args.ending.now _ _ (c.push_removed.ensures.builds.keeps.shows ∙ c.push_unshared.ensures.builds.keeps.shows) c.requires.ending).parents
+
+pub returns-in_err-push_unshared-clause-made : goal.returns-in_err-push_unshared-clause-made
+returns-in_err-push_unshared-clause-made c =
+    let plan = with_top c.args.self c.args.ending.now.tree.top in
+    if-refused _ c.from_residual.result
+    (same_refused c.args.self c.args.ending.now.tree.top c.requires.top (state_of c.args.storage.now) c.args.storage.now.elements c.push_unshared.new.storage.elements
+    (first_refused (unseen plan) (gone plan) (tasks plan) (registers plan) c.args.storage.now c.push_unshared.new.storage.elements c.in_err-push_unshared.ensures.made))
+
+pub returns-in_err-push_removed-clause-made : goal.returns-in_err-push_removed-clause-made
+returns-in_err-push_removed-clause-made c =
+    let plan = with_top c.args.self c.args.ending.now.tree.top in
+    if-refused _ c.from_residual-in_err-push_removed.result
+    (same_refused c.args.self c.args.ending.now.tree.top c.requires.top (state_of c.args.storage.now) c.args.storage.now.elements c.push_removed.new.storage.elements
+    (second_refused (unseen plan) (gone plan) (tasks plan) (registers plan) c.args.storage.now _ c.args.builder.now _ c.push_unshared.ensures.builds c.in_ok-push_unshared.ensures.ok c.push_removed.new.storage.elements c.in_err-push_removed.ensures.made))
+
+pub returns-in_err-push_ended-clause-made : goal.returns-in_err-push_ended-clause-made
+returns-in_err-push_ended-clause-made c =
+    let plan = with_top c.args.self c.args.ending.now.tree.top in
+    if-refused _ c.from_residual-in_err-push_ended.result
+    (same_refused c.args.self c.args.ending.now.tree.top c.requires.top (state_of c.args.storage.now) c.args.storage.now.elements c.push_ended.new.storage.elements
+    (third_refused (unseen plan) (gone plan) (tasks plan) (registers plan) c.args.storage.now _ c.args.builder.now _ c.push_unshared.ensures.builds c.in_ok-push_unshared.ensures.ok
+    _ _ c.push_removed.ensures.builds c.in_ok-push_removed.ensures.ok c.push_ended.new.storage.elements c.in_err-push_ended.ensures.made))
+
+pub returns-in-Returned-clause-made : goal.returns-in-Returned-clause-made
+returns-in-Returned-clause-made c =
+    let plan = with_top c.args.self c.args.ending.now.tree.top in
+    on_err_weaker c.push.result (same_refused c.args.self c.args.ending.now.tree.top c.requires.top (state_of c.args.storage.now) c.args.storage.now.elements c.push.new.storage.elements)
+    (fourth_refused (unseen plan) (gone plan) (tasks plan) (registers plan) c.args.storage.now _ c.args.builder.now _ c.push_unshared.ensures.builds c.in_ok-push_unshared.ensures.ok
+    _ _ c.push_removed.ensures.builds c.in_ok-push_removed.ensures.ok _ _ c.push_ended.ensures.builds c.in_ok-push_ended.ensures.ok c.push.new.storage.elements c.push.result
+    (register_refused plan (state_of c.push_ended.new.storage) c.in-Returned.code c.in-Returned.is c.push_ended.new.storage.elements c.push.new.storage.elements c.push.result c.push.ensures.made))

@@ -1,15 +1,16 @@
-use Rattle.std.proofs.Common.{◌+◌, ◌≤◌, length, arith}
+use Rattle.std.proofs.Common.{◌+◌, ◌≤◌, length, arith, ap, ◌∙◌}
 use Rattle.std.proofs.lemmas.Result.{IfOk-weaker, IfErr-weaker}
-use Rattle.vsm_elements.specs.Store.{live_count}
+use Rattle.vsm_elements.specs.Store.{made, live_count}
 use Rattle.storage_changes.specs.Changes.{change_of, no_pages}
 use Rattle.storage_exchange.specs.Storage.{state_of}
 use Rattle.storage_swap.specs.Builder.{builder_holds, Keeps}
-use Rattle.storage_swap.specs.Growth.{all_elements, MakesElements}
+use Rattle.storage_swap.specs.Growth.{all_elements}
 use Rattle.storage_swap.specs.Reserve.{Grown}
 use Rattle.storage_swap.proofs.BuilderLemmas.{begun-grown, made-reserves, makes-follow}
 use Rattle.task_plans.specs.TaskPlans.{end_change, parks_all}
 use Rattle.task_plans.proofs.EndRecords.{never}
 use Rattle.task_plans.proofs.Reservations.{blanks_room_behind, all_used, all_live, records_room_behind}
+use Rattle.storage_exchange.specs.declared.storage.Parts.{Parts}
 use Rattle.task_plans.proofs.end.EndPlan.reserve.Goals as goal
 
 pub returns-in-Ok-clause-ok : goal.returns-in-Ok-clause-ok
@@ -28,9 +29,18 @@ returns-in-Ok-clause-made c =
     let u = c.finish.new.storage in
     let d = end_change (state_of p) c.args.self in
     let parks = length (parks_all (state_of p) c.args.self.top) in
-    IfOk-weaker c.finish.result (λ _. MakesElements t.elements u.elements c.in-Ok.blanks) (λ _. MakesElements p.elements u.elements (parks + (length d.records + d.blanks)))
-    (λ change more. makes-follow (all_elements p.elements) (all_elements t.elements) (all_elements u.elements) (live_count p.elements) (live_count t.elements)
-    (parks + length d.records) c.in-Ok.blanks (parks + (length d.records + d.blanks)) c.in-Ok.ensures.made (omega (arith, c.in-Ok.ensures.live, c.in-Ok.ensures.blanks)) (omega arith) more) c.finish.ensures.made
+    makes-follow (all_elements p.elements) (all_elements t.elements) (made u.elements) (live_count p.elements) (live_count t.elements)
+    (parks + length d.records) c.in-Ok.blanks (parks + (length d.records + d.blanks)) c.in-Ok.ensures.made (omega (arith, c.in-Ok.ensures.live, c.in-Ok.ensures.blanks)) (omega arith) c.finish.ensures.made
+
+pub returns-in-Ok-clause-same_frames : goal.returns-in-Ok-clause-same_frames
+returns-in-Ok-clause-same_frames c = c.finish.ensures.same_frames ∙ ap (λ (z : Parts). z.region) c.push_records.ensures.builds.keeps.same
+
+pub returns-in-Err-clause-made : goal.returns-in-Err-clause-made
+returns-in-Err-clause-made c = omega (arith, c.in-Err.ensures.made, c.discard.ensures.as_many)
+
+pub returns-in-Err-clause-same_frames : goal.returns-in-Err-clause-same_frames
+returns-in-Err-clause-same_frames c =
+    ap (λ (z : Parts). z.region) c.discard.ensures.keeps.same ∙ ap (λ (z : Parts). z.region) c.push_records.ensures.builds.keeps.same
 
 pub returns-in-Ok-clause-grown : goal.returns-in-Ok-clause-grown
 returns-in-Ok-clause-grown c =
