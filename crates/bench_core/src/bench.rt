@@ -78,9 +78,9 @@ impl Bench {
     /// tables, than it newly assigns pages, or where there is no room for a name that it defines.
     ///
     /// A statement that is refused for anything else takes no memory. For one that is accepted or refused with
-    /// `NoMemory`, at most a block of elements is made beyond the live ones and those of its weight, and no frame beyond
-    /// those of the pages that it newly assigns. What was made for one that is refused stays, as spare elements and
-    /// frames.
+    /// `NoMemory`, at most a block of elements is made beyond the live ones and those of its weight, and no frame
+    /// beyond those of the pages that it newly assigns. What was made for one that is refused stays, as spare elements
+    /// and frames.
     ///
     /// It's a call of its own, so that no other line of a script pays for the room of a plan.
     #[inline(never)]

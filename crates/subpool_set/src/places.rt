@@ -10,8 +10,8 @@ use row_table::{RowPlace, RowTable};
 use vsm_elements::Elements;
 
 // The place behind the last row that was passed.
-/// A place before, between or behind the subpools of a set, from which [`SubpoolSet::next_subpool`] goes on. It is one as
-/// long as the set stays as it is.
+/// A place before, between or after the subpools of a set, from which [`SubpoolSet::next_subpool`] goes on. It is one
+/// as long as the set stays as it is.
 #[derive(Clone, Copy, Debug, PartialEq, Eq)]
 pub struct SubpoolPlace {
     pub(crate) next: RowPlace,

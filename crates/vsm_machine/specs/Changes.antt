@@ -212,7 +212,8 @@ machine_steps = record {
   });
   swap_means = λ m n c d w. (λ i. record { storage = w.storage.turned i; step = w.inverse_step i; known = w.ready i });
   swap_others = λ m n c d x h w.
-      same_meaning m n x (storage_steps.swap_others m.storage.parts n.storage.parts c.storage d.storage x.storage h w.storage)
+      same_meaning m n x
+      (storage_steps.swap_others m.storage.parts n.storage.parts c.storage d.storage x.storage h w.storage)
       (same_ready m.names n.names w.same (step_of x));
   swap_apart = λ m n c d xs h w.
       storage_steps.swap_apart m.storage.parts n.storage.parts c.storage d.storage (storages xs) h w.storage;
