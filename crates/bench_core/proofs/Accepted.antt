@@ -12,7 +12,7 @@ use Rattle.storage_changes.specs.Changes.{Change as StorageChange}
 use Rattle.storage_changes.specs.Changes as storage
 use Rattle.storage_changes.specs.Meaning.{model_of}
 use Rattle.storage_changes.specs.Props.{Fit-prop, NamedState-set, Reply-set, Outcome-set}
-use Rattle.storage_exchange.specs.declared.storage.Parts.{Parts}
+use Rattle.storage_swap.specs.declared.storage.Parts.{Parts}
 use Rattle.storage_swap.specs.declared.change.Change.{Change as RawChange}
 use Rattle.storage_swap.specs.Apart.{AreWhole}
 use Rattle.storage_swap.specs.HistoryKept.{apart-put, hold-append, frames-append}

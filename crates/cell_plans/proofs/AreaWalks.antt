@@ -3,7 +3,7 @@ use Rattle.std.proofs.Common.{◌≡◌, ℕ, zero, suc, ◌+◌, ◌-◌, ◌<�
 use Rattle.std.specs.Prelude.{slice_get}
 use Rattle.std.proofs.Math.Seq.{drop-cons}
 use Rattle.std.proofs.lemmas.List.{drop_all, append_assoc, append-nil}
-use Rattle.vsm_elements.specs.Store.{Store, live_count}
+use Rattle.vsm_elements.specs.Store.{Store, live_count, made}
 use Rattle.vsm_elements.specs.Ownership.{Leaves}
 use Rattle.vsm_elements.specs.Owners.{times, Moves}
 use Rattle.free_queue.specs.declared.queue.FreeQueue.{FreeQueue}
@@ -16,11 +16,11 @@ use Rattle.cell_pool.specs.Pools.{Pool}
 use Rattle.subpool_storage.specs.Subpools.{Subpools, with_free}
 use Rattle.storage_changes.specs.declared.record.Record.{Record}
 use Rattle.storage_changes.specs.State.{StorageState}
-use Rattle.storage_exchange.specs.declared.storage.Parts.{Parts}
-use Rattle.storage_exchange.specs.Storage.{state_of}
+use Rattle.storage_swap.specs.declared.storage.Parts.{Parts}
+use Rattle.storage_swap.specs.Storage.{state_of}
 use Rattle.storage_swap.specs.declared.builder.ChangeBuilder.{ChangeBuilder}
 use Rattle.storage_swap.specs.Builder.{records_in, parked_in, IsBuilding, Builds, Pushes}
-use Rattle.storage_swap.specs.Growth.{all_elements, MakesElements}
+use Rattle.storage_swap.specs.Growth.{MakesElements}
 use Rattle.storage_swap.proofs.KeptLemmas.{over}
 use Rattle.storage_swap.proofs.BuilderLemmas.{Leads, leads-all, leads-room, makes-follow}
 use Rattle.storage_changes.specs.CellActions.{extents_given_back}
@@ -30,7 +30,7 @@ use Rattle.cell_plans.specs.Emptied.{area_of, area_given_back, freed}
 use Rattle.cell_plans.specs.Noted.{noted_count, AreNoted, BuildsBeside, NotesOne, PushesBeside}
 use Rattle.cell_plans.proofs.FreeEnds.{behind, none_behind}
 use Rattle.cell_plans.proofs.GivenAreas.{freed_more}
-use Rattle.cell_plans.proofs.NotedLemmas.{leaves-live, leaves-all, none-noted, stays-free, stays-count, noted-records, noted-parked, noted-builds, gone-moves, builds-on}
+use Rattle.cell_plans.proofs.NotedLemmas.{leaves-live, none-noted, stays-free, stays-count, noted-records, noted-parked, noted-builds, gone-moves, builds-on}
 
 -- the first ones, and the next
 pub next_taken : (xs : List Run) (i : ℕ) (x : Run) → slice_get xs i ≡ Some x → take (i + 1) xs ≡ take i xs ++ x ∷ []
@@ -76,7 +76,7 @@ module _ (p t : Parts) (a b : ChangeBuilder) (rs : List Record) (k : ℕ) (w : L
   pub record_refused : (e : Store) → k < length rs → MakesElements t.elements e 1 → MakesElements p.elements e (length rs)
   record_refused e less m =
       let some : 1 ≤ length (drop k rs) = omega (arith, length-drop k rs, less) in
-      makes-follow (all_elements p.elements) (all_elements t.elements) (all_elements e) (live_count p.elements) (live_count t.elements) (length rs) 1 (length rs) w.made (omega (arith, w.live, some)) (omega arith) m
+      makes-follow (made p.elements) (made t.elements) (made e) (live_count p.elements) (live_count t.elements) (length rs) 1 (length rs) w.made (omega (arith, w.live, some)) (omega arith) m
 
 -- the records by which areas are given back, the first of them first
 abbrev pub areas_given_back : Subpools → Subpool → List Run → List Record
@@ -239,7 +239,7 @@ module _ (p : Subpool) (pool : ℕ) (s : Parts) (a : ChangeBuilder) where
       -- its records are refused
       pub area_refused : (e : Store) → MakesElements t.elements e (length added) → MakesElements s.elements e (length whole + (4 * length all + 1))
       area_refused e refused =
-          makes-follow (all_elements s.elements) (all_elements t.elements) (all_elements e) (live_count s.elements) (live_count t.elements)
+          makes-follow (made s.elements) (made t.elements) (made e) (live_count s.elements) (live_count t.elements)
           (length whole + (4 * length all + 1)) (length added) (length whole + (4 * length all + 1)) w.made (omega (arith, w.live, lengths, w.held, w.within)) (omega arith) refused
 
       pub area_room : length whole + (4 * length all + 1) ≤ s.elements.spare → length added ≤ t.elements.spare
@@ -259,14 +259,14 @@ module _ (p : Subpool) (pool : ℕ) (s : Parts) (a : ChangeBuilder) where
 
           pushed_made : MakesElements s.elements u.elements (length whole + (4 * length all + 1))
           pushed_made =
-              makes-follow (all_elements s.elements) (all_elements t.elements) (all_elements u.elements) (live_count s.elements) (live_count t.elements)
+              makes-follow (made s.elements) (made t.elements) (made u.elements) (live_count s.elements) (live_count t.elements)
               (length whole + (4 * length all + 1)) (length added) (length whole + (4 * length all + 1)) w.made
               (omega (arith, w.live, lengths, w.held, w.within)) (omega arith) pushes.made
 
           -- or it can't be noted
           pub note_refused : (e : Store) → MakesElements u.elements e 2 → MakesElements s.elements e (length whole + (4 * length all + 1))
           note_refused e refused =
-              makes-follow (all_elements s.elements) (all_elements u.elements) (all_elements e) (live_count s.elements) (live_count u.elements)
+              makes-follow (made s.elements) (made u.elements) (made e) (live_count s.elements) (live_count u.elements)
               (length whole + (4 * length all + 1)) 2 (length whole + (4 * length all + 1)) pushed_made
               (omega (arith, w.live, lengths, pushes.live, w.held, is_one_more)) (omega arith) refused
 
@@ -290,7 +290,7 @@ module _ (p : Subpool) (pool : ℕ) (s : Parts) (a : ChangeBuilder) where
               spare = omega (arith, w.spare, lengths, pushes.spare, one.spare, count_stays);
               live = omega (arith, w.live, lengths, pushes.live, one.live, count_stays);
               made =
-                  makes-follow (all_elements s.elements) (all_elements u.elements) (all_elements e) (live_count s.elements) (live_count u.elements)
+                  makes-follow (made s.elements) (made u.elements) (made e) (live_count s.elements) (live_count u.elements)
                   (length whole + (4 * length all + 1)) 2 (length whole + (4 * length all + 1)) pushed_made
                   (omega (arith, w.live, lengths, pushes.live, w.held, is_one_more)) (omega arith) one.made;
               held = omega (arith, one.few, count_stays, w.held);
@@ -310,12 +310,12 @@ module _ (s : Parts) (a : ChangeBuilder) (added : List Record) (room : ℕ) (t :
     parked = noted-parked t b q w.beside e (λ i. 0) (gone-moves s a t b q w e f) ∙ k.parked;
     spare = omega (arith, k.spare, f.spare);
     live = omega (arith, k.live, leaves-live t.elements e (owned t.elements q) [] f within);
-    made = omega (arith, k.made, leaves-all t.elements e (owned t.elements q) [] f within);
+    made = omega (arith, k.made, f.as_many);
   }
 
   -- so much was made before that, and nothing then
   pub still_made : (n : ℕ) → MakesElements s.elements t.elements n → MakesElements s.elements e n
-  still_made n k = omega (arith, k, leaves-all t.elements e (owned t.elements q) [] f within)
+  still_made n k = omega (arith, k, f.as_many)
 
 -- records before and behind
 pub pushed-before : (s t u : Parts) (a b c : ChangeBuilder) (xs ys : List Record) (room : ℕ) → Pushes s a xs t b → PushesBeside t b ys 0 room u c → PushesBeside s a (xs ++ ys) 0 room u c
@@ -324,7 +324,7 @@ pushed-before s t u a b c xs ys room p q = record {
   parked = q.parked ∙ p.parked;
   spare = omega (arith, p.spare, q.spare, length-append xs ys);
   live = omega (arith, p.live, q.live, length-append xs ys);
-  made = makes-follow (all_elements s.elements) (all_elements t.elements) (all_elements u.elements) (live_count s.elements) (live_count t.elements) (length xs) (length ys + room) (length (xs ++ ys) + room) p.made (omega (arith, p.live, length-append xs ys)) (omega (arith, length-append xs ys)) q.made;
+  made = makes-follow (made s.elements) (made t.elements) (made u.elements) (live_count s.elements) (live_count t.elements) (length xs) (length ys + room) (length (xs ++ ys) + room) p.made (omega (arith, p.live, length-append xs ys)) (omega (arith, length-append xs ys)) q.made;
 }
 
 pub pushed-behind : (s t u : Parts) (a b c : ChangeBuilder) (xs ys : List Record) (room : ℕ) → PushesBeside s a xs 0 room t b → Pushes t b ys u c → PushesBeside s a (xs ++ ys) 0 room u c
@@ -333,5 +333,5 @@ pushed-behind s t u a b c xs ys room p q = record {
   parked = q.parked ∙ p.parked;
   spare = omega (arith, p.spare, q.spare, length-append xs ys);
   live = omega (arith, p.live, q.live, length-append xs ys);
-  made = makes-follow (all_elements s.elements) (all_elements t.elements) (all_elements u.elements) (live_count s.elements) (live_count t.elements) (length xs + room) (length ys) (length (xs ++ ys) + room) p.made (omega (arith, p.live, length-append xs ys)) (omega (arith, length-append xs ys)) q.made;
+  made = makes-follow (made s.elements) (made t.elements) (made u.elements) (live_count s.elements) (live_count t.elements) (length xs + room) (length ys) (length (xs ++ ys) + room) p.made (omega (arith, p.live, length-append xs ys)) (omega (arith, length-append xs ys)) q.made;
 }

@@ -11,10 +11,11 @@ use Rattle.free_queue.specs.declared.queue.FreeQueue.{FreeQueue}
 use Rattle.free_queue.specs.FreeQueue.{areas, is_free, owned, IsFreeQueue}
 use Rattle.free_queue.proofs.QueueLemmas.{queues_stand, queues_kept}
 use Rattle.subpool_storage.specs.SubpoolStorage
-use Rattle.storage_exchange.specs.declared.storage.Parts.{Parts}
-use Rattle.storage_exchange.specs.Storage.{hold, hold_with}
+use Rattle.storage_swap.specs.declared.storage.Parts.{Parts}
+use Rattle.storage_swap.specs.Storage.{hold, hold_with}
 use Rattle.storage_swap.specs.declared.builder.ChangeBuilder.{ChangeBuilder}
 use Rattle.storage_swap.specs.Beside.{record_at}
+use Rattle.storage_swap.specs.Growth.{MakesElements}
 use Rattle.storage_swap.specs.Swap.{Ready}
 use Rattle.storage_swap.specs.Builder.{so_far, records_in, parked_in, builder_holds, IsBuilding, Keeps, Builds}
 use Rattle.storage_swap.proofs.KeptLemmas.{over, holds-live, with-live, kept-hold, kept-parked-hold, kept-stands, kept-state, kept-unassigned, kept-parked}
@@ -31,23 +32,17 @@ owned-live s mine own counted =
 live-step : (blocks e t had has : ℕ) → t + has ≡ e + had → had ≤ blocks - e → (blocks - t) + had ≤ (blocks - e) + has
 live-step blocks e t had has same within = omega (arith, same, within)
 
-all-step : (blocks e t had has : ℕ) → t + has ≡ e + had → had ≤ blocks - e → (blocks - t) + t ≤ (blocks - e) + e
-all-step blocks e t had has same within = omega (arith, same, within)
-
 -- a queue of so many elements has so many, while nothing is made
 module _ (e t : Store) (had has : List ℕ) (f : Leaves e t had has) (within : length had ≤ live_count e) where
   pub leaves-live : live_count t + length had ≤ live_count e + length has
   leaves-live = omega (arith, live-step (made e) e.spare t.spare (length had) (length has) f.spare within, f.as_many)
 
-  pub leaves-all : live_count t + t.spare ≤ live_count e + e.spare
-  leaves-all = omega (arith, all-step (made e) e.spare t.spare (length had) (length has) f.spare within, f.as_many)
-
-  pub notes-one : (s : Store) (was : ℕ) → was ≡ length had → s.spare ≤ e.spare → e.spare ≤ max s.spare 129 → live_count e ≡ live_count s → e.spare ≤ t.spare + 1 → NotesOne s t was (length has)
-  notes-one s was is grows bounded live spares = record {
+  pub notes-one : (s : Store) (was : ℕ) → was ≡ length had → s.spare ≤ e.spare → MakesElements s e 2 → live_count e ≡ live_count s → e.spare ≤ t.spare + 1 → NotesOne s t was (length has)
+  notes-one s was is grows grown live spares = record {
     few = omega (arith, is, f.spare, spares);
     spare = omega (arith, is, f.spare, grows);
     live = omega (arith, is, leaves-live, live);
-    made = omega (arith, leaves-all, bounded, live);
+    made = omega (arith, f.as_many, grown);
   }
 
 -- made elements leave the queue as it was

@@ -7,8 +7,8 @@ use Rattle.run_set.specs.Runs.{contains}
 use Rattle.free_queue.specs.declared.queue.FreeQueue.{FreeQueue}
 use Rattle.free_queue.specs.FreeQueue.{is_free, owned, IsFreeQueue}
 use Rattle.storage_changes.specs.declared.record.Record.{Record}
-use Rattle.storage_exchange.specs.declared.storage.Parts.{Parts}
-use Rattle.storage_exchange.specs.Storage.{hold, state_of}
+use Rattle.storage_swap.specs.declared.storage.Parts.{Parts}
+use Rattle.storage_swap.specs.Storage.{hold, state_of}
 use Rattle.storage_swap.specs.declared.builder.ChangeBuilder.{ChangeBuilder}
 use Rattle.storage_swap.specs.Builder.{builder_holds, records_in, parked_in, IsBuilding, Keeps}
 use Rattle.storage_swap.specs.Growth.{MakesElements}

@@ -1,6 +1,6 @@
 //! The areas of a cell pool's extents, in doublewords, one behind the other.
 ghost use Rattle.std.specs.Prelude.{◌≡◌, ◌+◌, ◌^◌, ◌<◌, ◌≤◌, slice_get, IfSome};
-ghost use Rattle.storage_exchange.specs.Storage.{state_of, Stand};
+ghost use Rattle.storage_swap.specs.Storage.{state_of, Stand};
 ghost use Rattle.cell_plans.specs.Areas.{areas_of};
 ghost use Rattle.cell_plans.specs.CellPlans.{CanBeDeleted};
 
@@ -8,7 +8,7 @@ use crate::sizes::extent_doublewords;
 use cell_pool::CellId;
 use free_queue::FreeQueue;
 use run_set::Run;
-use storage_exchange::Parts;
+use storage_swap::Parts;
 
 /// The first extents of a cell pool, so many of them, and a queue of their doublewords.
 #[derive(Clone, Copy)]

@@ -4,10 +4,10 @@ ghost use Rattle.vsm_elements.specs.Store.{live_count};
 ghost use Rattle.vsm_model.specs.declared.limits.Settings.{Settings};
 ghost use Rattle.vsm_model.specs.Regions.{settings_valid};
 ghost use Rattle.vsm_model.specs.Services.{delete};
-ghost use Rattle.storage_exchange.specs.Storage.{hold, state_of, Stand, IsFrameless};
+ghost use Rattle.storage_swap.specs.Storage.{hold, state_of, Stand, IsFrameless};
 ghost use Rattle.storage_plans.specs.Places.{StandsSound};
 ghost use Rattle.storage_swap.specs.Builder.{IsBuilding, Builds};
-ghost use Rattle.storage_swap.specs.Growth.{MakesElements, MakesWithin};
+ghost use Rattle.storage_swap.specs.Growth.{MakesElements};
 ghost use Rattle.storage_swap.specs.Reserve.{Grown, Reserves};
 ghost use Rattle.cell_plans.specs.CellPlans.{delete_change, CanBeDeleted, IsDeletePlanned};
 ghost use Rattle.cell_plans.specs.Noted.{PushesBeside};
@@ -19,8 +19,7 @@ use service_laws::cells::cell_pools_stay_well_formed;
 use std::alloc::AllocError;
 use storage_changes::cells::deleting_leads;
 use storage_changes::{CellPoolRecord, Record, RegisterRecord};
-use storage_exchange::Parts;
-use storage_swap::{Change, ChangeBuilder};
+use storage_swap::{Change, ChangeBuilder, Parts};
 use subpool_storage::laws::cell_pools_are_named;
 use vsm_model::Cause;
 
@@ -74,7 +73,7 @@ impl DeletePlan {
         ensures live { IfOk result (λ _. let d = delete_change (state_of storage.old) self in
             live_count storage.new.elements ≤ live_count storage.old.elements + (length d.records + d.blanks)) }
         ensures made { let d = delete_change (state_of storage.old) self in
-            MakesWithin storage.old.elements storage.new.elements (length d.records + d.blanks) }
+            MakesElements storage.old.elements storage.new.elements (length d.records + d.blanks) }
         ensures same_frames { storage.new.region ≡ storage.old.region }
         ensures needless { let d = delete_change (state_of storage.old) self in
             length d.records + d.blanks ≤ storage.old.elements.spare → IsOk result }

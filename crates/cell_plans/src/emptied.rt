@@ -4,14 +4,14 @@ ghost use Rattle.run_set.specs.Runs.{contains};
 ghost use Rattle.vsm_model.specs.Regions.{pages_for};
 ghost use Rattle.vsm_model.specs.Search.{all_pass};
 ghost use Rattle.storage_changes.specs.StorageActions.{emptied_pages};
-ghost use Rattle.storage_exchange.specs.Storage.{state_of, Stand};
+ghost use Rattle.storage_swap.specs.Storage.{state_of, Stand};
 ghost use Rattle.cell_plans.specs.Areas.{first_areas};
 ghost use Rattle.cell_plans.specs.Emptied.{freed, IsFreeUpTo};
 ghost use Rattle.cell_plans.specs.Noted.{AreNoted};
 
 use crate::areas::FirstExtents;
 use run_set::Run;
-use storage_exchange::Parts;
+use storage_swap::Parts;
 use vsm_model::Subpool;
 use vsm_model::geometry::PAGE_DOUBLEWORDS;
 

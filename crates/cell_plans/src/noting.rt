@@ -11,7 +11,7 @@ ghost use Rattle.cell_plans.specs.Noted.{noted_count, NotesOne};
 use free_queue::{Cover, FreeQueue};
 use run_set::Run;
 use std::alloc::AllocError;
-use storage_exchange::Parts;
+use storage_swap::Parts;
 use vsm_elements::Elements;
 
 // The doubleword is noted, if it isn't yet. Where the one before it is noted, it's joined to that and takes no element.

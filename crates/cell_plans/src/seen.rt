@@ -5,13 +5,13 @@ ghost use Rattle.vsm_model.specs.Cells.{sees_pool};
 ghost use Rattle.vsm_model.specs.Subpools.{sees};
 ghost use Rattle.vsm_model.specs.declared.causes.Cause.TheVariants.{NoCellPool};
 ghost use Rattle.storage_changes.specs.Meaning.{model_of};
-ghost use Rattle.storage_exchange.specs.Storage.{state_of, Stand};
+ghost use Rattle.storage_swap.specs.Storage.{state_of, Stand};
 ghost use Rattle.cell_plans.specs.Seen.{IsSeen};
 
 use cell_pool::laws::pools_are_one;
 use cell_pool::{CellId, CellPoolName};
 use storage_changes::tables::{others_are_not_found, pools_are_found};
-use storage_exchange::Parts;
+use storage_swap::Parts;
 use subpool_storage::laws::cell_pools_are_named;
 use vsm_model::{Cause, Subpool};
 

@@ -1,7 +1,7 @@
 -- How many elements the change of a cell pool that goes has.
 use Rattle.std.proofs.Common.{◌+◌, ◌≤◌, Result, Ok, Err, IfOk, arith}
 use Rattle.storage_changes.specs.State.{StorageState}
-use Rattle.storage_exchange.specs.declared.storage.Parts.{Parts}
+use Rattle.storage_swap.specs.declared.storage.Parts.{Parts}
 use Rattle.storage_swap.specs.declared.change.Change.{Change}
 use Rattle.storage_swap.specs.Reserve.{Reserves}
 use Rattle.cell_plans.specs.declared.delete.DeletePlan.{DeletePlan}

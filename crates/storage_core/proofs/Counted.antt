@@ -10,12 +10,12 @@ use Rattle.subpool_storage.specs.Extents.{extents}
 use Rattle.subpool_storage.specs.Subpools.{Subpools}
 use Rattle.storage_changes.specs.declared.record.Record.{Record}
 use Rattle.storage_changes.specs.Changes.{Change as Meaning, unassigned_records, change_from, change_of, no_pages}
-use Rattle.storage_exchange.specs.declared.storage.Parts.{Parts}
+use Rattle.storage_swap.specs.declared.storage.Parts.{Parts}
 use Rattle.storage_swap.specs.declared.change.Change.{Change}
 use Rattle.raw_region.specs.Pages.{Pages}
 use Rattle.storage_swap.specs.Beside.{record_at, records_of}
 use Rattle.storage_swap.specs.Reserve.{Reserves, elements_for}
-use Rattle.storage_swap.specs.Growth.{MakesElements, MakesFrames, MakesWithin}
+use Rattle.storage_swap.specs.Growth.{MakesElements, MakesFrames}
 use Rattle.storage_core.specs.Planned.{extents_leaving}
 
 follow-length : (s : Store) (id n : ℕ) → length (follow s id n) ≡ n
@@ -69,10 +69,7 @@ uses_within old new n most within (Ok c) used = omega (arith, within, used)
 uses_within old new n most within (Err e) used = used
 
 -- so it is of what is made
-pub made_within : (old new : Store) (n most : ℕ) → n ≤ most → MakesElements old new n → MakesWithin old new most
-made_within old new n most within made = omega (arith, within, made)
-
-pub makes_within : (old new : Store) (n most : ℕ) → n ≤ most → MakesWithin old new n → MakesWithin old new most
+pub makes_within : (old new : Store) (n most : ℕ) → n ≤ most → MakesElements old new n → MakesElements old new most
 makes_within old new n most within made = omega (arith, within, made)
 
 -- of a region that stays no frame is made

@@ -14,8 +14,8 @@ use Rattle.storage_changes.specs.Changes.{Change as Meaning}
 use Rattle.storage_changes.specs.Meaning.{all_subpools, subpool_of, IsSound}
 use Rattle.storage_changes.proofs.Cases.{and-left}
 use Rattle.storage_changes.proofs.FirstLemmas.{first-nothing}
-use Rattle.storage_exchange.specs.declared.storage.Parts.{Parts}
-use Rattle.storage_exchange.specs.Storage.{state_of}
+use Rattle.storage_swap.specs.declared.storage.Parts.{Parts}
+use Rattle.storage_swap.specs.Storage.{state_of}
 use Rattle.storage_swap.specs.declared.change.Change.{Change}
 use Rattle.storage_swap.specs.Fresh.{first_storage, IsFresh, FirstIsFirst}
 use Rattle.storage_swap.specs.Reserve.{Grown, Reserves}

@@ -1,12 +1,12 @@
 -- What is made for a change, and what is made no more once it's there.
 use Rattle.std.proofs.Common.{ℕ, ◌≤◌, refl, ◌∙◌, arith}
-use Rattle.storage_exchange.specs.declared.storage.Parts.{Parts}
+use Rattle.storage_swap.specs.declared.storage.Parts.{Parts}
 use Rattle.storage_swap.specs.declared.change.Change.{Change}
-use Rattle.storage_swap.specs.Growth.{MakesWithin, MakesFrames}
+use Rattle.storage_swap.specs.Growth.{MakesElements, MakesFrames}
 use Rattle.storage_swap.specs.Swap.{Swaps, Discards}
 use Rattle.storage_core.specs.Memory.{MakesNone, Makes}
 
-pub makes_for : (p t : Parts) (n frames : ℕ) → MakesWithin p.elements t.elements n → MakesFrames p.region t.region frames → Makes p t n frames
+pub makes_for : (p t : Parts) (n frames : ℕ) → MakesElements p.elements t.elements n → MakesFrames p.region t.region frames → Makes p t n frames
 makes_for p t n frames elements more = record { elements = elements; frames = more }
 
 pub makes_more : (p t : Parts) (n most frames : ℕ) → n ≤ most → Makes p t n frames → Makes p t most frames

@@ -5,8 +5,8 @@ use Rattle.vsm_elements.specs.Owners.{Moves}
 use Rattle.vsm_elements.proofs.MoveLemmas.{moves-none, moves-follow}
 use Rattle.storage_changes.specs.State.{StorageState}
 use Rattle.storage_changes.specs.Changes.{Change as Meaning}
-use Rattle.storage_exchange.specs.declared.storage.Parts.{Parts}
-use Rattle.storage_exchange.specs.Storage.{hold, state_of, Stand}
+use Rattle.storage_swap.specs.declared.storage.Parts.{Parts}
+use Rattle.storage_swap.specs.Storage.{hold, state_of, Stand}
 use Rattle.storage_swap.specs.declared.change.Change.{Change}
 use Rattle.storage_swap.specs.Reserve.{Grown, Reserves}
 use Rattle.storage_swap.specs.Swap.{change_holds, Discards}

@@ -8,7 +8,7 @@ use Rattle.storage_changes.specs.declared.record.Record.{Record}
 use Rattle.storage_changes.specs.Changes.{Change as Meaning}
 use Rattle.storage_changes.specs.State.{StorageState}
 use Rattle.storage_changes.specs.StorageActions.{register_records}
-use Rattle.storage_exchange.specs.declared.storage.Parts.{Parts}
+use Rattle.storage_swap.specs.declared.storage.Parts.{Parts}
 use Rattle.storage_swap.specs.declared.change.Change.{Change}
 use Rattle.storage_swap.specs.Reserve.{Reserves}
 use Rattle.storage_changes.specs.Attaching.{given_records, gift_records, sharing_records, share_records, zero_records, attach_records, attach_blanks}

@@ -2,7 +2,7 @@
 use Rattle.std.specs.Prelude.{◌≡◌, ℕ, ◌&&◌, not, is_some}
 use Rattle.vsm_model.specs.State.{State}
 use Rattle.run_set.specs.Runs.{Run, inside}
-use Rattle.storage_exchange.specs.declared.storage.Parts.{Parts}
+use Rattle.storage_swap.specs.declared.storage.Parts.{Parts}
 use Rattle.storage_core.specs.Planned.{IsSpareFor}
 
 -- the pages of the run are just those that are assigned in the second state and not in the first

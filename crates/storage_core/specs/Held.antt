@@ -4,9 +4,9 @@ use Rattle.raw_region.specs.Pages.{has_segment}
 use Rattle.vsm_model.specs.declared.limits.Settings.{Settings}
 use Rattle.vsm_model.specs.Regions.{settings_valid, in_a_region}
 use Rattle.storage_changes.specs.Meaning.{IsSound}
-use Rattle.storage_exchange.specs.declared.storage.Parts.{Parts}
-use Rattle.storage_exchange.specs.Storage.{hold, state_of, Stand, IsFrameless}
-use Rattle.storage_exchange.specs.Props.{Stand-prop, IsFrameless-prop}
+use Rattle.storage_swap.specs.declared.storage.Parts.{Parts}
+use Rattle.storage_swap.specs.Storage.{hold, state_of, Stand, IsFrameless}
+use Rattle.storage_swap.specs.Props.{Stand-prop, IsFrameless-prop}
 use Rattle.std.proofs.Props.{props}
 
 -- Its parts stand, no element is two parts', an unassigned page has no frame, each page of the regions can have a

@@ -3,7 +3,7 @@ use Rattle.vsm_model.specs.declared.limits.Settings.{Settings}
 use Rattle.vsm_model.specs.State.{State}
 use Rattle.storage_changes.specs.State.{StorageState}
 use Rattle.storage_changes.specs.Meaning.{model_of}
-use Rattle.storage_exchange.specs.Storage as parts
+use Rattle.storage_swap.specs.Storage as parts
 use Rattle.storage_core.specs.declared.storage.Storage.{Storage}
 
 -- pages, free storage and bytes, as records of changes speak of them

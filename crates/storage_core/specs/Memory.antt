@@ -1,9 +1,9 @@
 -- How much memory a storage and its changes have.
 use Rattle.std.specs.Prelude.{◌≡◌, ℕ}
 use Rattle.vsm_elements.specs.Store.{made}
-use Rattle.storage_exchange.specs.declared.storage.Parts.{Parts}
-use Rattle.storage_exchange.specs.Exchange.{SameFrames}
-use Rattle.storage_swap.specs.Growth.{MakesWithin, MakesFrames}
+use Rattle.storage_swap.specs.declared.storage.Parts.{Parts}
+use Rattle.storage_swap.specs.Exchange.{SameFrames}
+use Rattle.storage_swap.specs.Growth.{MakesElements, MakesFrames}
 
 -- No element and no frame was made, and as many of both are spare: so as many elements are live, and as many frames are
 -- in tables and changes.
@@ -20,5 +20,5 @@ pub record MakesNone (p t : Parts) : Type 0 where
 -- For n elements and the frames of so many pages, at most a block of elements was made beyond these and the live ones,
 -- and no frame beyond these and those that weren't spare.
 pub record Makes (p t : Parts) (n pages : ℕ) : Type 0 where
-  pub elements : MakesWithin p.elements t.elements n
+  pub elements : MakesElements p.elements t.elements n
   pub frames : MakesFrames p.region t.region pages

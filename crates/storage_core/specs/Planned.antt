@@ -16,7 +16,7 @@ use Rattle.vsm_model.specs.declared.Subpool.{Subpool}
 use Rattle.subpool_storage.specs.Extents.{extents}
 use Rattle.subpool_storage.specs.Subpools.{Subpools}
 use Rattle.storage_changes.specs.State.{StorageState}
-use Rattle.storage_exchange.specs.declared.storage.Parts.{Parts}
+use Rattle.storage_swap.specs.declared.storage.Parts.{Parts}
 use Rattle.storage_changes.specs.Changes.{Change, no_pages}
 use Rattle.storage_changes.specs.Meaning.{model_of}
 use Rattle.storage_plans.specs.declared.plan.StoragePlan.{StoragePlan}

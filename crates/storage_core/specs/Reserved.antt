@@ -4,7 +4,7 @@ use Rattle.std.specs.declared.alloc.AllocError.{AllocError}
 use Rattle.vsm_elements.specs.Store.{live_count}
 use Rattle.storage_changes.specs.Changes.{Change}
 use Rattle.storage_swap.specs.declared.change.Change.{Change as TheChange}
-use Rattle.storage_swap.specs.Growth.{MakesWithin, MakesFrames}
+use Rattle.storage_swap.specs.Growth.{MakesElements, MakesFrames}
 use Rattle.storage_swap.specs.Reserve.{Reserves}
 use Rattle.storage_core.specs.declared.storage.Storage.{Storage}
 use Rattle.storage_core.specs.Meaning.{settings_of}
@@ -20,7 +20,7 @@ pub record IsReserved (s : Storage) (d : Change) (most pages : ℕ) (enough : Ty
   pub few : IfOk result (λ change. change.records.count + change.blanks.count ≤ most)
   pub uses : IfOk result (λ _. s.parts.elements.spare ≤ t.parts.elements.spare + most)
   pub live : IfOk result (λ _. live_count t.parts.elements ≤ live_count s.parts.elements + most)
-  pub made : MakesWithin s.parts.elements t.parts.elements most
+  pub made : MakesElements s.parts.elements t.parts.elements most
   pub made_frames : MakesFrames s.parts.region t.parts.region pages
   pub err : OnErr result (Stays s.parts t.parts)
   pub needless : enough → IsOk result

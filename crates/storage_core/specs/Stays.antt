@@ -1,8 +1,8 @@
 -- A storage that stays as it is, with all changes beside it.
 use Rattle.std.specs.Prelude.{◌≡◌, List, [], ◌∷◌}
 use Rattle.vsm_elements.specs.Store.{SameElements}
-use Rattle.storage_exchange.specs.declared.storage.Parts.{Parts}
-use Rattle.storage_exchange.specs.Storage.{state_of}
+use Rattle.storage_swap.specs.declared.storage.Parts.{Parts}
+use Rattle.storage_swap.specs.Storage.{state_of}
 use Rattle.storage_swap.specs.declared.change.Change.{Change}
 use Rattle.storage_swap.specs.Swap.{means}
 use Rattle.storage_swap.specs.Apart.{AreApart, AreWhole}

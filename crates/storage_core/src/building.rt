@@ -1,7 +1,7 @@
 //! The changes by which bytes are stored, and by which a cell pool comes.
 ghost use Rattle.std.specs.Prelude.{◌≡◌, ℕ, None, ◌+◌, ◌^◌, ◌<◌, ◌≤◌, length, IsOk, OnErr, IfOk};
 ghost use Rattle.vsm_elements.specs.Store.{live_count};
-ghost use Rattle.storage_swap.specs.Growth.{MakesWithin, MakesFrames};
+ghost use Rattle.storage_swap.specs.Growth.{MakesElements, MakesFrames};
 ghost use Rattle.storage_swap.specs.Reserve.{Reserves};
 ghost use Rattle.storage_plans.specs.StorePlans.{store_change, CanBeStored};
 ghost use Rattle.cell_plans.specs.CellPlans.{build_change, CanBeBuilt};
@@ -41,7 +41,7 @@ impl Storage {
             + (31 + plan.settings.primary)) }
         ensures live { IfOk result (λ _. live_count self.new.parts.elements ≤ live_count self.old.parts.elements
             + (31 + plan.settings.primary)) }
-        ensures made { MakesWithin self.old.parts.elements self.new.parts.elements (31 + plan.settings.primary) }
+        ensures made { MakesElements self.old.parts.elements self.new.parts.elements (31 + plan.settings.primary) }
         ensures made_frames { MakesFrames self.old.parts.region self.new.parts.region plan.fresh.len }
         ensures err { OnErr result (Stays self.old.parts self.new.parts) }
         ensures needless { IsSpareFor self.old.parts

@@ -4,7 +4,7 @@ ghost use Rattle.vsm_elements.specs.Store.{live_count};
 ghost use Rattle.storage_changes.specs.Changes.{Fit, overlay};
 ghost use Rattle.storage_changes.specs.Meaning.{IsSound};
 ghost use Rattle.storage_plans.specs.Plans.{change_in};
-ghost use Rattle.storage_swap.specs.Growth.{MakesWithin, MakesFrames};
+ghost use Rattle.storage_swap.specs.Growth.{MakesElements, MakesFrames};
 ghost use Rattle.storage_swap.specs.Reserve.{Reserves};
 ghost use Rattle.storage_swap.specs.Swap.{means, Ready, Swaps, Discards};
 ghost use Rattle.storage_core.specs.Meaning.{state_in_place, settings_of};
@@ -49,7 +49,7 @@ impl Storage {
             ≤ self.new.parts.elements.spare + elements_needed (state_in_place self.old) plan) }
         ensures live { IfOk result (λ _. live_count self.new.parts.elements
             ≤ live_count self.old.parts.elements + elements_needed (state_in_place self.old) plan) }
-        ensures made { MakesWithin self.old.parts.elements self.new.parts.elements
+        ensures made { MakesElements self.old.parts.elements self.new.parts.elements
             (elements_needed (state_in_place self.old) plan) }
         ensures made_frames { MakesFrames self.old.parts.region self.new.parts.region (pages_assigned plan) }
         ensures err { OnErr result (Stays self.old.parts self.new.parts) }

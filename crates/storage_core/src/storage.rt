@@ -5,9 +5,8 @@ ghost use Rattle.storage_swap.specs.Apart.{AreWhole};
 ghost use Rattle.storage_core.specs.Held.{IsHeld, IsHeld-prop};
 
 use std::alloc::{AllocError, Global};
-use storage_exchange::Parts;
-use storage_swap::fresh;
 use storage_swap::laws::first_is_first;
+use storage_swap::{Parts, fresh};
 use vsm_model::Settings;
 
 /// Subpools, pages, doublewords and bytes of the regions below and above the 16 MB line (*Assembler Services Guide*,

@@ -12,9 +12,9 @@ use Rattle.storage_changes.specs.Turned.{read}
 use Rattle.storage_changes.specs.StorageActions.{bytes_with}
 use Rattle.raw_region.specs.Pages.{bytes_at}
 use Rattle.raw_region.proofs.ForCallers.{byte_at-assigned}
-use Rattle.storage_exchange.specs.declared.storage.Parts.{Parts}
-use Rattle.storage_exchange.specs.Storage.{state_of}
-use Rattle.storage_exchange.specs.Storage.{IsFrameless}
+use Rattle.storage_swap.specs.declared.storage.Parts.{Parts}
+use Rattle.storage_swap.specs.Storage.{state_of}
+use Rattle.storage_swap.specs.Storage.{IsFrameless}
 use Rattle.storage_plans.specs.Reading.{put_at}
 use Rattle.storage_plans.proofs.BytesRead.{byte_shown}
 

@@ -9,9 +9,9 @@ use Rattle.vsm_model.specs.Bytes.{byte_or_zero, are_there, bytes_from, load}
 use Rattle.vsm_model.specs.State.{State}
 use Rattle.vsm_model.proofs.Least.{all_pass_from, all_pass_stops}
 use Rattle.storage_changes.specs.Meaning.{model_of}
-use Rattle.storage_exchange.specs.declared.storage.Parts.{Parts}
-use Rattle.storage_exchange.specs.Storage.{state_of}
-use Rattle.storage_exchange.specs.Storage.{IsFrameless}
+use Rattle.storage_swap.specs.declared.storage.Parts.{Parts}
+use Rattle.storage_swap.specs.Storage.{state_of}
+use Rattle.storage_swap.specs.Storage.{IsFrameless}
 
 same_place : (a : ℕ) → a ≡ a + 0
 same_place a = omega arith

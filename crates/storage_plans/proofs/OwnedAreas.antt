@@ -23,8 +23,8 @@ use Rattle.storage_changes.specs.State.{StorageState}
 use Rattle.storage_changes.specs.Meaning.{model_of, subpool_of, is_taken, IsSound}
 use Rattle.storage_changes.proofs.Cases.{same-self, same-is, not-not}
 use Rattle.storage_changes.proofs.MeaningLemmas.{named_pages_are_there}
-use Rattle.storage_exchange.specs.declared.storage.Parts.{Parts}
-use Rattle.storage_exchange.specs.Storage.{state_of, IsFrameless}
+use Rattle.storage_swap.specs.declared.storage.Parts.{Parts}
+use Rattle.storage_swap.specs.Storage.{state_of, IsFrameless}
 use Rattle.storage_plans.specs.Places.{region_on}
 use Rattle.storage_plans.proofs.BytesRead.{byte_shown}
 use Rattle.storage_plans.proofs.Regions.{of_a_region}

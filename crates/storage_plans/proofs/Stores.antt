@@ -24,8 +24,8 @@ use Rattle.storage_changes.specs.Turned.{read}
 use Rattle.storage_changes.specs.StorageActions.{bytes_with, blocks_for}
 use Rattle.storage_changes.specs.Leads.{Leads}
 use Rattle.storage_changes.proofs.Writing.{writing_leads}
-use Rattle.storage_exchange.specs.declared.storage.Parts.{Parts}
-use Rattle.storage_exchange.specs.Storage.{state_of, IsFrameless}
+use Rattle.storage_swap.specs.declared.storage.Parts.{Parts}
+use Rattle.storage_swap.specs.Storage.{state_of, IsFrameless}
 use Rattle.storage_plans.specs.declared.store.StorePlan.{StorePlan}
 use Rattle.storage_plans.specs.StorePlans.{store_change, IsStorePlanned}
 use Rattle.storage_plans.proofs.BytesRead.{byte_shown}

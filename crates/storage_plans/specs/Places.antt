@@ -7,8 +7,8 @@ use Rattle.vsm_model.specs.declared.limits.Settings.{Settings}
 use Rattle.vsm_model.specs.Areas.{Place, Inside, Fresh, Nowhere}
 use Rattle.vsm_model.specs.Regions.{Region, low_region, high_region, settings_valid}
 use Rattle.storage_changes.specs.Meaning.{IsSound}
-use Rattle.storage_exchange.specs.declared.storage.Parts.{Parts}
-use Rattle.storage_exchange.specs.Storage.{state_of, Stand}
+use Rattle.storage_swap.specs.declared.storage.Parts.{Parts}
+use Rattle.storage_swap.specs.Storage.{state_of, Stand}
 use Rattle.storage_plans.specs.declared.places.AreaPlace.{AreaPlace}
 use Rattle.storage_plans.specs.declared.places.AreaPlace.TheVariants as areas
 

@@ -7,12 +7,12 @@ ghost use Rattle.vsm_model.specs.Regions.{side};
 ghost use Rattle.vsm_model.specs.Services.{maximum, minimum};
 ghost use Rattle.vsm_model.specs.Subpools.{seen_or_own, sees_one};
 ghost use Rattle.storage_changes.specs.Meaning.{model_of};
-ghost use Rattle.storage_exchange.specs.Storage.{state_of};
+ghost use Rattle.storage_swap.specs.Storage.{state_of};
 ghost use Rattle.storage_plans.specs.ObtainPlans.{IsFound};
 ghost use Rattle.storage_plans.specs.Places.{StandsAt, StandsSound, place_of};
 
 use crate::places::{AreaPlace, area_place, longest_place};
-use storage_exchange::Parts;
+use storage_swap::Parts;
 use vsm_model::geometry::{LAST_SUBPOOL, PAGE_DOUBLEWORDS};
 use vsm_model::{Boundary, Cause, Lengths, Location, Obtain, Residence, Settings, Subpool};
 

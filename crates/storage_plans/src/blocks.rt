@@ -3,12 +3,12 @@ ghost use Rattle.std.specs.Prelude.{◌≡◌, ℕ, ◌+◌, ◌-◌, ◌*◌, �
 ghost use Rattle.storage_changes.specs.Meaning.{model_of};
 ghost use Rattle.storage_changes.specs.Turned.{read};
 ghost use Rattle.storage_changes.specs.StorageActions.{bytes_with};
-ghost use Rattle.storage_exchange.specs.Storage.{state_of, IsFrameless};
+ghost use Rattle.storage_swap.specs.Storage.{state_of, IsFrameless};
 ghost use Rattle.storage_plans.specs.Reading.{put_at};
 
 use crate::reading::load;
 use storage_changes::BytesRecord;
-use storage_exchange::Parts;
+use storage_swap::Parts;
 
 /// The bytes of a block.
 pub(crate) const BLOCK_BYTES: usize = 16;

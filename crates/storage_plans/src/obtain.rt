@@ -5,7 +5,7 @@ ghost use Rattle.vsm_model.specs.declared.replies.Reply.TheVariants.{Obtained};
 ghost use Rattle.vsm_model.specs.Regions.{pages_for, settings_valid};
 ghost use Rattle.vsm_model.specs.Services.{obtain};
 ghost use Rattle.storage_changes.specs.StorageActions.{own_records, register_records, run_of, take_fresh_records};
-ghost use Rattle.storage_exchange.specs.Storage.{state_of};
+ghost use Rattle.storage_swap.specs.Storage.{state_of};
 ghost use Rattle.storage_plans.specs.ObtainPlans.{reply_registers, obtain_records, place_address, place_blanks};
 ghost use Rattle.storage_plans.specs.ObtainPlans.{place_pages, place_records};
 ghost use Rattle.storage_plans.specs.Places.{StandsSound};
@@ -20,7 +20,7 @@ use arrayvec::ArrayVec;
 use descriptor_queue::Page;
 use run_set::Run;
 use storage_changes::{ExtentRecord, OwnRecord, PagesRecord, Record};
-use storage_exchange::Parts;
+use storage_swap::Parts;
 use vsm_model::geometry::{PAGE_BYTES, PAGE_DOUBLEWORDS};
 use vsm_model::{Cause, Lengths, Obtain, Reply, Settings, Subpool};
 

@@ -3,11 +3,11 @@ ghost use Rattle.std.specs.Prelude.{◌≡◌, ◌^◌, ◌<◌, ◌≤◌, true
 ghost use Rattle.vsm_model.specs.Areas.{is_nowhere, place, place_in};
 ghost use Rattle.vsm_model.specs.Regions.{regions_for, settings_valid};
 ghost use Rattle.storage_changes.specs.Meaning.{model_of};
-ghost use Rattle.storage_exchange.specs.Storage.{state_of};
+ghost use Rattle.storage_swap.specs.Storage.{state_of};
 ghost use Rattle.storage_plans.specs.Places.{IsUpTo, StandsAt, StandsSound, place_of, region_on};
 
 use crate::searches::{least_area, least_pages, longest_area, longest_pages};
-use storage_exchange::Parts;
+use storage_swap::Parts;
 use vsm_model::geometry::PAGE_DOUBLEWORDS;
 use vsm_model::{Residence, Settings, Subpool};
 

@@ -9,13 +9,13 @@ ghost use Rattle.vsm_model.specs.Step.{causes};
 ghost use Rattle.storage_changes.specs.Meaning.{model_of, IsSound};
 ghost use Rattle.storage_changes.specs.declared.record.Record.TheVariants.{Register};
 ghost use Rattle.storage_changes.specs.StorageActions.{area_records, register_records, run_of};
-ghost use Rattle.storage_exchange.specs.Storage.{state_of};
+ghost use Rattle.storage_swap.specs.Storage.{state_of};
 ghost use Rattle.storage_plans.specs.Plans.{IsPlanned};
 
 use arrayvec::ArrayVec;
 use run_set::Run;
 use storage_changes::{AreaRecord, Record, RegisterRecord};
-use storage_exchange::Parts;
+use storage_swap::Parts;
 use vsm_model::{Cause, Reply, Subpool};
 
 /// The most records of a plan: those of an area in a new subpool, obtained by bounds.

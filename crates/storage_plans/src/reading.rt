@@ -2,9 +2,9 @@
 ghost use Rattle.std.specs.Prelude.{◌≡◌, length, None, Some, OnOk, OnErr, IfErr};
 ghost use Rattle.vsm_model.specs.Bytes.{load};
 ghost use Rattle.storage_changes.specs.Meaning.{model_of};
-ghost use Rattle.storage_exchange.specs.Storage.{state_of, Stand, IsFrameless};
+ghost use Rattle.storage_swap.specs.Storage.{state_of, Stand, IsFrameless};
 
-use storage_exchange::Parts;
+use storage_swap::Parts;
 use vsm_model::Cause;
 
 /// Reads the bytes from the address on. Refused with `NotAssigned` where one of them doesn't lie in an assigned page,

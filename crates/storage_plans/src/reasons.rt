@@ -7,14 +7,14 @@ ghost use Rattle.vsm_model.specs.Regions.{regions_for, settings_valid};
 ghost use Rattle.vsm_model.specs.Services.{maximum, minimum};
 ghost use Rattle.vsm_model.specs.Subpools.{seen_or_own};
 ghost use Rattle.storage_changes.specs.Meaning.{model_of};
-ghost use Rattle.storage_exchange.specs.Storage.{state_of};
+ghost use Rattle.storage_swap.specs.Storage.{state_of};
 ghost use Rattle.storage_plans.specs.Places.{StandsAt, StandsSound};
 ghost use Rattle.storage_plans.specs.Reasons.{IsReason, least_place, reasons_place};
 
 use crate::areas::{minimum_of, side_of, spacing_of};
 use crate::places::longest_place;
 use crate::searches::{least_area, least_pages, longest_area, longest_pages};
-use storage_exchange::Parts;
+use storage_swap::Parts;
 use vsm_model::geometry::PAGE_DOUBLEWORDS;
 use vsm_model::{Obtain, Residence, Settings, Subpool};
 

@@ -3,12 +3,12 @@ ghost use Rattle.std.specs.Prelude.{◌≡◌, ◌+◌, ◌*◌, ◌^◌, ◌<�
 ghost use Rattle.vsm_model.specs.Areas.{least_fit, least_run};
 ghost use Rattle.vsm_model.specs.Regions.{settings_valid};
 ghost use Rattle.storage_changes.specs.Meaning.{model_of};
-ghost use Rattle.storage_exchange.specs.Storage.{state_of};
+ghost use Rattle.storage_swap.specs.Storage.{state_of};
 ghost use Rattle.storage_plans.specs.Places.{IsUpTo, StandsAt, region_on};
 
 use descriptor_queue::Page;
 use run_set::Run;
-use storage_exchange::Parts;
+use storage_swap::Parts;
 use vsm_model::geometry::{HIGH_PAGE, LOW_PAGE, PAGE_DOUBLEWORDS, PAGE_K};
 use vsm_model::{Residence, Settings, Subpool};
 

@@ -5,14 +5,14 @@ ghost use Rattle.vsm_model.specs.Bytes.{are_there};
 ghost use Rattle.vsm_model.specs.Services.{store};
 ghost use Rattle.storage_changes.specs.Meaning.{model_of};
 ghost use Rattle.storage_changes.specs.StorageActions.{blocks_for, write_records};
-ghost use Rattle.storage_exchange.specs.Storage.{state_of, IsFrameless};
+ghost use Rattle.storage_swap.specs.Storage.{state_of, IsFrameless};
 ghost use Rattle.storage_plans.specs.Places.{StandsSound};
 ghost use Rattle.storage_plans.specs.StorePlans.{IsStorePlanned};
 
 use crate::blocks::{BLOCK_BYTES, block_with};
 use arrayvec::ArrayVec;
 use storage_changes::Record;
-use storage_exchange::Parts;
+use storage_swap::Parts;
 use vsm_model::Cause;
 use vsm_model::geometry::PAGE_BYTES;
 

@@ -9,7 +9,7 @@ ghost use Rattle.vsm_model.specs.Services.{whole};
 ghost use Rattle.vsm_model.specs.Subpools.{seen_or_own};
 ghost use Rattle.storage_changes.specs.Meaning.{model_of};
 ghost use Rattle.storage_changes.specs.StorageActions.{register_records, run_of};
-ghost use Rattle.storage_exchange.specs.Storage.{state_of, Stand};
+ghost use Rattle.storage_swap.specs.Storage.{state_of, Stand};
 ghost use Rattle.storage_plans.specs.Places.{StandsSound};
 ghost use Rattle.storage_plans.specs.Plans.{IsPlanned};
 
@@ -17,7 +17,7 @@ use crate::areas::check_number;
 use crate::plan::{NO_PAGES, PlannedStorage, StoragePlan, push_register};
 use arrayvec::ArrayVec;
 use storage_changes::tables::rows_of_the_others_stay;
-use storage_exchange::Parts;
+use storage_swap::Parts;
 use subpool_storage::laws::cell_pools_are_named;
 use vsm_model::{Cause, Reply, Subpool};
 

@@ -3,7 +3,7 @@ use Rattle.std.proofs.Common.{◌≡◌, sym, ap, ◌∙◌, subst}
 use Rattle.storage_changes.specs.State.{StorageState}
 use Rattle.storage_changes.specs.Changes.{Change, Fit, overlay, inverse}
 use Rattle.storage_changes.proofs.WalkLemmas.{changes_lead_back}
-use Rattle.storage_exchange.specs.Storage.{state_of}
+use Rattle.storage_swap.specs.Storage.{state_of}
 use Rattle.storage_swap.specs.Swap.{means}
 use Rattle.storage_swap.specs.Laws.{SwapsLeadBack}
 

@@ -1,7 +1,7 @@
 -- A change is made record by record beside the storage.
 use Rattle.std.proofs.Common.{◌≡◌, ℕ, ◌+◌, ◌/◌, ◌<◌, ◌≤◌, max, if◌then◌else◌, List, [], ◌∷◌, ◌++◌, length, length-append, map, Some, None, Result, Ok, Err, IfOk, IfErr, IsSome, IsTrue, inl, inr, refl, sym, ap, ◌∙◌, arith, subst}
 use Rattle.std.proofs.lemmas.List.{append_assoc, append-nil}
-use Rattle.vsm_elements.specs.Store.{Store, SameElements, at, live_count}
+use Rattle.vsm_elements.specs.Store.{Store, SameElements, at, live_count, made}
 use Rattle.vsm_elements.specs.Chain.{Link, last_or, links, owned, ids, IsChain}
 use Rattle.vsm_elements.specs.Ownership.{Leaves}
 use Rattle.vsm_elements.specs.declared.chain.Chain.{Chain}
@@ -15,12 +15,12 @@ use Rattle.subpool_storage.specs.SubpoolStorage
 use Rattle.storage_changes.specs.declared.record.Record.{Record}
 use Rattle.storage_changes.specs.Changes.{Change, no_pages}
 use Rattle.storage_changes.proofs.Cases.{cond-out}
-use Rattle.storage_exchange.specs.declared.storage.Parts.{Parts}
-use Rattle.storage_exchange.specs.Storage.{hold, hold_with, byte_held, StandsWith}
+use Rattle.storage_swap.specs.declared.storage.Parts.{Parts}
+use Rattle.storage_swap.specs.Storage.{hold, hold_with, byte_held, StandsWith}
 use Rattle.storage_swap.specs.declared.builder.ChangeBuilder.{ChangeBuilder}
 use Rattle.storage_swap.specs.declared.change.Change.{Change as TheChange}
 use Rattle.storage_swap.specs.Beside.{record_at, records_of}
-use Rattle.storage_swap.specs.Growth.{all_elements, MakesElements}
+use Rattle.storage_swap.specs.Growth.{MakesElements}
 use Rattle.storage_swap.specs.Swap.{change_holds, Ready}
 use Rattle.storage_swap.specs.Reserve.{Grown, MoreTables, Reserves}
 use Rattle.storage_swap.specs.Builder.{so_far, records_in, parked_in, meaning_with, builder_holds, IsBuilding, Keeps, Builds, Pushes, Finishes}
@@ -36,7 +36,7 @@ makes-follow a b c live next m n k first more within second = omega (arith, firs
 -- k were reserved, and then n are refused: both are no more than m
 pub refused-made : (s t u : Store) (k n m : ℕ) → MakesElements s t k → live_count t ≤ live_count s + k → k + n ≤ m → MakesElements t u n → MakesElements s u m
 refused-made s t u k n m first live few second =
-    makes-follow (all_elements s) (all_elements t) (all_elements u) (live_count s) (live_count t) k n m first (omega (arith, live, few)) (omega (arith, few)) second
+    makes-follow (made s) (made t) (made u) (live_count s) (live_count t) k n m first (omega (arith, live, few)) (omega (arith, few)) second
 
 pub made-more : (s e : Store) (n m : ℕ) → n ≤ m → MakesElements s e n → MakesElements s e m
 made-more s e n m few first = refused-made s s e 0 n m (omega arith) (omega arith) (omega (arith, few)) first
@@ -237,8 +237,8 @@ module _ (s : Parts) (a : ChangeBuilder) (h : IsBuilding s a) (e : Store) (same 
   pub grown-parked : parked_in (over s e) a ≡ parked_in s a
   grown-parked = records-parked s a h e a.records grown-chain.0 a.last (h.last ∙ sym (ap (last_or 0) grown-chain.1)) still
 
-  pub grown-pushes : s.elements.spare ≤ e.spare → live_count e ≡ live_count s.elements → e.spare ≤ max s.elements.spare 128 → Pushes s a [] (over s e) a
-  grown-pushes more live few = record { records = grown-records ∙ sym (append-nil (records_in s a)); parked = grown-parked; spare = omega (arith, more); live = omega (arith, live); made = omega (arith, live, few) }
+  pub grown-pushes : s.elements.spare ≤ e.spare → live_count e ≡ live_count s.elements → MakesElements s.elements e 1 → Pushes s a [] (over s e) a
+  grown-pushes more live few = record { records = grown-records ∙ sym (append-nil (records_in s a)); parked = grown-parked; spare = omega (arith, more); live = omega (arith, live); made = omega (arith, few) }
 
   -- one record more, of a spare one
   module _ (added : Record) (end : Store) (chain : Chain) (stand : IsChain end chain) (last : ℕ) (is-last : last ≡ last_or 0 (links end chain)) (put : records_of end chain ≡ records_of e a.records ++ added ∷ [])
@@ -249,7 +249,7 @@ module _ (s : Parts) (a : ChangeBuilder) (h : IsBuilding s a) (e : Store) (same 
         builds-follow s (over s e) (over s end) a a (record { records = chain; last = last; parked = a.parked }) first
         (records-build (over s e) a first.building end chain stand last is-last (moves-of e end (owned e a.records) (owned end chain) f))
 
-    pub push-pushes : s.elements.spare ≤ e.spare → live_count e ≡ live_count s.elements → e.spare ≤ max s.elements.spare 128 → end.spare + 1 ≡ e.spare → Pushes s a (added ∷ []) (over s end) (record { records = chain; last = last; parked = a.parked })
+    pub push-pushes : s.elements.spare ≤ e.spare → live_count e ≡ live_count s.elements → MakesElements s.elements e 1 → end.spare + 1 ≡ e.spare → Pushes s a (added ∷ []) (over s end) (record { records = chain; last = last; parked = a.parked })
     push-pushes more live few less =
         let first : Builds s a (over s e) a = grown-builds in
         record {
@@ -257,7 +257,7 @@ module _ (s : Parts) (a : ChangeBuilder) (h : IsBuilding s a) (e : Store) (same 
           parked = records-parked (over s e) a first.building end chain stand last is-last (moves-of e end (owned e a.records) (owned end chain) f) ∙ grown-parked;
           spare = omega (arith, more, less);
           live = omega (arith, live, less, f.as_many);
-          made = omega (arith, live, few, less, f.as_many);
+          made = omega (arith, few, f.as_many);
         }
 
   -- what is parked becomes something else
@@ -424,13 +424,13 @@ module _ (s t : Parts) (a b : ChangeBuilder) (all left : List Record) (l : Leads
     parked = p.parked ∙ l.parked;
     spare = omega (arith, l.spare, p.spare, ap length is, length-append one rest);
     live = omega (arith, l.live, p.live, ap length is, length-append one rest);
-    made = makes-follow (all_elements s.elements) (all_elements t.elements) (all_elements u.elements) (live_count s.elements) (live_count t.elements) (length all) (length one) (length all) l.made (omega (arith, l.live, ap length is, length-append one rest)) (omega arith) p.made;
+    made = makes-follow (made s.elements) (made t.elements) (made u.elements) (live_count s.elements) (live_count t.elements) (length all) (length one) (length all) l.made (omega (arith, l.live, ap length is, length-append one rest)) (omega arith) p.made;
   }
 
   -- those in front are refused
   pub leads-refused : (u : Parts) (one rest : List Record) → left ≡ one ++ rest → MakesElements t.elements u.elements (length one) → MakesElements s.elements u.elements (length all)
   leads-refused u one rest is m =
-      makes-follow (all_elements s.elements) (all_elements t.elements) (all_elements u.elements) (live_count s.elements) (live_count t.elements) (length all) (length one) (length all) l.made (omega (arith, l.live, ap length is, length-append one rest)) (omega arith) m
+      makes-follow (made s.elements) (made t.elements) (made u.elements) (live_count s.elements) (live_count t.elements) (length all) (length one) (length all) l.made (omega (arith, l.live, ap length is, length-append one rest)) (omega arith) m
 
   -- all came
   pub leads-all : left ≡ [] → Pushes s a all t b
@@ -452,5 +452,5 @@ pushes-follow s t u a b c xs ys p q = record {
   parked = q.parked ∙ p.parked;
   spare = omega (arith, p.spare, q.spare, length-append xs ys);
   live = omega (arith, p.live, q.live, length-append xs ys);
-  made = makes-follow (all_elements s.elements) (all_elements t.elements) (all_elements u.elements) (live_count s.elements) (live_count t.elements) (length xs) (length ys) (length (xs ++ ys)) p.made (omega (arith, p.live, length-append xs ys)) (omega (arith, length-append xs ys)) q.made;
+  made = makes-follow (made s.elements) (made t.elements) (made u.elements) (live_count s.elements) (live_count t.elements) (length xs) (length ys) (length (xs ++ ys)) p.made (omega (arith, p.live, length-append xs ys)) (omega (arith, length-append xs ys)) q.made;
 }

@@ -16,9 +16,9 @@ use Rattle.storage_changes.specs.Turned.{turned}
 use Rattle.storage_changes.specs.Steps.{step}
 use Rattle.storage_changes.specs.Fits.{Fits}
 use Rattle.storage_changes.proofs.Cases.{walk-same}
-use Rattle.storage_exchange.specs.declared.storage.Parts.{Parts}
-use Rattle.storage_exchange.specs.Storage.{hold_with, state_of, walk_of, StandsWith}
-use Rattle.storage_exchange.specs.Exchange.{Exchanges}
+use Rattle.storage_swap.specs.declared.storage.Parts.{Parts}
+use Rattle.storage_swap.specs.Storage.{hold_with, state_of, walk_of, StandsWith}
+use Rattle.storage_swap.specs.Exchange.{Exchanges}
 use Rattle.storage_swap.specs.Beside.{record_at, records_of, hold_both, BesideBoth, SwapsFirst}
 use Rattle.storage_swap.proofs.KeptLemmas.{over, kept-hold-with, kept-stands, kept-state, kept-unassigned, kept-parked}
 

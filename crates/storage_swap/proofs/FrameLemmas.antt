@@ -8,7 +8,7 @@ use Rattle.raw_region.specs.Pages.{Pages, byte_of, bytes_at, byte_at}
 use Rattle.raw_region.specs.Parked.{held_at}
 use Rattle.raw_region.proofs.ForCallers.{byte_at-assigned}
 use Rattle.storage_changes.specs.Changes.{no_pages}
-use Rattle.storage_exchange.specs.Storage.{byte_held}
+use Rattle.storage_swap.specs.Storage.{byte_held}
 
 pub nowhere : (page : ℕ) → inside page no_pages ≡ false
 nowhere page = go (inside page no_pages) refl where

@@ -26,10 +26,10 @@ use Rattle.subpool_storage.specs.Subpools.{no_subpools, with_own}
 use Rattle.subpool_storage.specs.SubpoolStorage.{subpools_of, Stands}
 use Rattle.subpool_storage.specs.SubpoolStorage
 use Rattle.storage_changes.proofs.Cases.{state-same}
-use Rattle.storage_exchange.specs.declared.storage.Parts.{Parts}
-use Rattle.storage_exchange.specs.Storage.{hold, tasks_of, state_of}
+use Rattle.storage_swap.specs.declared.storage.Parts.{Parts}
+use Rattle.storage_swap.specs.Storage.{hold, tasks_of, state_of}
 use Rattle.storage_swap.specs.Fresh.{first_storage, IsFresh}
-use Rattle.storage_exchange.proofs.StructureLemmas.{TasksStay}
+use Rattle.storage_swap.proofs.StructureLemmas.{TasksStay}
 use Rattle.storage_swap.proofs.Below.{trees-kept, storage-owns, storage-stays}
 
 abbrev no_ids : ℕ → ℕ

@@ -18,9 +18,9 @@ use Rattle.subpool_storage.specs.declared.storage.SubpoolStorage.{SubpoolStorage
 use Rattle.subpool_storage.specs.SubpoolStorage.{subpools_of, Stands}
 use Rattle.subpool_storage.specs.SubpoolStorage
 use Rattle.storage_changes.proofs.Cases.{state-same}
-use Rattle.storage_exchange.specs.declared.storage.Parts.{Parts}
-use Rattle.storage_exchange.specs.Storage.{hold, hold_with, tasks_of, state_of, Stand, StandsWith}
-use Rattle.storage_exchange.proofs.StructureLemmas.{TasksStay}
+use Rattle.storage_swap.specs.declared.storage.Parts.{Parts}
+use Rattle.storage_swap.specs.Storage.{hold, hold_with, tasks_of, state_of, Stand, StandsWith}
+use Rattle.storage_swap.proofs.StructureLemmas.{TasksStay}
 use Rattle.storage_swap.proofs.Below.{trees-kept, storage-owns, storage-stays}
 
 -- over other elements

@@ -14,9 +14,9 @@ use Rattle.storage_changes.specs.Turned.{turned, back_onto}
 use Rattle.storage_changes.specs.Steps.{step, walk}
 use Rattle.storage_changes.specs.Fits.{Fits, FitInTurn}
 use Rattle.subpool_storage.specs.declared.storage.SubpoolStorage.{SubpoolStorage}
-use Rattle.storage_exchange.specs.declared.storage.Parts.{Parts}
-use Rattle.storage_exchange.specs.Storage.{state_of, walk_of}
-use Rattle.storage_exchange.specs.Exchange.{HavePlaces, SameFrames}
+use Rattle.storage_swap.specs.declared.storage.Parts.{Parts}
+use Rattle.storage_swap.specs.Storage.{state_of, walk_of}
+use Rattle.storage_swap.specs.Exchange.{HavePlaces, SameFrames}
 use Rattle.storage_swap.specs.Beside.{record_at, records_of, hold_beside, hold_both, Beside, BesideBoth, SwapsFirst, SwapsAll}
 
 -- so far: the storage, the records to come and those that are done, from a storage p and its records c

@@ -21,9 +21,9 @@ use Rattle.storage_changes.specs.Turned.{back_onto}
 use Rattle.storage_changes.specs.Fits.{FitInTurn}
 use Rattle.storage_changes.specs.Changes.{outset, arrival, Fit, inverse}
 use Rattle.storage_changes.proofs.Cases.{state-same, walk-same}
-use Rattle.storage_exchange.specs.declared.storage.Parts.{Parts}
-use Rattle.storage_exchange.specs.Storage.{hold_with, state_of, walk_of, byte_held}
-use Rattle.storage_exchange.specs.Exchange.{HavePlaces, SameFrames}
+use Rattle.storage_swap.specs.declared.storage.Parts.{Parts}
+use Rattle.storage_swap.specs.Storage.{hold_with, state_of, walk_of, byte_held}
+use Rattle.storage_swap.specs.Exchange.{HavePlaces, SameFrames}
 use Rattle.storage_swap.specs.declared.change.Change.{Change as TheChange}
 use Rattle.storage_swap.specs.Beside.{record_at, records_of, hold_beside, Beside, SwapsAll}
 use Rattle.storage_swap.specs.Swap.{means, both_hold, Ready, Swaps}

@@ -4,8 +4,8 @@ use Rattle.vsm_elements.specs.Store.{Store, at}
 use Rattle.vsm_elements.specs.declared.element.Element.{Element}
 use Rattle.vsm_elements.specs.Owners.{Moves}
 use Rattle.vsm_elements.proofs.MoveLemmas.{none-or-some, moves-follow, moves-by, rest-same, once-after}
-use Rattle.storage_exchange.specs.declared.storage.Parts.{Parts}
-use Rattle.storage_exchange.specs.Storage.{hold, Stand}
+use Rattle.storage_swap.specs.declared.storage.Parts.{Parts}
+use Rattle.storage_swap.specs.Storage.{hold, Stand}
 use Rattle.storage_swap.proofs.KeptLemmas.{holds-live}
 
 abbrev pub no_ids : ℕ → ℕ

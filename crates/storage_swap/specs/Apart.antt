@@ -4,9 +4,9 @@ use Rattle.vsm_elements.specs.Store.{Store, at}
 use Rattle.vsm_elements.specs.Chain.{IsChain}
 use Rattle.subpool_storage.specs.SubpoolStorage
 use Rattle.storage_changes.specs.Changes.{Change as Meaning, Fit}
-use Rattle.storage_exchange.specs.declared.storage.Parts.{Parts}
-use Rattle.storage_exchange.specs.Storage.{hold, state_of, Stand, IsFrameless}
-use Rattle.storage_exchange.specs.Exchange.{HavePlaces}
+use Rattle.storage_swap.specs.declared.storage.Parts.{Parts}
+use Rattle.storage_swap.specs.Storage.{hold, state_of, Stand, IsFrameless}
+use Rattle.storage_swap.specs.Exchange.{HavePlaces}
 use Rattle.storage_swap.specs.declared.change.Change.{Change}
 use Rattle.storage_swap.specs.Swap.{means, change_holds, Ready}
 

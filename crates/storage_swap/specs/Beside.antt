@@ -12,9 +12,9 @@ use Rattle.storage_changes.specs.Records.{record_of}
 use Rattle.storage_changes.specs.Steps.{step, walk}
 use Rattle.storage_changes.specs.Turned.{turned, back_onto}
 use Rattle.storage_changes.specs.Fits.{Fits, FitInTurn}
-use Rattle.storage_exchange.specs.declared.storage.Parts.{Parts}
-use Rattle.storage_exchange.specs.Storage.{hold_with, state_of, walk_of, StandsWith}
-use Rattle.storage_exchange.specs.Exchange.{HavePlaces, SameFrames}
+use Rattle.storage_swap.specs.declared.storage.Parts.{Parts}
+use Rattle.storage_swap.specs.Storage.{hold_with, state_of, walk_of, StandsWith}
+use Rattle.storage_swap.specs.Exchange.{HavePlaces, SameFrames}
 
 abbrev pub record_at : Link → Record
 record_at n = record_of n.words

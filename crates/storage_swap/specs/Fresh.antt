@@ -8,8 +8,8 @@ use Rattle.vsm_model.specs.State.{first_state}
 use Rattle.subpool_storage.specs.Subpools.{no_subpools, with_own}
 use Rattle.storage_changes.specs.State.{StorageState}
 use Rattle.storage_changes.specs.Meaning.{model_of}
-use Rattle.storage_exchange.specs.declared.storage.Parts.{Parts}
-use Rattle.storage_exchange.specs.Storage.{hold, state_of, Stand, IsFrameless}
+use Rattle.storage_swap.specs.declared.storage.Parts.{Parts}
+use Rattle.storage_swap.specs.Storage.{hold, state_of, Stand, IsFrameless}
 
 -- task 1 is current, its registers are zero, it owns and sees an empty subpool 0, and no page is assigned
 abbrev pub first_storage : Settings → StorageState

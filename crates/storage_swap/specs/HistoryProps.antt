@@ -5,8 +5,8 @@ use mathlib.Core.HLevel.{Unit-prop, ×_prop}
 use Rattle.vsm_elements.specs.Props.{IsChain-prop}
 use Rattle.subpool_storage.specs.Props.{Stands-prop}
 use Rattle.storage_changes.specs.Props.{Fit-prop}
-use Rattle.storage_exchange.specs.declared.storage.Parts.{Parts}
-use Rattle.storage_exchange.specs.Props.{Stand-prop, IsFrameless-prop, HavePlaces-prop}
+use Rattle.storage_swap.specs.declared.storage.Parts.{Parts}
+use Rattle.storage_swap.specs.Props.{Stand-prop, IsFrameless-prop, HavePlaces-prop}
 use Rattle.storage_swap.specs.declared.change.Change.{Change}
 use Rattle.storage_swap.specs.Props.{Ready-prop}
 use Rattle.storage_swap.specs.Apart.{ChangeStands, AllStand, AreApart, AreWhole, CanSwap}

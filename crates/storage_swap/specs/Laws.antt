@@ -1,8 +1,8 @@
 -- Laws of changes beside the storage.
 use Rattle.std.specs.Prelude.{◌≡◌}
 use Rattle.storage_changes.specs.Changes.{Fit}
-use Rattle.storage_exchange.specs.declared.storage.Parts.{Parts}
-use Rattle.storage_exchange.specs.Storage.{state_of}
+use Rattle.storage_swap.specs.declared.storage.Parts.{Parts}
+use Rattle.storage_swap.specs.Storage.{state_of}
 use Rattle.storage_swap.specs.declared.change.Change.{Change as TheChange}
 use Rattle.storage_swap.specs.Swap.{means, Swaps}
 

@@ -1,3 +1,6 @@
+pub mod Storage
+pub mod Exchange
+pub mod Props
 pub mod Apart
 pub mod HistoryKept
 pub mod Steps
@@ -12,4 +15,3 @@ pub mod Builder
 pub mod Building
 pub mod Fresh
 pub mod Laws
-pub mod Props

@@ -11,8 +11,8 @@ use Rattle.subpool_storage.specs.Subpools.{Subpools, no_subpools, with_own}
 use Rattle.storage_changes.specs.declared.record.Record.{Record}
 use Rattle.storage_changes.specs.declared.record.Record.TheVariants.{Queues}
 use Rattle.storage_changes.specs.Changes.{Change, unassigned_records}
-use Rattle.storage_exchange.specs.declared.storage.Parts.{Parts}
-use Rattle.storage_exchange.specs.Storage.{hold, state_of}
+use Rattle.storage_swap.specs.declared.storage.Parts.{Parts}
+use Rattle.storage_swap.specs.Storage.{hold, state_of}
 use Rattle.storage_swap.specs.declared.change.Change.{Change as TheChange}
 use Rattle.storage_swap.specs.Swap.{means, change_holds, Ready}
 

@@ -5,8 +5,8 @@ use Rattle.vsm_elements.specs.Store.{at}
 use Rattle.vsm_elements.proofs.MoveLemmas.{once-after, all-after}
 use Rattle.storage_changes.specs.State.{StorageState}
 use Rattle.storage_changes.specs.Changes.{Change as Meaning, Fit}
-use Rattle.storage_exchange.specs.declared.storage.Parts.{Parts}
-use Rattle.storage_exchange.specs.Storage.{hold, state_of}
+use Rattle.storage_swap.specs.declared.storage.Parts.{Parts}
+use Rattle.storage_swap.specs.Storage.{hold, state_of}
 use Rattle.storage_swap.specs.declared.change.Change.{Change}
 use Rattle.storage_swap.specs.Swap.{means, change_holds}
 use Rattle.storage_swap.specs.Reserve.{Reserves}

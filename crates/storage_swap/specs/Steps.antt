@@ -5,8 +5,8 @@ use Rattle.vsm_elements.specs.Store.{at}
 use Rattle.vsm_elements.proofs.MoveLemmas.{rest-same, once-after, all-after}
 use Rattle.storage_changes.specs.Changes.{Fit, overlay, inverse}
 use Rattle.storage_changes.proofs.WalkLemmas.{changes_lead_back}
-use Rattle.storage_exchange.specs.declared.storage.Parts.{Parts}
-use Rattle.storage_exchange.specs.Storage.{hold, state_of, Stand}
+use Rattle.storage_swap.specs.declared.storage.Parts.{Parts}
+use Rattle.storage_swap.specs.Storage.{hold, state_of, Stand}
 use Rattle.storage_swap.specs.declared.change.Change.{Change}
 use Rattle.storage_swap.specs.Swap.{means, change_holds, both_hold, Ready, Swaps, Discards}
 use Rattle.step_history.specs.Chain.{Inverts}

@@ -10,9 +10,9 @@ use Rattle.subpool_storage.specs.SubpoolStorage.{subpools_of}
 use Rattle.subpool_storage.specs.SubpoolStorage
 use Rattle.subpool_storage.specs.Held.{GivenBack}
 use Rattle.storage_changes.specs.Changes.{Change, overlay, inverse}
-use Rattle.storage_exchange.specs.declared.storage.Parts.{Parts}
-use Rattle.storage_exchange.specs.Storage.{hold, state_of, byte_held, StandsWith}
-use Rattle.storage_exchange.specs.Exchange.{HavePlaces, SameFrames}
+use Rattle.storage_swap.specs.declared.storage.Parts.{Parts}
+use Rattle.storage_swap.specs.Storage.{hold, state_of, byte_held, StandsWith}
+use Rattle.storage_swap.specs.Exchange.{HavePlaces, SameFrames}
 use Rattle.storage_swap.specs.declared.change.Change.{Change as TheChange}
 use Rattle.storage_swap.specs.Beside.{records_of}
 

@@ -2,7 +2,7 @@
 use Rattle.std.specs.Prelude.{[]}
 use Rattle.std.proofs.Common.{arith}
 use Rattle.vsm_model.specs.declared.limits.Settings.{Settings}
-use Rattle.storage_exchange.specs.declared.storage.Parts.{Parts}
+use Rattle.storage_swap.specs.declared.storage.Parts.{Parts}
 use Rattle.storage_swap.specs.Fresh.{IsFresh}
 use Rattle.storage_swap.specs.Apart.{AreWhole}
 

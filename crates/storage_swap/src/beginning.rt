@@ -10,11 +10,11 @@ ghost use Rattle.subpool_storage.specs.Subpools.{no_subpools, with_own};
 ghost use Rattle.subpool_storage.specs.SubpoolStorage.{subpools_of, hold, Stands};
 ghost use Rattle.storage_swap.specs.Fresh.{IsFresh};
 
+use crate::storage::Parts;
 use descriptor_queue::Pages;
 use raw_region::{Geometry, Region};
 use run_set::Run;
 use std::alloc::{AllocError, Global};
-use storage_exchange::Parts;
 use subpool_storage::SubpoolStorage;
 use task_tree::TaskTree;
 use vsm_elements::Elements;

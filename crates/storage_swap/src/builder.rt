@@ -4,19 +4,19 @@ ghost use Rattle.std.specs.Prelude.{◌≡◌, ℕ, ◌+◌, ◌<◌, ◌≤◌,
 ghost use Rattle.vsm_elements.specs.Store.{made, live_count};
 ghost use Rattle.subpool_storage.specs.Held.{GivenBack};
 ghost use Rattle.subpool_storage.specs.Subpools.{no_subpools};
-ghost use Rattle.storage_exchange.specs.declared.storage.Parts.{Parts as TheStorage};
-ghost use Rattle.storage_exchange.specs.Storage.{hold, Stand, IsFrameless};
-ghost use Rattle.storage_swap.specs.Growth.{MakesElements, MakesWithin};
+ghost use Rattle.storage_swap.specs.declared.storage.Parts.{Parts as TheStorage};
+ghost use Rattle.storage_swap.specs.Storage.{hold, Stand, IsFrameless};
+ghost use Rattle.storage_swap.specs.Growth.{MakesElements};
 ghost use Rattle.storage_swap.specs.Builder.{builder_holds, records_in, parked_in};
 ghost use Rattle.storage_swap.specs.Builder.{IsBuilding, Keeps, Builds, Pushes, Parks, Finishes};
 
 use crate::chains::append;
 use crate::change::{Change, discard_elements};
 use crate::reserve::take_blanks;
+use crate::storage::Parts;
 use raw_region::Parked;
 use std::alloc::AllocError;
 use storage_changes::Record;
-use storage_exchange::Parts;
 use subpool_storage::SubpoolStorage;
 use vsm_elements::{Chain, Id};
 use vsm_model::Subpool;
@@ -103,7 +103,7 @@ impl ChangeBuilder {
         ensures err { IfErr result (λ _. Keeps storage.old storage.new (builder_holds storage.old self) (λ i. 0)) }
         ensures uses { IfOk result (λ _. storage.old.elements.spare ≤ storage.new.elements.spare + blanks) }
         ensures live { IfOk result (λ _. live_count storage.new.elements ≤ live_count storage.old.elements + blanks) }
-        ensures made { MakesWithin storage.old.elements storage.new.elements blanks }
+        ensures made { MakesElements storage.old.elements storage.new.elements blanks }
         ensures same_frames { storage.new.region ≡ storage.old.region }
         ensures needless { blanks ≤ storage.old.elements.spare → IsOk result }
     {

@@ -5,13 +5,13 @@ ghost use Rattle.vsm_elements.specs.Owners.{Moves};
 ghost use Rattle.subpool_storage.specs.Held.{GivenBack};
 ghost use Rattle.subpool_storage.specs.SubpoolStorage.{Stands};
 ghost use Rattle.storage_changes.specs.Changes.{Fit};
-ghost use Rattle.storage_exchange.specs.Storage.{state_of};
+ghost use Rattle.storage_swap.specs.Storage.{state_of};
 ghost use Rattle.storage_swap.specs.Swap.{held_by, means, Ready, Swaps, Discards};
 
 use crate::records::{give_back, settle, swap_records};
+use crate::storage::Parts;
 use raw_region::Parked;
 use std::mem;
-use storage_exchange::Parts;
 use subpool_storage::SubpoolStorage;
 use vsm_elements::{Chain, Elements};
 

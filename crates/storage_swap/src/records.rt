@@ -5,11 +5,11 @@ ghost use Rattle.vsm_elements.specs.Chain.{owned, IsChain};
 ghost use Rattle.vsm_elements.specs.Ownership.{Leaves};
 ghost use Rattle.storage_changes.specs.declared.record.Record.{Record as TheRecord};
 ghost use Rattle.storage_changes.specs.Fits.{Fits, FitInTurn};
-ghost use Rattle.storage_exchange.specs.Storage.{walk_of};
+ghost use Rattle.storage_swap.specs.Storage.{walk_of};
 ghost use Rattle.storage_swap.specs.Beside.{records_of, Beside, BesideBoth, SwapsFirst, SwapsAll};
 
+use crate::storage::Parts;
 use raw_region::Parked;
-use storage_exchange::Parts;
 use subpool_storage::SubpoolStorage;
 use vsm_elements::{Chain, Elements};
 

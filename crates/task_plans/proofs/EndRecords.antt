@@ -1,17 +1,17 @@
 -- The records of an end come behind one another, where the subpools of the tasks that end were parked.
 use Rattle.std.proofs.Common.{◌≡◌, ℕ, ◌+◌, ◌<◌, ◌≤◌, true, false, List, [], ◌∷◌, ◌++◌, length, length-append, sym, ap, ◌∙◌, subst, arith}
 use Rattle.std.proofs.lemmas.List.{append_assoc}
-use Rattle.vsm_elements.specs.Store.{live_count, Store}
+use Rattle.vsm_elements.specs.Store.{live_count, Store, made}
 use Rattle.subpool_storage.specs.Subpools.{Subpools, no_subpools}
 use Rattle.storage_changes.specs.declared.record.Record.{Record}
 use Rattle.storage_changes.specs.declared.record.Record.TheVariants.{Turn}
 use Rattle.storage_changes.specs.Changes.{empties}
 use Rattle.storage_changes.specs.State.{StorageState}
-use Rattle.storage_exchange.specs.declared.storage.Parts.{Parts}
-use Rattle.storage_exchange.specs.Storage.{state_of}
+use Rattle.storage_swap.specs.declared.storage.Parts.{Parts}
+use Rattle.storage_swap.specs.Storage.{state_of}
 use Rattle.storage_swap.specs.declared.builder.ChangeBuilder.{ChangeBuilder}
 use Rattle.storage_swap.specs.Builder.{records_in, parked_in, Builds, Pushes}
-use Rattle.storage_swap.specs.Growth.{all_elements, MakesElements}
+use Rattle.storage_swap.specs.Growth.{MakesElements}
 use Rattle.storage_swap.proofs.BuilderLemmas.{makes-follow, pushes-follow, refused-made}
 use Rattle.storage_changes.specs.Ending.{ended_below, released_records}
 use Rattle.task_plans.specs.declared.end.EndPlan.{EndPlan}
@@ -162,5 +162,5 @@ module _ (plan : EndPlan) (s t : Parts) (a b : ChangeBuilder) (one : Builds s a 
         end_live = more-live names (length whole) (live_count s.elements) (live_count t.elements) (live_count w.elements) parks.live all-pushed.live
 
         pub end_made : MakesElements s.elements w.elements (names + length whole)
-        end_made = makes-follow (all_elements s.elements) (all_elements t.elements) (all_elements w.elements) (live_count s.elements) (live_count t.elements)
+        end_made = makes-follow (made s.elements) (made t.elements) (made w.elements) (live_count s.elements) (live_count t.elements)
             names (length whole) (names + length whole) parks.made (more-made names (length whole) (live_count s.elements) (live_count t.elements) parks.live) (less-made names (length whole)) all-pushed.made

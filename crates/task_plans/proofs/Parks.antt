@@ -3,18 +3,18 @@ use Rattle.std.proofs.Common.{◌≡◌, ℕ, suc, ◌+◌, ◌≤◌, Bool, tru
 use Rattle.std.specs.Prelude.{if◌then◌else◌}
 use Rattle.std.specs.List.{All, AllPairs}
 use Rattle.std.proofs.lemmas.Bool.{and_parts, both_ways, eqb-true, false_from_ne_true}
-use Rattle.vsm_elements.specs.Store.{live_count, Store}
+use Rattle.vsm_elements.specs.Store.{live_count, Store, made}
 use Rattle.vsm_model.specs.declared.Subpool.{Subpool}
 use Rattle.vsm_model.specs.Subpools.{same_subpool}
 use Rattle.subpool_storage.specs.Subpools.{Subpools, no_subpools, with_own}
 use Rattle.storage_changes.specs.Changes.{empties}
 use Rattle.storage_changes.specs.Names.{AreNames}
 use Rattle.storage_changes.proofs.Cases.{cond-out, same-self}
-use Rattle.storage_exchange.specs.declared.storage.Parts.{Parts}
-use Rattle.storage_exchange.specs.Storage.{state_of}
+use Rattle.storage_swap.specs.declared.storage.Parts.{Parts}
+use Rattle.storage_swap.specs.Storage.{state_of}
 use Rattle.storage_swap.specs.declared.builder.ChangeBuilder.{ChangeBuilder}
 use Rattle.storage_swap.specs.Builder.{records_in, parked_in, IsBuilding, Builds, Parks}
-use Rattle.storage_swap.specs.Growth.{all_elements, MakesElements}
+use Rattle.storage_swap.specs.Growth.{MakesElements}
 use Rattle.storage_swap.proofs.BuilderLemmas.{builds-none, builds-follow, makes-follow}
 use Rattle.storage_changes.specs.State.{StorageState}
 use Rattle.storage_changes.specs.Ending.{SightRow, ended_below, owned_in, seen_by_these}
@@ -150,7 +150,7 @@ module _ (top : ℕ) (s : Parts) (a : ChangeBuilder) where
 
       pub parks_refused : (e : Store) → MakesElements t.elements e (length added) → MakesElements s.elements e (length (parks_all (state_of s) top))
       parks_refused e =
-          makes-follow (all_elements s.elements) (all_elements t.elements) (all_elements e) (live_count s.elements) (live_count t.elements)
+          makes-follow (made s.elements) (made t.elements) (made e) (live_count s.elements) (live_count t.elements)
           (length (parks_all (state_of s) top)) (length added) (length (parks_all (state_of s) top)) w.made (omega (arith, w.live, ap length front, length-append added (left next))) (omega arith)
 
       pub parks_more : (u : Parts) (c : ChangeBuilder) → Builds t b u c → ParksAll t b added u c → ParksLead top s a u c next
@@ -164,6 +164,6 @@ module _ (top : ℕ) (s : Parts) (a : ChangeBuilder) where
             can = subst R (sym all.parked) (can-rest (parked_in t b) added (left next) (subst P front w.can));
             spare = omega (arith, w.spare, all.spare, ap length front, length-append added (left next));
             live = omega (arith, w.live, all.live, ap length front, length-append added (left next));
-            made = makes-follow (all_elements s.elements) (all_elements t.elements) (all_elements u.elements) (live_count s.elements) (live_count t.elements)
+            made = makes-follow (made s.elements) (made t.elements) (made u.elements) (live_count s.elements) (live_count t.elements)
                 (length (parks_all (state_of s) top)) (length added) (length (parks_all (state_of s) top)) w.made (omega (arith, w.live, ap length front, length-append added (left next))) (omega arith) all.made;
           }

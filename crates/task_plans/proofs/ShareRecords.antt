@@ -5,8 +5,8 @@ use Rattle.std.proofs.Math.Seq.{drop-cons}
 use Rattle.std.proofs.lemmas.List.{drop_all}
 use Rattle.storage_changes.specs.declared.record.Record.{Record}
 use Rattle.storage_changes.specs.State.{StorageState}
-use Rattle.storage_exchange.specs.declared.storage.Parts.{Parts}
-use Rattle.storage_exchange.specs.Storage.{state_of}
+use Rattle.storage_swap.specs.declared.storage.Parts.{Parts}
+use Rattle.storage_swap.specs.Storage.{state_of}
 use Rattle.storage_swap.specs.declared.builder.ChangeBuilder.{ChangeBuilder}
 use Rattle.storage_swap.specs.Builder.{Builds, Pushes}
 use Rattle.storage_swap.proofs.BuilderLemmas.{Leads, leads-more, leads-all, leads-room, leads-refused}

@@ -26,8 +26,8 @@ use Rattle.subpool_storage.proofs.PlaceStays.{places_stay}
 use Rattle.storage_changes.specs.declared.record.Record.{Record}
 use Rattle.storage_changes.specs.declared.record.Record.TheVariants.{Pages}
 use Rattle.storage_changes.specs.Changes.{unassigned_records}
-use Rattle.storage_exchange.specs.declared.storage.Parts.{Parts}
-use Rattle.storage_exchange.specs.Storage.{hold, state_of, Stand}
+use Rattle.storage_swap.specs.declared.storage.Parts.{Parts}
+use Rattle.storage_swap.specs.Storage.{hold, state_of, Stand}
 use Rattle.storage_swap.specs.declared.builder.ChangeBuilder.{ChangeBuilder}
 use Rattle.storage_swap.specs.Builder.{Keeps, Builds, Pushes}
 use Rattle.storage_swap.proofs.BuilderLemmas.{Leads, leads-more, leads-all, leads-room, pushes-follow, leads-refused, refused-made}

@@ -24,7 +24,7 @@ use Rattle.storage_changes.specs.Attaching.{attach_records, attach_blanks, CanAt
 use Rattle.storage_changes.specs.Ending.{ended_below, owned_by_these, end_records, end_blanks, with_turn, CanEnd}
 use Rattle.storage_changes.specs.Ending.{ended_records, removed_records, unshared_records, weight_ended}
 pub use Rattle.storage_plans.specs.Plans.{IsAccepted}
-use Rattle.storage_exchange.specs.declared.storage.Parts.{Parts}
+use Rattle.storage_swap.specs.declared.storage.Parts.{Parts}
 use Rattle.storage_swap.specs.declared.builder.ChangeBuilder.{ChangeBuilder}
 use Rattle.storage_swap.specs.Builder.{records_in, parked_in}
 use Rattle.storage_swap.specs.Growth.{MakesElements}

@@ -4,12 +4,12 @@ ghost use Rattle.std.specs.Prelude.{◌≡◌, ℕ, ◌+◌, ◌≤◌, [], ◌�
 ghost use Rattle.vsm_elements.specs.Store.{live_count};
 ghost use Rattle.vsm_model.specs.declared.limits.Settings.{Settings};
 ghost use Rattle.vsm_model.specs.Services.{attach};
-ghost use Rattle.storage_exchange.specs.Storage.{hold, state_of, Stand, IsFrameless};
+ghost use Rattle.storage_swap.specs.Storage.{hold, state_of, Stand, IsFrameless};
 ghost use Rattle.storage_changes.specs.Attaching.{attach_records};
 ghost use Rattle.storage_changes.specs.StorageActions.{register_records};
 ghost use Rattle.storage_plans.specs.Places.{StandsSound};
 ghost use Rattle.storage_swap.specs.Builder.{IsBuilding, Builds, Pushes};
-ghost use Rattle.storage_swap.specs.Growth.{MakesElements, MakesWithin};
+ghost use Rattle.storage_swap.specs.Growth.{MakesElements};
 ghost use Rattle.storage_swap.specs.Reserve.{Grown, Reserves};
 ghost use Rattle.task_plans.specs.TaskPlans.{attach_change, numbers, CanBeAttached, IsAttachPlanned};
 
@@ -20,8 +20,7 @@ use crate::{Builder, Pushed};
 use std::alloc::AllocError;
 use storage_changes::tasks::attaching_leads;
 use storage_changes::{Record, TaskRecord};
-use storage_exchange::Parts;
-use storage_swap::Change;
+use storage_swap::{Change, Parts};
 use subpool_storage::laws::cell_pools_are_named;
 use vsm_model::{Attach, Cause};
 
@@ -90,7 +89,7 @@ impl AttachPlan {
         ensures live { IfOk result (λ _. let d = attach_change (state_of storage.old) self in
             live_count storage.new.elements ≤ live_count storage.old.elements + (length d.records + d.blanks)) }
         ensures made { let d = attach_change (state_of storage.old) self in
-            MakesWithin storage.old.elements storage.new.elements (length d.records + d.blanks) }
+            MakesElements storage.old.elements storage.new.elements (length d.records + d.blanks) }
         ensures same_frames { storage.new.region ≡ storage.old.region }
     {
         let mut builder = Builder::new();

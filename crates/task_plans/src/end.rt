@@ -10,10 +10,10 @@ ghost use Rattle.vsm_model.specs.Services.{detach, end_task};
 ghost use Rattle.subpool_storage.specs.Extents.{extents};
 ghost use Rattle.subpool_storage.specs.Subpools.{no_subpools};
 ghost use Rattle.storage_changes.specs.Changes.{unassigned_records, empties};
-ghost use Rattle.storage_exchange.specs.Storage.{hold, state_of, Stand, IsFrameless};
+ghost use Rattle.storage_swap.specs.Storage.{hold, state_of, Stand, IsFrameless};
 ghost use Rattle.storage_plans.specs.Places.{StandsSound};
 ghost use Rattle.storage_swap.specs.Builder.{parked_in, records_in, IsBuilding, Builds, Pushes};
-ghost use Rattle.storage_swap.specs.Growth.{MakesElements, MakesWithin};
+ghost use Rattle.storage_swap.specs.Growth.{MakesElements};
 ghost use Rattle.storage_swap.specs.Reserve.{Grown, Reserves};
 ghost use Rattle.storage_changes.specs.Ending.{owned_in, emptying_records, removed};
 ghost use Rattle.storage_changes.specs.Ending.{released_records, removed_records, rows_with, sharer_rows, unshared};
@@ -30,8 +30,7 @@ use descriptor_queue::Extents;
 use std::alloc::AllocError;
 use storage_changes::tasks::{ending_leads, ends_are_in_order};
 use storage_changes::{OwnRecord, PagesRecord, QueuesRecord, Record, SharerRecord, TurnRecord};
-use storage_exchange::Parts;
-use storage_swap::Change;
+use storage_swap::{Change, Parts};
 use subpool_storage::SubpoolStorage;
 use subpool_storage::laws::{cell_pools_are_named, subpools_are_there};
 use task_tree::TreeFault;
@@ -144,7 +143,7 @@ impl EndPlan {
             live_count storage.new.elements ≤ live_count storage.old.elements
             + (length (parks_all (state_of storage.old) self.top) + (length d.records + d.blanks))) }
         ensures made { let d = end_change (state_of storage.old) self in
-            MakesWithin storage.old.elements storage.new.elements
+            MakesElements storage.old.elements storage.new.elements
             (length (parks_all (state_of storage.old) self.top) + (length d.records + d.blanks)) }
         ensures same_frames { storage.new.region ≡ storage.old.region }
     {

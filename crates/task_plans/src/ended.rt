@@ -2,7 +2,7 @@
 
 ghost use Rattle.std.specs.Prelude.{◌≡◌, ℕ, ◌<◌, ◌≤◌, false, [], ◌∷◌, filter, length, IsOk, OnOk, OnErr};
 ghost use Rattle.vsm_model.specs.Search.{is_in};
-ghost use Rattle.storage_exchange.specs.Storage.{state_of, Stand};
+ghost use Rattle.storage_swap.specs.Storage.{state_of, Stand};
 ghost use Rattle.storage_swap.specs.Builder.{IsBuilding, Builds, Pushes};
 ghost use Rattle.storage_swap.specs.Growth.{MakesElements};
 ghost use Rattle.storage_changes.specs.Ending.{cleared_quarter, is_below_by, ended_below, ended_level, ended_records};
@@ -13,7 +13,7 @@ ghost use Rattle.task_plans.specs.Sights.{tasks_below};
 use crate::{Builder, Pushed};
 use arrayvec::ArrayVec;
 use storage_changes::{Record, RegistersRecord, TaskRecord};
-use storage_exchange::Parts;
+use storage_swap::Parts;
 use task_tree::laws::trees_stand;
 use vsm_model::geometry::TASKS_END;
 

@@ -5,12 +5,12 @@ ghost use Rattle.std.specs.List.{list_any};
 ghost use Rattle.arrayvec.specs.ArrayVec.{array_vec_len};
 ghost use Rattle.vsm_model.specs.Passing.{numbers_in, is_bad_list, is_anothers};
 ghost use Rattle.storage_changes.specs.Meaning.{model_of};
-ghost use Rattle.storage_exchange.specs.Storage.{state_of, Stand, IsFrameless};
+ghost use Rattle.storage_swap.specs.Storage.{state_of, Stand, IsFrameless};
 ghost use Rattle.task_plans.specs.TaskPlans.{numbers};
 
 use arrayvec::ArrayVec;
-use storage_exchange::Parts;
 use storage_plans::load;
+use storage_swap::Parts;
 use vsm_model::geometry::SUBPOOL_NUMBERS;
 use vsm_model::{Cause, Passed};
 

@@ -2,7 +2,7 @@
 
 ghost use Rattle.std.specs.Prelude.{◌≡◌, ◌≤◌, ◌++◌, length, All, IsOk, OnOk, OnErr};
 ghost use Rattle.std.specs.List.{flat_map};
-ghost use Rattle.storage_exchange.specs.Storage.{state_of};
+ghost use Rattle.storage_swap.specs.Storage.{state_of};
 ghost use Rattle.storage_swap.specs.Builder.{IsBuilding, Builds, Pushes};
 ghost use Rattle.storage_swap.specs.Growth.{MakesElements};
 ghost use Rattle.storage_changes.specs.Attaching.{made, shared, gift_records, share_records, zero_records};
@@ -10,7 +10,7 @@ ghost use Rattle.storage_changes.specs.Attaching.{made, shared, gift_records, sh
 use crate::numbers::Numbers;
 use crate::{Builder, Pushed};
 use storage_changes::{OwnRecord, PassRecord, Record, SharerRecord};
-use storage_exchange::Parts;
+use storage_swap::Parts;
 use vsm_model::Subpool;
 
 // A subpool that is made.

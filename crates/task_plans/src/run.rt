@@ -5,7 +5,7 @@ ghost use Rattle.vsm_model.specs.declared.limits.Settings.{Settings};
 ghost use Rattle.vsm_model.specs.declared.replies.Reply.TheVariants.{Turn};
 ghost use Rattle.vsm_model.specs.Services.{run};
 ghost use Rattle.storage_changes.specs.StorageActions.{run_of};
-ghost use Rattle.storage_exchange.specs.Storage.{state_of, Stand};
+ghost use Rattle.storage_swap.specs.Storage.{state_of, Stand};
 ghost use Rattle.storage_plans.specs.Places.{StandsSound};
 ghost use Rattle.storage_plans.specs.Plans.{IsPlanned};
 ghost use Rattle.storage_changes.specs.Attaching.{turn_records};
@@ -14,8 +14,8 @@ use arrayvec::ArrayVec;
 use run_set::Run;
 use storage_changes::tasks::turning_leads;
 use storage_changes::{Record, TurnRecord};
-use storage_exchange::Parts;
 use storage_plans::StoragePlan;
+use storage_swap::Parts;
 use vsm_model::geometry::LAST_TASK;
 use vsm_model::{Cause, Reply};
 

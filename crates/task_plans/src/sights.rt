@@ -1,13 +1,13 @@
 //! What the tasks of a subtree see, one subpool behind the other, each found by a look-up of its number and task.
 
 ghost use Rattle.std.specs.Prelude.{◌≡◌, ℕ, [], ◌∷◌, Some, IfNone, IfSome};
-ghost use Rattle.storage_exchange.specs.Storage.{state_of, Stand};
+ghost use Rattle.storage_swap.specs.Storage.{state_of, Stand};
 ghost use Rattle.storage_changes.specs.Ending.{ended_below, is_own, seen_by_these};
 ghost use Rattle.storage_changes.specs.State.{StorageState};
 ghost use Rattle.task_plans.specs.Sights.{row_of, rows_behind, rows_from, seen_left, IsEnding};
 
 use crate::ended::EndOfTasks;
-use storage_exchange::Parts;
+use storage_swap::Parts;
 use subpool_storage::laws::subpools_are_there;
 use vsm_model::Subpool;
 

@@ -8,8 +8,8 @@ use Rattle.subpool_storage.specs.Subpools.{HasPool}
 use Rattle.storage_changes.specs.Changes.{Change, change_of, change_building, no_pages, Fit}
 use Rattle.storage_changes.specs.State.{StorageState}
 use Rattle.storage_changes.proofs.Cases.{cond-in, cond-out}
-use Rattle.storage_exchange.specs.declared.storage.Parts.{Parts}
-use Rattle.storage_exchange.specs.Storage.{state_of}
+use Rattle.storage_swap.specs.declared.storage.Parts.{Parts}
+use Rattle.storage_swap.specs.Storage.{state_of}
 use Rattle.storage_swap.specs.declared.change.Change.{Change as TheChange}
 use Rattle.storage_swap.specs.Swap.{means}
 use Rattle.storage_swap.specs.Fresh.{first_storage, IsFresh}

@@ -8,8 +8,8 @@ use Rattle.storage_changes.specs.State.{StorageState}
 use Rattle.storage_changes.specs.Changes.{Change as Meaning, Fit, overlay}
 use Rattle.storage_changes.specs.Meaning.{IsSound}
 use Rattle.storage_changes.specs.Props.{Fit-prop}
-use Rattle.storage_exchange.specs.declared.storage.Parts.{Parts}
-use Rattle.storage_exchange.specs.Storage.{state_of}
+use Rattle.storage_swap.specs.declared.storage.Parts.{Parts}
+use Rattle.storage_swap.specs.Storage.{state_of}
 use Rattle.storage_core.specs.declared.plans.Plan.{Plan}
 use Rattle.storage_core.specs.Planned.{CanCarryOut, IsAccepted, IsIdFor, change_for, reply_of}
 use Rattle.storage_swap.specs.declared.change.Change.{Change}

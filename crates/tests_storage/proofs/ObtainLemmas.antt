@@ -13,8 +13,8 @@ use Rattle.storage_changes.specs.Walk.{Walk}
 use Rattle.storage_changes.specs.Steps.{step}
 use Rattle.storage_changes.specs.Changes.{Change, outset, Fit}
 use Rattle.storage_changes.specs.State.{StorageState}
-use Rattle.storage_exchange.specs.declared.storage.Parts.{Parts}
-use Rattle.storage_exchange.specs.Storage.{state_of}
+use Rattle.storage_swap.specs.declared.storage.Parts.{Parts}
+use Rattle.storage_swap.specs.Storage.{state_of}
 use Rattle.storage_swap.specs.declared.change.Change.{Change as TheChange}
 use Rattle.storage_swap.specs.Swap.{means}
 use Rattle.storage_swap.specs.Fresh.{first_storage, IsFresh}

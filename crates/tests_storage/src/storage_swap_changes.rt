@@ -6,8 +6,7 @@ use run_set::Run;
 use std::process::Abort;
 use std::test::Fail;
 use storage_changes::{AreaRecord, ExtentRecord, PagesRecord, Record};
-use storage_exchange::Parts;
-use storage_swap::{Change, ReservedCellPool, fresh};
+use storage_swap::{Change, Parts, ReservedCellPool, fresh};
 use subpool_storage::{CellPoolHeader, CellPoolName, CellSettings};
 use vsm_model::{Residence, Settings, Subpool};
 

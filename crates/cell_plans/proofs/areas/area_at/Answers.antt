@@ -2,7 +2,7 @@ use Rattle.std.proofs.Common.{◌≡◌, ◌∙◌, Option, Some, sym, ap, subst
 use Rattle.std.specs.Prelude.{option_map, slice_get, IfSome}
 use Rattle.run_set.specs.Runs.{Run}
 use Rattle.cell_pool.specs.Pools.{Pool}
-use Rattle.storage_exchange.specs.Storage.{state_of}
+use Rattle.storage_swap.specs.Storage.{state_of}
 use Rattle.cell_plans.specs.Emptied.{area_of}
 use Rattle.cell_plans.proofs.GivenAreas.{EndsLow, area_there, ends_there}
 use Rattle.cell_plans.proofs.areas.area_at.Goals as goal

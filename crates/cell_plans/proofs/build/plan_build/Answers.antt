@@ -6,7 +6,7 @@ use Rattle.vsm_model.specs.Causes.{first_cause}
 use Rattle.vsm_model.specs.Cells.{build_causes}
 use Rattle.cell_extents.specs.declared.settings.CellSettings.{CellSettings}
 use Rattle.storage_changes.specs.Meaning.{model_of}
-use Rattle.storage_exchange.specs.Storage.{state_of}
+use Rattle.storage_swap.specs.Storage.{state_of}
 use Rattle.storage_plans.specs.Places.{place_of}
 use Rattle.cell_plans.specs.CellPlans.{IsOpen}
 use Rattle.cell_plans.proofs.BuildPlans.{built_with, first_few, goes_is, place_in_words, planned, refused}

@@ -1,5 +1,5 @@
 use Rattle.std.proofs.Common.{◌∙◌}
-use Rattle.storage_exchange.specs.Storage.{state_of}
+use Rattle.storage_swap.specs.Storage.{state_of}
 use Rattle.cell_plans.proofs.NamedPools.{are_counted}
 use Rattle.cell_plans.proofs.build.pool_count.Goals as goal
 

@@ -1,4 +1,4 @@
-use Rattle.storage_exchange.specs.Storage.{state_of}
+use Rattle.storage_swap.specs.Storage.{state_of}
 use Rattle.cell_plans.proofs.DeletePlans.{found_pool, delete_planned}
 use Rattle.cell_plans.proofs.delete.plan_delete.Goals as goal
 

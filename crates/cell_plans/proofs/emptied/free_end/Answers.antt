@@ -1,5 +1,5 @@
 use Rattle.free_queue.specs.FreeQueue.{is_free}
-use Rattle.storage_exchange.specs.Storage.{state_of}
+use Rattle.storage_swap.specs.Storage.{state_of}
 use Rattle.cell_plans.proofs.FreeEnds.{up_to_end}
 use Rattle.cell_plans.proofs.emptied.free_end.Goals as goal
 

@@ -1,6 +1,6 @@
 use Rattle.run_set.specs.Runs.{contains}
 use Rattle.free_queue.specs.FreeQueue.{is_free}
-use Rattle.storage_exchange.specs.Storage.{state_of}
+use Rattle.storage_swap.specs.Storage.{state_of}
 use Rattle.cell_plans.specs.Areas.{first_areas}
 use Rattle.cell_plans.proofs.FreeEnds.{up_to_end}
 use Rattle.cell_plans.proofs.emptied.given_end.Goals as goal

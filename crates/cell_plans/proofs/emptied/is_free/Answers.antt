@@ -1,5 +1,5 @@
 use Rattle.std.proofs.Common.{arith}
-use Rattle.storage_exchange.specs.Storage.{state_of}
+use Rattle.storage_swap.specs.Storage.{state_of}
 use Rattle.cell_plans.specs.Areas.{first_areas}
 use Rattle.cell_plans.specs.Emptied.{freed}
 use Rattle.cell_plans.proofs.FreeEnds.{goes_on, all_free, not_all_free}

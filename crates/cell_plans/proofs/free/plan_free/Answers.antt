@@ -1,7 +1,7 @@
 use Rattle.std.proofs.Common.{◌≡◌, sym, ◌∙◌}
 use Rattle.cell_pool.specs.CellPools.{by_id}
 use Rattle.cell_pool.specs.Pools.{uses}
-use Rattle.storage_exchange.specs.Storage.{state_of}
+use Rattle.storage_swap.specs.Storage.{state_of}
 use Rattle.cell_plans.proofs.GivenCells.{free_unused, given_back}
 use Rattle.cell_plans.proofs.SeenPools.{fact_of, some_there}
 use Rattle.cell_plans.proofs.free.plan_free.Goals as goal

@@ -2,7 +2,7 @@ use Rattle.std.proofs.Common.{◌≡◌, sym, ap, ◌∙◌, slice_get, arith}
 use Rattle.std.specs.Prelude.{drop}
 use Rattle.vsm_model.specs.Areas.{is_nowhere}
 use Rattle.cell_pool.specs.CellPools.{by_id}
-use Rattle.storage_exchange.specs.Storage.{state_of}
+use Rattle.storage_swap.specs.Storage.{state_of}
 use Rattle.storage_plans.specs.Places.{place_of}
 use Rattle.cell_plans.proofs.HandedOut.{address_is_word, cells_fit, first_is, first_planned, four_planned, further_planned, get_full, get_nowhere, none_is, place_at}
 use Rattle.cell_plans.proofs.SeenPools.{fact_of, some_there}

@@ -1,7 +1,7 @@
 use Rattle.std.proofs.Common.{◌≡◌, ℕ, ◌+◌, ◌*◌, List, length, ap, sym, ◌∙◌, subst, arith}
 use Rattle.storage_changes.specs.declared.record.Record.{Record}
-use Rattle.storage_exchange.specs.declared.storage.Parts.{Parts}
-use Rattle.storage_exchange.specs.Storage.{state_of}
+use Rattle.storage_swap.specs.declared.storage.Parts.{Parts}
+use Rattle.storage_swap.specs.Storage.{state_of}
 use Rattle.storage_swap.specs.Growth.{MakesElements}
 use Rattle.cell_plans.specs.Areas.{areas_of}
 use Rattle.cell_plans.specs.CellPlans.{pool_given_back}

@@ -1,5 +1,5 @@
 use Rattle.std.proofs.Common.{◌-◌, length}
-use Rattle.storage_exchange.specs.Storage.{state_of}
+use Rattle.storage_swap.specs.Storage.{state_of}
 use Rattle.cell_plans.specs.Areas.{areas_of}
 use Rattle.cell_plans.proofs.AreaWalks.{AreasLead}
 use Rattle.cell_plans.proofs.giving_back.push_each.Given as goal

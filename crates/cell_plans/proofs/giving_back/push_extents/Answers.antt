@@ -2,7 +2,7 @@ use Rattle.std.proofs.Common.{◌+◌, ◌*◌}
 use Rattle.std.proofs.lemmas.Result.{on_ok_weaker, on_err_weaker}
 use Rattle.free_queue.specs.FreeQueue.{owned}
 use Rattle.free_queue.proofs.QueueLemmas.{queues_stand}
-use Rattle.storage_exchange.specs.Storage.{state_of}
+use Rattle.storage_swap.specs.Storage.{state_of}
 use Rattle.cell_plans.specs.CellPlans.{pool_given_back, extents_of_pool, extents_need}
 use Rattle.cell_plans.proofs.NotedLemmas.{owned-live, gone-builds}
 use Rattle.cell_plans.proofs.AreaWalks.{all_gone, still_made}

@@ -2,7 +2,7 @@ use Rattle.std.proofs.Common.{◌≡◌, ℕ, ◌*◌, List, Some, ap, arith}
 use Rattle.vsm_model.specs.Bytes.{load}
 use Rattle.storage_changes.specs.declared.record.BytesRecord.{BytesRecord}
 use Rattle.storage_changes.specs.Meaning.{model_of}
-use Rattle.storage_exchange.specs.Storage.{state_of}
+use Rattle.storage_swap.specs.Storage.{state_of}
 use Rattle.storage_plans.proofs.BlockBytes.{block_read, each_there, first_in_range, of_ok}
 use Rattle.storage_plans.proofs.blocks.block_with.Goals as goal
 

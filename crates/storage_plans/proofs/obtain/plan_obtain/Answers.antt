@@ -1,7 +1,7 @@
 use Rattle.std.proofs.Common.{refl}
 use Rattle.std.proofs.Math.Logic.{∥∥₁_map}
 use Rattle.vsm_model.specs.Services.{obtain}
-use Rattle.storage_exchange.specs.Storage.{state_of}
+use Rattle.storage_swap.specs.Storage.{state_of}
 use Rattle.storage_plans.proofs.Obtained.{in_words, obtain_carried_out}
 use Rattle.storage_plans.proofs.obtain.plan_obtain.Goals as goal
 

@@ -1,5 +1,5 @@
 use Rattle.storage_changes.specs.Meaning.{model_of}
-use Rattle.storage_exchange.specs.Storage.{state_of}
+use Rattle.storage_swap.specs.Storage.{state_of}
 use Rattle.storage_plans.proofs.Regions.{place_below, place_above, place_behind}
 use Rattle.storage_plans.proofs.places.area_place.Goals as goal
 

@@ -1,7 +1,7 @@
 use Rattle.std.proofs.Common.{not, sym, subst}
 use Rattle.vsm_model.specs.Areas.{is_nowhere, place_in}
 use Rattle.storage_changes.specs.Meaning.{model_of}
-use Rattle.storage_exchange.specs.Storage.{state_of}
+use Rattle.storage_swap.specs.Storage.{state_of}
 use Rattle.storage_plans.specs.Places.{IsUpTo, region_on}
 use Rattle.storage_plans.proofs.Regions.{up_to_in}
 use Rattle.storage_plans.proofs.places.longest_on.Goals as goal

@@ -2,7 +2,7 @@ use Rattle.std.proofs.Common.{not, sym, subst}
 use Rattle.vsm_model.specs.Areas.{is_nowhere, place}
 use Rattle.vsm_model.specs.Regions.{regions_for}
 use Rattle.storage_changes.specs.Meaning.{model_of}
-use Rattle.storage_exchange.specs.Storage.{state_of}
+use Rattle.storage_swap.specs.Storage.{state_of}
 use Rattle.storage_plans.specs.Places.{IsUpTo}
 use Rattle.storage_plans.proofs.Regions.{up_to_below, up_to_above}
 use Rattle.storage_plans.proofs.places.longest_place.Goals as goal

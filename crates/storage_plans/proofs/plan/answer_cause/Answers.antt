@@ -1,6 +1,6 @@
 use Rattle.std.proofs.Common.{◌∙◌, sym}
 use Rattle.std.proofs.Math.Logic.{∥∥₁_map}
-use Rattle.storage_exchange.specs.Storage.{state_of}
+use Rattle.storage_swap.specs.Storage.{state_of}
 use Rattle.storage_plans.proofs.Carried.{four_carried_out}
 use Rattle.storage_plans.proofs.plan.answer_cause.Goals as goal
 

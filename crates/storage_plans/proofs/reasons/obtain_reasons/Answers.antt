@@ -4,7 +4,7 @@ use Rattle.vsm_model.specs.Regions.{doublewords}
 use Rattle.vsm_model.specs.Services.{minimum}
 use Rattle.vsm_model.specs.Obtaining.{place_for}
 use Rattle.storage_changes.specs.Meaning.{model_of}
-use Rattle.storage_exchange.specs.Storage.{state_of}
+use Rattle.storage_swap.specs.Storage.{state_of}
 use Rattle.storage_plans.proofs.AskedLengths.{place_is, up_to_for}
 use Rattle.storage_plans.proofs.SidePlaces.{nowhere_just_where_none}
 use Rattle.storage_plans.proofs.reasons.obtain_reasons.Goals as goal

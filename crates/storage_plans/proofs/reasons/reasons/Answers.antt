@@ -1,5 +1,5 @@
 use Rattle.storage_changes.specs.Meaning.{model_of}
-use Rattle.storage_exchange.specs.Storage.{state_of}
+use Rattle.storage_swap.specs.Storage.{state_of}
 use Rattle.storage_plans.proofs.SidePlaces.{below_is, above_is}
 use Rattle.storage_plans.proofs.reasons.reasons.Goals as goal
 

@@ -1,7 +1,7 @@
 use Rattle.std.proofs.Common.{◌∙◌, sym}
 use Rattle.std.proofs.lemmas.Result.{on_ok_weaker}
 use Rattle.storage_changes.specs.Meaning.{model_of}
-use Rattle.storage_exchange.specs.Storage.{state_of}
+use Rattle.storage_swap.specs.Storage.{state_of}
 use Rattle.storage_plans.proofs.OwnedAreas.{is_outside, foreign_where, has_no_others, is_all_taken, is_free_in, is_missing}
 use Rattle.storage_plans.proofs.GivenBack.{is_foreign_first, is_free_first, caused, has_no_cause}
 use Rattle.storage_plans.proofs.release.check_area.Goals as goal

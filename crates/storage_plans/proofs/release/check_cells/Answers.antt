@@ -1,5 +1,5 @@
 use Rattle.std.proofs.Common.{◌*◌, refl, sym, ◌∙◌, true≢false}
-use Rattle.storage_exchange.specs.Storage.{state_of}
+use Rattle.storage_swap.specs.Storage.{state_of}
 use Rattle.storage_plans.proofs.CellAreas.{meets_one, meets_none}
 use Rattle.storage_plans.proofs.release.check_cells.Goals as goal
 

@@ -2,7 +2,7 @@ use Rattle.std.proofs.Common.{◌≡◌, ◌/◌, Some, arith, rules, refl, ◌�
 use Rattle.vsm_model.specs.Causes.{first_cause}
 use Rattle.vsm_model.specs.Releasing.{release_causes}
 use Rattle.storage_changes.specs.Meaning.{model_of}
-use Rattle.storage_exchange.specs.Storage.{state_of}
+use Rattle.storage_swap.specs.Storage.{state_of}
 use Rattle.storage_plans.proofs.GivenBack.{as_of_the_area}
 use Rattle.storage_plans.proofs.release.find_given_back.Goals as goal
 

@@ -3,7 +3,7 @@ use Rattle.vsm_model.specs.Search.{holds}
 use Rattle.vsm_model.specs.Subpools.{same_subpool}
 use Rattle.vsm_model.proofs.Least.{all_pass_stops, all_pass_more}
 use Rattle.storage_changes.specs.Meaning.{model_of}
-use Rattle.storage_exchange.specs.Storage.{state_of}
+use Rattle.storage_swap.specs.Storage.{state_of}
 use Rattle.storage_plans.proofs.release.has_others.Goals as goal
 
 pub returns-then-is_others : goal.returns-then-is_others

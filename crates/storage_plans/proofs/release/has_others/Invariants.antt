@@ -2,7 +2,7 @@ use Rattle.std.proofs.Common.{◌≡◌, true, not}
 use Rattle.vsm_model.specs.Search.{all_pass, holds}
 use Rattle.vsm_model.specs.Subpools.{same_subpool}
 use Rattle.storage_changes.specs.Meaning.{model_of}
-use Rattle.storage_exchange.specs.Storage.{state_of}
+use Rattle.storage_swap.specs.Storage.{state_of}
 use Rattle.storage_plans.proofs.release.has_others.Given as goal
 
 abbrev pub invariant-loop-k : goal.invariant-loop-k

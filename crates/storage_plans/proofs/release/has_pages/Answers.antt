@@ -1,6 +1,6 @@
 use Rattle.std.proofs.Common.{◌∙◌, sym}
 use Rattle.vsm_model.proofs.Least.{all_pass_stops, all_pass_more}
-use Rattle.storage_exchange.specs.Storage.{state_of}
+use Rattle.storage_swap.specs.Storage.{state_of}
 use Rattle.storage_plans.proofs.release.has_pages.Goals as goal
 
 pub returns-then-not-has_page : goal.returns-then-not-has_page

@@ -1,5 +1,5 @@
 use Rattle.std.proofs.Common.{arith}
-use Rattle.storage_exchange.specs.Storage.{state_of}
+use Rattle.storage_swap.specs.Storage.{state_of}
 use Rattle.storage_plans.proofs.OwnedAreas.{all_covered, not_all_covered}
 use Rattle.storage_plans.proofs.release.is_free.Goals as goal
 

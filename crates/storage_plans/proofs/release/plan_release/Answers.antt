@@ -1,4 +1,4 @@
-use Rattle.storage_exchange.specs.Storage.{state_of}
+use Rattle.storage_swap.specs.Storage.{state_of}
 use Rattle.storage_plans.proofs.GivenBack.{is_given_back}
 use Rattle.storage_plans.proofs.release.plan_release.Goals as goal
 

@@ -1,4 +1,4 @@
-use Rattle.storage_exchange.specs.Storage.{state_of}
+use Rattle.storage_swap.specs.Storage.{state_of}
 use Rattle.storage_plans.specs.Places.{region_on}
 use Rattle.storage_plans.proofs.LeastFits.{area_found}
 use Rattle.storage_plans.proofs.searches.least_area.Goals as goal

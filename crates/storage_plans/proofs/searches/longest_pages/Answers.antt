@@ -1,5 +1,5 @@
 use Rattle.std.proofs.Common.{arith}
-use Rattle.storage_exchange.specs.Storage.{state_of}
+use Rattle.storage_swap.specs.Storage.{state_of}
 use Rattle.storage_plans.specs.Places.{region_on}
 use Rattle.storage_plans.proofs.LeastFits.{longest_in_region, pages_up_to}
 use Rattle.storage_plans.proofs.Regions.{of_a_region}

@@ -1,7 +1,7 @@
 use Rattle.std.proofs.Common.{◌≡◌, ◌<◌, ℕ, true, sym, ◌∙◌, rules, length, slice_index_or}
 use Rattle.vsm_model.specs.Bytes.{are_there}
 use Rattle.storage_changes.specs.Meaning.{model_of}
-use Rattle.storage_exchange.specs.Storage.{state_of}
+use Rattle.storage_swap.specs.Storage.{state_of}
 use Rattle.storage_plans.proofs.Stores.{are_bytes, store_planned}
 use Rattle.storage_plans.proofs.store.plan_store.Goals as goal
 

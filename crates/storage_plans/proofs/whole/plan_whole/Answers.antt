@@ -1,4 +1,4 @@
-use Rattle.storage_exchange.specs.Storage.{state_of}
+use Rattle.storage_swap.specs.Storage.{state_of}
 use Rattle.storage_plans.proofs.Emptied.{emptying_carried_out}
 use Rattle.storage_plans.proofs.whole.plan_whole.Goals as goal
 

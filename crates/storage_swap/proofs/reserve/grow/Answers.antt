@@ -2,15 +2,6 @@ use Rattle.std.proofs.Common.{arith}
 use Rattle.std.proofs.lemmas.Bool.{false≢true}
 use Rattle.storage_swap.proofs.reserve.grow.Goals as goal
 
-pub returns-clause-made : goal.returns-clause-made
-returns-clause-made c = omega (arith, c.reserve.ensures.bounded, c.reserve.ensures.live)
-
-pub returns-in_err-reserve_frames-clause-made : goal.returns-in_err-reserve_frames-clause-made
-returns-in_err-reserve_frames-clause-made c = omega (arith, c.reserve.ensures.bounded, c.reserve.ensures.live)
-
-pub returns-in_err-reserve_segments-clause-made : goal.returns-in_err-reserve_segments-clause-made
-returns-in_err-reserve_segments-clause-made c = omega (arith, c.reserve.ensures.bounded, c.reserve.ensures.live)
-
 pub returns-clause-made_frames : goal.returns-clause-made_frames
 returns-clause-made_frames c = omega (arith, c.reserve_frames.ensures.bounded, c.reserve_frames.ensures.made, c.reserve_segments.ensures.grows.counts)
 

@@ -1,5 +1,5 @@
 use Rattle.std.proofs.Common.{◌∙◌, sym}
-use Rattle.storage_exchange.specs.Storage.{state_of}
+use Rattle.storage_swap.specs.Storage.{state_of}
 use Rattle.storage_changes.specs.Meaning.{model_of}
 use Rattle.task_plans.proofs.AttachPlans.{free_is, attach_planned}
 use Rattle.task_plans.proofs.NumberLists.{first_private}

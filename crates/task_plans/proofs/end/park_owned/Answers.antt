@@ -1,6 +1,6 @@
 use Rattle.std.proofs.Common.{refl, sym, subst}
 use Rattle.subpool_storage.specs.Subpools.{Subpools}
-use Rattle.storage_exchange.specs.Storage.{state_of}
+use Rattle.storage_swap.specs.Storage.{state_of}
 use Rattle.storage_changes.specs.Ending.{ended_below}
 use Rattle.storage_swap.proofs.BuilderLemmas.{builds-follow, if-refused}
 use Rattle.task_plans.specs.Sights.{row_of}

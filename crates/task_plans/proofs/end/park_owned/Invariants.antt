@@ -1,5 +1,5 @@
 use Rattle.std.proofs.Common.{length}
-use Rattle.storage_exchange.specs.Storage.{state_of}
+use Rattle.storage_swap.specs.Storage.{state_of}
 use Rattle.task_plans.specs.Sights.{seen_left}
 use Rattle.task_plans.proofs.Parks.{ParksLead}
 use Rattle.task_plans.proofs.end.park_owned.Given as goal

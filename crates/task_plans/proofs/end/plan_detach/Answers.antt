@@ -1,4 +1,4 @@
-use Rattle.storage_exchange.specs.Storage.{state_of}
+use Rattle.storage_swap.specs.Storage.{state_of}
 use Rattle.task_plans.proofs.EndPlans.{detach_planned}
 use Rattle.task_plans.proofs.end.plan_detach.Goals as goal
 

@@ -1,6 +1,6 @@
 use Rattle.std.proofs.Common.{◌≡◌, ℕ, Some, is_some, sym, ◌∙◌, ap, inl, inr, arith}
 use Rattle.std.specs.Prelude.{unwrap_or}
-use Rattle.storage_exchange.specs.Storage.{state_of}
+use Rattle.storage_swap.specs.Storage.{state_of}
 use Rattle.task_plans.proofs.EndPlans.{end_planned, has_one, is_first}
 use Rattle.task_plans.proofs.end.plan_end_task.Goals as goal
 

@@ -1,7 +1,7 @@
 use Rattle.std.proofs.Common.{◌-◌, length}
 use Rattle.run_set.specs.RunSet.{place_index}
 use Rattle.subpool_storage.specs.Extents.{extents}
-use Rattle.storage_exchange.specs.Storage.{state_of}
+use Rattle.storage_swap.specs.Storage.{state_of}
 use Rattle.task_plans.proofs.Walks.{ExtentsLead}
 use Rattle.task_plans.proofs.end.push_extents.Given as goal
 

@@ -3,7 +3,7 @@ use Rattle.std.specs.List.{flat_map}
 use Rattle.storage_changes.specs.Ending.{SightRow, ended_below, owned_in, seen_by_these, emptying_records}
 use Rattle.storage_changes.specs.State.{StorageState}
 use Rattle.storage_changes.specs.declared.record.Record.{Record}
-use Rattle.storage_exchange.specs.Storage.{state_of}
+use Rattle.storage_swap.specs.Storage.{state_of}
 use Rattle.storage_swap.proofs.BuilderLemmas.{Leads, builds-follow, leads-none, if-refused}
 use Rattle.task_plans.specs.Sights.{row_of}
 use Rattle.task_plans.proofs.EndRecords.{never}

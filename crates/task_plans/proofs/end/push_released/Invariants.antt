@@ -2,7 +2,7 @@ use Rattle.std.proofs.Common.{length, List}
 use Rattle.std.specs.List.{flat_map}
 use Rattle.storage_changes.specs.Ending.{SightRow, ended_below, owned_in, seen_by_these, emptying_records}
 use Rattle.storage_changes.specs.declared.record.Record.{Record}
-use Rattle.storage_exchange.specs.Storage.{state_of}
+use Rattle.storage_swap.specs.Storage.{state_of}
 use Rattle.storage_swap.proofs.BuilderLemmas.{Leads}
 use Rattle.task_plans.specs.Sights.{seen_left}
 use Rattle.task_plans.proofs.end.push_released.Given as goal

@@ -3,7 +3,7 @@ use Rattle.std.specs.Prelude.{map}
 use Rattle.subpool_set.specs.Pools.{sharers}
 use Rattle.storage_changes.specs.declared.record.Record.{Record}
 use Rattle.storage_changes.specs.Ending.{unshared}
-use Rattle.storage_exchange.specs.Storage.{state_of}
+use Rattle.storage_swap.specs.Storage.{state_of}
 use Rattle.storage_swap.specs.Builder.{Pushes}
 use Rattle.storage_swap.proofs.BuilderLemmas.{builds-follow, if-refused}
 use Rattle.task_plans.proofs.EndRecords.{never}

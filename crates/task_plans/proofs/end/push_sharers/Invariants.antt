@@ -2,7 +2,7 @@ use Rattle.std.proofs.Common.{length}
 use Rattle.std.specs.Prelude.{map}
 use Rattle.subpool_set.specs.Pools.{sharers}
 use Rattle.subpool_storage.specs.SubpoolStorage.{sharers_left}
-use Rattle.storage_exchange.specs.Storage.{state_of}
+use Rattle.storage_swap.specs.Storage.{state_of}
 use Rattle.storage_changes.specs.Ending.{unshared}
 use Rattle.task_plans.proofs.Walks.{SharersLead}
 use Rattle.task_plans.proofs.end.push_sharers.Given as goal

@@ -2,7 +2,7 @@ use Rattle.std.proofs.Common.{◌≡◌, List, [], ◌∷◌, OnOk, refl, sym, a
 use Rattle.std.specs.Prelude.{map}
 use Rattle.storage_changes.specs.declared.record.Record.{Record}
 use Rattle.storage_changes.specs.Ending.{SightRow, ended_below, rows_with, unshared}
-use Rattle.storage_exchange.specs.Storage.{state_of}
+use Rattle.storage_swap.specs.Storage.{state_of}
 use Rattle.storage_swap.specs.Builder.{Pushes}
 use Rattle.storage_swap.proofs.BuilderLemmas.{builds-none, pushes-none}
 use Rattle.task_plans.specs.Sights.{row_of}

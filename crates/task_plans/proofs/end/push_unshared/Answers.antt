@@ -5,7 +5,7 @@ use Rattle.std.proofs.lemmas.List.{append-nil}
 use Rattle.storage_changes.specs.Ending.{SightRow, ended_below, seen_by_these, rows_with, unshared}
 use Rattle.storage_changes.specs.State.{StorageState}
 use Rattle.storage_changes.specs.declared.record.Record.{Record}
-use Rattle.storage_exchange.specs.Storage.{state_of}
+use Rattle.storage_swap.specs.Storage.{state_of}
 use Rattle.storage_swap.proofs.BuilderLemmas.{Leads, builds-follow, leads-none, if-refused}
 use Rattle.task_plans.specs.declared.sights.SightPlace.{SightPlace}
 use Rattle.task_plans.specs.Sights.{row_of, seen_left}

@@ -3,7 +3,7 @@ use Rattle.std.specs.Prelude.{map}
 use Rattle.std.specs.List.{flat_map}
 use Rattle.storage_changes.specs.Ending.{SightRow, ended_below, seen_by_these, rows_with, unshared}
 use Rattle.storage_changes.specs.declared.record.Record.{Record}
-use Rattle.storage_exchange.specs.Storage.{state_of}
+use Rattle.storage_swap.specs.Storage.{state_of}
 use Rattle.storage_swap.proofs.BuilderLemmas.{Leads}
 use Rattle.task_plans.specs.Sights.{seen_left}
 use Rattle.task_plans.proofs.end.push_unshared.Given as goal

@@ -1,6 +1,6 @@
 use Rattle.std.proofs.Common.{◌≡◌, max, arith, subst}
 use Rattle.std.proofs.lemmas.Grind.{common_steps}
-use Rattle.storage_exchange.specs.Storage.{state_of}
+use Rattle.storage_swap.specs.Storage.{state_of}
 use Rattle.task_plans.proofs.Levels.{AreWithin, one_within, level_empty}
 use Rattle.task_plans.proofs.ended.deepest.Goals as goal
 

@@ -1,5 +1,5 @@
 use Rattle.std.proofs.Common.{◌≤◌}
-use Rattle.storage_exchange.specs.Storage.{state_of}
+use Rattle.storage_swap.specs.Storage.{state_of}
 use Rattle.task_plans.proofs.Levels.{AreWithin}
 use Rattle.task_plans.proofs.ended.deepest.Given as goal
 

@@ -1,5 +1,5 @@
 use Rattle.std.proofs.Common.{sym, ◌∙◌}
-use Rattle.storage_exchange.specs.Storage.{state_of}
+use Rattle.storage_swap.specs.Storage.{state_of}
 use Rattle.task_plans.proofs.Climbs.{one_up}
 use Rattle.task_plans.proofs.ended.is_below_by.Goals as goal
 

@@ -1,5 +1,5 @@
 use Rattle.std.proofs.Common.{◌≡◌, ◌-◌}
-use Rattle.storage_exchange.specs.Storage.{state_of}
+use Rattle.storage_swap.specs.Storage.{state_of}
 use Rattle.storage_changes.specs.Ending.{is_below_by}
 use Rattle.task_plans.proofs.ended.is_below_by.Given as goal
 

@@ -1,7 +1,7 @@
 use Rattle.std.proofs.Common.{◌≡◌, ◌-◌, ◌≤◌, ◌⊎◌, sym, ◌∙◌, ap, arith, inl, inr}
 use Rattle.std.proofs.lemmas.Bool.{eq-eqb, ne_eqb}
 use Rattle.vsm_model.specs.Ending.{climbs}
-use Rattle.storage_exchange.specs.Storage.{state_of}
+use Rattle.storage_swap.specs.Storage.{state_of}
 use Rattle.task_plans.proofs.Climbs.{climb_up, climb_here, climb_stops, is_in_ended, none_in_ended}
 use Rattle.task_plans.proofs.ended.is_ended.Goals as goal
 use Rattle.task_plans.proofs.ended.is_ended.Goals.{then-task-eq0-via-then-task-eq0, then-task-eq0-via-else-task-eq0+then-task-ge-TASKS_END}

@@ -1,6 +1,6 @@
 use Rattle.std.proofs.Common.{◌≡◌, ◌-◌}
 use Rattle.vsm_model.specs.Ending.{climbs}
-use Rattle.storage_exchange.specs.Storage.{state_of}
+use Rattle.storage_swap.specs.Storage.{state_of}
 use Rattle.task_plans.proofs.ended.is_ended.Given as goal
 
 abbrev pub invariant-loop : goal.invariant-loop

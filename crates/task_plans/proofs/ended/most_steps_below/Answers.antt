@@ -1,6 +1,6 @@
 use Rattle.std.proofs.Common.{ℕ, ◌+◌, sym, subst}
 use Rattle.std.proofs.lemmas.Bool.{ne_eqb}
-use Rattle.storage_exchange.specs.Storage.{state_of}
+use Rattle.storage_swap.specs.Storage.{state_of}
 use Rattle.task_plans.proofs.Levels.{Walked, walk_begins, walk_meets, walk_passes, walk_ends}
 use Rattle.task_plans.proofs.ended.most_steps_below.Goals as goal
 use Rattle.task_plans.proofs.ended.most_steps_below.Goals.{then-above-tree, else-above-tree}

@@ -1,4 +1,4 @@
-use Rattle.storage_exchange.specs.Storage.{state_of}
+use Rattle.storage_swap.specs.Storage.{state_of}
 use Rattle.task_plans.proofs.Levels.{Walked}
 use Rattle.task_plans.proofs.ended.most_steps_below.Given as goal
 

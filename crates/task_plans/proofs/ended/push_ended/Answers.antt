@@ -3,7 +3,7 @@ use Rattle.std.specs.List.{flat_map}
 use Rattle.std.proofs.lemmas.Grind.{flat_map-append}
 use Rattle.storage_changes.specs.declared.record.Record.{Record}
 use Rattle.storage_changes.specs.State.{StorageState}
-use Rattle.storage_exchange.specs.Storage.{state_of}
+use Rattle.storage_swap.specs.Storage.{state_of}
 use Rattle.storage_swap.proofs.BuilderLemmas.{Leads, builds-follow, leads-none, leads-more, leads-room, leads-refused, if-refused}
 use Rattle.storage_changes.specs.Ending.{ended_from, ended_level, ended_below, ended_records}
 use Rattle.task_plans.proofs.Climbs.{level_next}

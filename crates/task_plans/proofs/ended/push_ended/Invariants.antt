@@ -1,6 +1,6 @@
 use Rattle.std.proofs.Common.{◌-◌}
 use Rattle.std.specs.List.{flat_map}
-use Rattle.storage_exchange.specs.Storage.{state_of}
+use Rattle.storage_swap.specs.Storage.{state_of}
 use Rattle.storage_swap.proofs.BuilderLemmas.{Leads}
 use Rattle.storage_changes.specs.Ending.{ended_from, ended_below, ended_records}
 use Rattle.task_plans.proofs.ended.push_ended.Given as goal

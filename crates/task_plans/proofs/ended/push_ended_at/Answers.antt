@@ -2,7 +2,7 @@ use Rattle.std.proofs.Common.{List, [], OnOk, sym, ap, ◌∙◌, subst, OnErr, 
 use Rattle.std.specs.List.{flat_map}
 use Rattle.std.proofs.lemmas.List.{append-nil}
 use Rattle.storage_changes.specs.declared.record.Record.{Record}
-use Rattle.storage_exchange.specs.Storage.{state_of}
+use Rattle.storage_swap.specs.Storage.{state_of}
 use Rattle.storage_swap.specs.Builder.{Pushes}
 use Rattle.storage_changes.specs.Ending.{is_below_by, ended_records}
 use Rattle.task_plans.proofs.Rests.{passes_first}

@@ -2,7 +2,7 @@ use Rattle.std.proofs.Common.{ℕ, ◌-◌, List}
 use Rattle.std.specs.Prelude.{filter}
 use Rattle.std.specs.List.{flat_map, range_with_len}
 use Rattle.storage_changes.specs.declared.record.Record.{Record}
-use Rattle.storage_exchange.specs.Storage.{state_of}
+use Rattle.storage_swap.specs.Storage.{state_of}
 use Rattle.storage_swap.proofs.BuilderLemmas.{Leads}
 use Rattle.storage_changes.specs.Ending.{is_below_by, ended_records}
 use Rattle.task_plans.proofs.ended.push_ended_level.Given as goal

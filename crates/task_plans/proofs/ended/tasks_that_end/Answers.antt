@@ -3,7 +3,7 @@ use Rattle.std.specs.Prelude.{filter}
 use Rattle.arrayvec.specs.ArrayVec.{ArrayVec}
 use Rattle.vsm_model.specs.Search.{is_in}
 use Rattle.subpool_set.proofs.OrderLemmas.{tasks_are}
-use Rattle.storage_exchange.specs.Storage.{state_of}
+use Rattle.storage_swap.specs.Storage.{state_of}
 use Rattle.storage_changes.specs.Ending.{ended_below}
 use Rattle.task_plans.specs.Sights.{tasks_below}
 use Rattle.task_plans.proofs.EndingTasks.{AreGathered, one_ends, one_stays, all_gathered}

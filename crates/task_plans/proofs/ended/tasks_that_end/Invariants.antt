@@ -1,6 +1,6 @@
 use Rattle.std.proofs.Common.{◌<◌, length}
 use Rattle.vsm_model.specs.Search.{is_in}
-use Rattle.storage_exchange.specs.Storage.{state_of}
+use Rattle.storage_swap.specs.Storage.{state_of}
 use Rattle.storage_changes.specs.Ending.{ended_below}
 use Rattle.task_plans.specs.Sights.{tasks_below}
 use Rattle.task_plans.proofs.EndingTasks.{AreGathered}

@@ -1,6 +1,6 @@
 use Rattle.std.proofs.Common.{◌≤◌, List, length, OnOk, sym, subst, OnErr}
 use Rattle.storage_changes.specs.declared.record.Record.{Record}
-use Rattle.storage_exchange.specs.Storage.{state_of}
+use Rattle.storage_swap.specs.Storage.{state_of}
 use Rattle.storage_swap.specs.Builder.{Pushes}
 use Rattle.task_plans.proofs.GiftRecords.{gift_seen, gift_new}
 use Rattle.storage_swap.specs.Growth.{MakesElements}

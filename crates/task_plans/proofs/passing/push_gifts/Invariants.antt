@@ -1,6 +1,6 @@
 use Rattle.std.proofs.Common.{drop}
 use Rattle.std.specs.List.{flat_map}
-use Rattle.storage_exchange.specs.Storage.{state_of}
+use Rattle.storage_swap.specs.Storage.{state_of}
 use Rattle.storage_swap.proofs.BuilderLemmas.{Leads}
 use Rattle.storage_changes.specs.Attaching.{gift_records}
 use Rattle.task_plans.proofs.passing.push_gifts.Given as goal

@@ -1,6 +1,6 @@
 use Rattle.std.proofs.Common.{◌≤◌, List, [], ◌∷◌, length, OnOk, refl, sym, subst, OnErr}
 use Rattle.storage_changes.specs.declared.record.Record.{Record}
-use Rattle.storage_exchange.specs.Storage.{state_of}
+use Rattle.storage_swap.specs.Storage.{state_of}
 use Rattle.storage_changes.specs.Attaching.{shared}
 use Rattle.storage_swap.specs.Builder.{Pushes}
 use Rattle.storage_swap.proofs.BuilderLemmas.{builds-follow, if-refused}

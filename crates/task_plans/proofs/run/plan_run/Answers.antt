@@ -1,4 +1,4 @@
-use Rattle.storage_exchange.specs.Storage.{state_of}
+use Rattle.storage_swap.specs.Storage.{state_of}
 use Rattle.task_plans.proofs.RunPlans.{past_tasks, run_carried}
 use Rattle.task_plans.proofs.run.plan_run.Goals as goal
 

@@ -1,5 +1,5 @@
 use Rattle.std.proofs.Common.{◌≤◌, sym, ◌∙◌, arith}
-use Rattle.storage_exchange.specs.Storage.{state_of}
+use Rattle.storage_swap.specs.Storage.{state_of}
 use Rattle.task_plans.specs.Sights.{row_of}
 use Rattle.task_plans.proofs.SightLemmas.{asked_for, high_none, seen_done, seen_passes, seen_meets}
 use Rattle.task_plans.proofs.sights.next_seen.Goals as goal

@@ -1,5 +1,5 @@
 use Rattle.std.proofs.Common.{◌≡◌}
-use Rattle.storage_exchange.specs.Storage.{state_of}
+use Rattle.storage_swap.specs.Storage.{state_of}
 use Rattle.task_plans.specs.Sights.{seen_left}
 use Rattle.task_plans.proofs.SightLemmas.{asked_for}
 use Rattle.task_plans.proofs.sights.next_seen.Given as goal

@@ -1,5 +1,5 @@
 use Rattle.std.proofs.Common.{◌<◌, ◌≤◌, List, ℕ, get_or, length, refl, sym, ◌∙◌, ap, arith}
-use Rattle.storage_exchange.specs.Storage.{state_of}
+use Rattle.storage_swap.specs.Storage.{state_of}
 use Rattle.task_plans.proofs.SightLemmas.{rows_done, rows_pass, rows_meet}
 use Rattle.task_plans.proofs.sights.seen_at.Goals as goal
 

@@ -1,6 +1,6 @@
 use Rattle.std.proofs.Common.{ℕ, ◌+◌, ◌*◌, List, refl, subst, arith, length}
 use Rattle.storage_changes.specs.declared.record.Record.{Record}
-use Rattle.storage_exchange.specs.Storage.{state_of}
+use Rattle.storage_swap.specs.Storage.{state_of}
 use Rattle.storage_swap.proofs.BuilderLemmas.{builds-follow, refused-made, if-refused}
 use Rattle.cell_plans.specs.CellPlans.{delete_change, extents_of_pool, extents_need}
 use Rattle.cell_plans.specs.Noted.{PushesBeside}

@@ -1,7 +1,7 @@
 use Rattle.std.proofs.Common.{rules, arith}
 use Rattle.vsm_elements.specs.Store.{live_count}
 use Rattle.storage_core.specs.Meaning.{state_in_place}
-use Rattle.storage_core.proofs.Counted.{few_answered, made_within, needed_for, uses_within}
+use Rattle.storage_core.proofs.Counted.{few_answered, makes_within, needed_for, uses_within}
 use Rattle.storage_core.proofs.Holding.{reserved_is_held, unassigned_in_region}
 use Rattle.storage_core.proofs.Staying.{failed_stays}
 use Rattle.storage_core.proofs.storage.Storage.reserve_storage.Goals as goal
@@ -37,7 +37,7 @@ returns c = record {
       (needed_for (state_in_place s).subpools plan.emptied _ plan.blanks c.as_slice.ensures.fits) c.reserve.result c.reserve.ensures.live);
   made = (let s = c.args.self.now in
       let plan = c.args.plan in
-      made_within s.parts.elements c.reserve.new.storage.elements _ _ (needed_for (state_in_place s).subpools plan.emptied _ plan.blanks c.as_slice.ensures.fits) c.reserve.ensures.made);
+      makes_within s.parts.elements c.reserve.new.storage.elements _ _ (needed_for (state_in_place s).subpools plan.emptied _ plan.blanks c.as_slice.ensures.fits) c.reserve.ensures.made);
   made_frames = c.reserve.ensures.made_frames;
   err = (let s = c.args.self.now in
       failed_stays s.parts c.reserve.new.storage s.held.stands c.reserve.result c.reserve.ensures.grown);

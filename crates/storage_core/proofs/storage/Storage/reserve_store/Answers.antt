@@ -1,6 +1,6 @@
 use Rattle.std.proofs.Common.{arith, rules}
 use Rattle.vsm_elements.specs.Store.{live_count}
-use Rattle.storage_core.proofs.Counted.{few_records, made_within, uses_within}
+use Rattle.storage_core.proofs.Counted.{few_records, makes_within, uses_within}
 use Rattle.storage_core.proofs.Holding.{reserved_is_held}
 use Rattle.storage_core.proofs.Staying.{failed_stays}
 use Rattle.storage_core.proofs.storage.Storage.reserve_store.Goals as goal
@@ -24,7 +24,7 @@ returns c = record {
   live = (let s = c.args.self.now in
       uses_within (live_count c.reserve.new.storage.elements) (live_count s.parts.elements) _ 17 (omega (arith, c.as_slice-2.ensures.fits)) c.reserve.result c.reserve.ensures.live);
   made = (let s = c.args.self.now in
-      made_within s.parts.elements c.reserve.new.storage.elements _ 17 (omega (arith, c.as_slice-2.ensures.fits)) c.reserve.ensures.made);
+      makes_within s.parts.elements c.reserve.new.storage.elements _ 17 (omega (arith, c.as_slice-2.ensures.fits)) c.reserve.ensures.made);
   made_frames = c.reserve.ensures.made_frames;
   err = (let s = c.args.self.now in
       failed_stays s.parts c.reserve.new.storage s.held.stands c.reserve.result c.reserve.ensures.grown);

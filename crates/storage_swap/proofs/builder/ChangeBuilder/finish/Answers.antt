@@ -1,6 +1,6 @@
 use Rattle.std.proofs.Common.{ℕ, List, [], sym, ap, subst, arith}
 use Rattle.raw_region.specs.Frames.{PageFrame}
-use Rattle.storage_exchange.specs.declared.storage.Parts.{Parts}
+use Rattle.storage_swap.specs.declared.storage.Parts.{Parts}
 use Rattle.storage_swap.specs.declared.change.Change.{Change as TheChange}
 use Rattle.storage_swap.specs.Builder.{builder_holds, Finishes}
 use Rattle.storage_swap.proofs.BuilderLemmas.{grown-builds, keeps-follow, finishes}
@@ -20,7 +20,7 @@ returns-in-Err-clause-err c =
     (grown-builds p b c.requires c.reserve.new.self c.reserve.ensures.kept).keeps c.discard.ensures.keeps
 
 pub returns-in-Err-clause-made : goal.returns-in-Err-clause-made
-returns-in-Err-clause-made c = omega (arith, c.reserve.ensures.live, c.reserve.ensures.bounded, c.discard.ensures.as_many)
+returns-in-Err-clause-made c = omega (arith, c.reserve.ensures.made, c.discard.ensures.as_many)
 
 pub returns-in-Err-clause-same_frames : goal.returns-in-Err-clause-same_frames
 returns-in-Err-clause-same_frames c = ap (λ (z : Parts). z.region) c.discard.ensures.keeps.same

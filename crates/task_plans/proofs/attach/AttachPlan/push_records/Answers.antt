@@ -1,7 +1,7 @@
 use Rattle.std.proofs.Common.{ℕ, ◌≤◌, List, sym, subst}
 use Rattle.std.specs.List.{All}
 use Rattle.storage_changes.specs.State.{StorageState}
-use Rattle.storage_exchange.specs.Storage.{state_of}
+use Rattle.storage_swap.specs.Storage.{state_of}
 use Rattle.storage_swap.proofs.BuilderLemmas.{builds-follow, if-refused}
 use Rattle.task_plans.specs.TaskPlans.{numbers}
 use Rattle.task_plans.proofs.AttachRecords.{task_room, registers_room, attach_pushed, task_refused, registers_refused}

@@ -1,5 +1,5 @@
 use Rattle.storage_swap.proofs.BuilderLemmas.{builds-follow, made-more, refused-made, if-refused}
-use Rattle.storage_exchange.specs.Storage.{state_of}
+use Rattle.storage_swap.specs.Storage.{state_of}
 use Rattle.task_plans.proofs.AttachRecords.{one_of_two, two_less_one, registers_pushed}
 use Rattle.task_plans.proofs.EndRecords.{never}
 use Rattle.std.proofs.lemmas.Result.{on_err_weaker}

@@ -4,15 +4,14 @@ use Rattle.vsm_elements.specs.Store.{made, live_count}
 use Rattle.subpool_storage.specs.Subpools.{no_subpools}
 use Rattle.storage_changes.specs.declared.record.Record.{Record}
 use Rattle.storage_changes.specs.Changes.{change_of, no_pages}
-use Rattle.storage_exchange.specs.Storage.{state_of}
+use Rattle.storage_swap.specs.Storage.{state_of}
 use Rattle.storage_swap.specs.Builder.{records_in, parked_in, builder_holds, Keeps}
-use Rattle.storage_swap.specs.Growth.{all_elements}
 use Rattle.storage_swap.specs.Reserve.{Grown}
 use Rattle.storage_swap.proofs.BuilderLemmas.{begun-grown, made-reserves, makes-follow}
 use Rattle.task_plans.specs.TaskPlans.{attach_change}
 use Rattle.task_plans.proofs.EndRecords.{never}
 use Rattle.task_plans.proofs.Reservations.{blanks_room, both_used, both_live, records_room}
-use Rattle.storage_exchange.specs.declared.storage.Parts.{Parts}
+use Rattle.storage_swap.specs.declared.storage.Parts.{Parts}
 use Rattle.task_plans.proofs.attach.AttachPlan.reserve.Goals as goal
 
 pub returns-in-Ok-clause-ok : goal.returns-in-Ok-clause-ok
@@ -34,7 +33,7 @@ returns-in-Ok-clause-made c =
     let t = c.push_records.new.storage in
     let u = c.finish.new.storage in
     let d = attach_change (state_of p) c.args.self in
-    makes-follow (all_elements p.elements) (all_elements t.elements) (made u.elements) (live_count p.elements) (live_count t.elements)
+    makes-follow (made p.elements) (made t.elements) (made u.elements) (live_count p.elements) (live_count t.elements)
     (length d.records) c.in-Ok.blanks (length d.records + d.blanks) c.in-Ok.ensures.ok.made (omega (arith, c.in-Ok.ensures.ok.live, c.in-Ok.ensures.blanks)) (omega arith) c.finish.ensures.made
 
 pub returns-in-Ok-clause-same_frames : goal.returns-in-Ok-clause-same_frames

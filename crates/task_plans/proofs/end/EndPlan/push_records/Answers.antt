@@ -2,7 +2,7 @@ use Rattle.std.proofs.Common.{◌∙◌, ◌+◌, length, arith}
 use Rattle.storage_swap.proofs.BuilderLemmas.{builds-follow, made-more}
 use Rattle.task_plans.proofs.EndRecords.{front_room, never, released_room, turn_room, rest_room, counted, end_records_are, end_parked_is, end_spare, end_live, end_made, released_refused, turn_refused, rest_refused}
 use Rattle.task_plans.proofs.SightLemmas.{still_ends}
-use Rattle.storage_exchange.specs.Storage.{state_of}
+use Rattle.storage_swap.specs.Storage.{state_of}
 use Rattle.task_plans.specs.TaskPlans.{end_change, parks_all}
 use Rattle.task_plans.proofs.end.EndPlan.push_records.Goals as goal
 

@@ -4,7 +4,7 @@ use Rattle.vsm_model.specs.declared.replies.Reply.{Reply}
 use Rattle.storage_changes.specs.declared.record.Record.{Record}
 use Rattle.storage_changes.specs.declared.record.Record.TheVariants.{Register}
 use Rattle.storage_changes.specs.StorageActions.{register_records}
-use Rattle.storage_exchange.specs.Storage.{state_of}
+use Rattle.storage_swap.specs.Storage.{state_of}
 use Rattle.storage_swap.specs.Builder.{Pushes}
 use Rattle.storage_swap.proofs.BuilderLemmas.{builds-follow, if-refused}
 use Rattle.storage_changes.specs.Ending.{with_turn}

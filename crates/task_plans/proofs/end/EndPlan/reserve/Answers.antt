@@ -2,15 +2,14 @@ use Rattle.std.proofs.Common.{◌+◌, ◌≤◌, length, arith, ap, ◌∙◌}
 use Rattle.std.proofs.lemmas.Result.{IfOk-weaker, IfErr-weaker}
 use Rattle.vsm_elements.specs.Store.{made, live_count}
 use Rattle.storage_changes.specs.Changes.{change_of, no_pages}
-use Rattle.storage_exchange.specs.Storage.{state_of}
+use Rattle.storage_swap.specs.Storage.{state_of}
 use Rattle.storage_swap.specs.Builder.{builder_holds, Keeps}
-use Rattle.storage_swap.specs.Growth.{all_elements}
 use Rattle.storage_swap.specs.Reserve.{Grown}
 use Rattle.storage_swap.proofs.BuilderLemmas.{begun-grown, made-reserves, makes-follow}
 use Rattle.task_plans.specs.TaskPlans.{end_change, parks_all}
 use Rattle.task_plans.proofs.EndRecords.{never}
 use Rattle.task_plans.proofs.Reservations.{blanks_room_behind, all_used, all_live, records_room_behind}
-use Rattle.storage_exchange.specs.declared.storage.Parts.{Parts}
+use Rattle.storage_swap.specs.declared.storage.Parts.{Parts}
 use Rattle.task_plans.proofs.end.EndPlan.reserve.Goals as goal
 
 pub returns-in-Ok-clause-ok : goal.returns-in-Ok-clause-ok
@@ -29,7 +28,7 @@ returns-in-Ok-clause-made c =
     let u = c.finish.new.storage in
     let d = end_change (state_of p) c.args.self in
     let parks = length (parks_all (state_of p) c.args.self.top) in
-    makes-follow (all_elements p.elements) (all_elements t.elements) (made u.elements) (live_count p.elements) (live_count t.elements)
+    makes-follow (made p.elements) (made t.elements) (made u.elements) (live_count p.elements) (live_count t.elements)
     (parks + length d.records) c.in-Ok.blanks (parks + (length d.records + d.blanks)) c.in-Ok.ensures.made (omega (arith, c.in-Ok.ensures.live, c.in-Ok.ensures.blanks)) (omega arith) c.finish.ensures.made
 
 pub returns-in-Ok-clause-same_frames : goal.returns-in-Ok-clause-same_frames

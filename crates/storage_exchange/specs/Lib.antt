@@ -1,3 +1,0 @@
-pub mod Storage
-pub mod Exchange
-pub mod Props
