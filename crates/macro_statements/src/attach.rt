@@ -32,6 +32,13 @@ pub const ATTACH: OperandRow = OperandRow {
     ],
 };
 
+/// The slots of the operands that have an effect.
+const GSPV: usize = 1;
+const GSPL: usize = 2;
+const SHSPV: usize = 3;
+const SHSPL: usize = 4;
+const SZERO: usize = 5;
+
 /// The subpools that were read at the place of their number, or at the place of a list's address.
 fn subpools_at(said: &[Option<Said>], number: usize, list: usize) -> Subpools
     requires number { number < length said.now }
@@ -54,9 +61,9 @@ fn attach_by(said: &[Option<Said>], request: &mut Request)
     ensures { asked_in request.new ≡ attach_by (slots_in said.now) }
 {
     *request = Request::Act(Statement::Attach {
-        given: subpools_at(said, 1, 2),
-        shared: subpools_at(said, 3, 4),
-        shares_zero: condition_at(said, 5).unwrap_or(true),
+        given: subpools_at(said, GSPV, GSPL),
+        shared: subpools_at(said, SHSPV, SHSPL),
+        shares_zero: condition_at(said, SZERO).unwrap_or(true),
     });
 }
 

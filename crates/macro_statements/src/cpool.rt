@@ -51,6 +51,17 @@ macro_rules! pool_row {
     };
 }
 
+/// The slots of the operands in such a row.
+const CPID: usize = 0;
+const PCELLCT: usize = 1;
+const SCELLCT: usize = 2;
+const CSIZE: usize = 3;
+const SP: usize = 4;
+const LOC: usize = 5;
+const HDR: usize = 6;
+const WORD: usize = 7;
+const CELL: usize = 8;
+
 /// CPOOL BUILD.
 const BUILD: OperandRow = pool_row!(Value, Location, Header, OtherForm, OtherForm);
 
@@ -97,23 +108,23 @@ fn build_by(said: &[Option<Said>], request: &mut Request) -> Result<(), FaultKin
     requires { length said.now ≡ 12 }
     ensures { left result request.new ≡ pool_by Build (slots_in said.now) }
 {
-    let Some(name) = name_at(said, 0) else {
+    let Some(name) = name_at(said, CPID) else {
         return Err(FaultKind::Missing);
     };
-    let Some(primary) = value_at(said, 1) else {
+    let Some(primary) = value_at(said, PCELLCT) else {
         return Err(FaultKind::Missing);
     };
-    let Some(size) = value_at(said, 3) else {
+    let Some(size) = value_at(said, CSIZE) else {
         return Err(FaultKind::Missing);
     };
     *request = Request::Act(Statement::Build(NewCellPool {
         name,
-        header: header_at(said, 6),
+        header: header_at(said, HDR),
         primary,
-        secondary: value_at(said, 2),
+        secondary: value_at(said, SCELLCT),
         size,
-        subpool: subpool_at(said, 4),
-        location: location_at(said, 5).unwrap_or(Location::Caller),
+        subpool: subpool_at(said, SP),
+        location: location_at(said, LOC).unwrap_or(Location::Caller),
     }));
     Ok(())
 }
@@ -123,13 +134,13 @@ fn get_by(said: &[Option<Said>], request: &mut Request) -> Result<(), FaultKind>
     requires { length said.now ≡ 12 }
     ensures { left result request.new ≡ pool_by Get (slots_in said.now) }
 {
-    let Some(pool) = name_at(said, 0) else {
+    let Some(pool) = name_at(said, CPID) else {
         return Err(FaultKind::Missing);
     };
     *request = Request::Act(Statement::GetCell {
         pool,
-        place: place_at(said, 8),
-        conditional: condition_at(said, 7).unwrap_or(false),
+        place: place_at(said, CELL),
+        conditional: condition_at(said, WORD).unwrap_or(false),
     });
     Ok(())
 }
@@ -139,10 +150,10 @@ fn free_by(said: &[Option<Said>], request: &mut Request) -> Result<(), FaultKind
     requires { length said.now ≡ 12 }
     ensures { left result request.new ≡ pool_by Free (slots_in said.now) }
 {
-    let Some(pool) = name_at(said, 0) else {
+    let Some(pool) = name_at(said, CPID) else {
         return Err(FaultKind::Missing);
     };
-    match value_at(said, 8) {
+    match value_at(said, CELL) {
         Some(cell) => {
             *request = Request::Act(Statement::FreeCell { pool, cell });
             Ok(())
@@ -156,7 +167,7 @@ fn delete_by(said: &[Option<Said>], request: &mut Request) -> Result<(), FaultKi
     requires { length said.now ≡ 12 }
     ensures { left result request.new ≡ pool_by Delete (slots_in said.now) }
 {
-    match name_at(said, 0) {
+    match name_at(said, CPID) {
         Some(pool) => {
             *request = Request::Act(Statement::DeletePool { pool });
             Ok(())

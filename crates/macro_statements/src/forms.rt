@@ -120,6 +120,14 @@ pub(crate) use obtaining;
 pub(crate) use releasing;
 pub(crate) use storage_row;
 
+/// The slots of the operands in such a row.
+const LENGTH: usize = 0;
+const SUBPOOL: usize = 1;
+const ADDRESS: usize = 2;
+const BOUNDARY: usize = 3;
+const LOCATION: usize = 4;
+const CONDITION: usize = 5;
+
 /// The length that was read at a place: a value or a pair of values.
 fn length_at(said: &[Option<Said>], i: usize) -> Option<Length>
     requires { i < length said.now }
@@ -192,19 +200,19 @@ fn obtain_by(form: Form, said: &[Option<Said>], request: &mut Request) -> Result
     requires { length said.now ≡ 9 }
     ensures { left result request.new ≡ obtain_by form (slots_in said.now) }
 {
-    if lacks_place(form.family, said, 2) {
+    if lacks_place(form.family, said, ADDRESS) {
         return Err(FaultKind::Missing);
     }
-    let Some(length) = length_at(said, 0) else {
+    let Some(length) = length_at(said, LENGTH) else {
         return Err(FaultKind::Missing);
     };
     *request = Request::Act(Statement::Obtain {
         length,
-        subpool: subpool_at(said, 1),
-        place: place_at(said, 2),
-        boundary: boundary_at(said, 3).unwrap_or(Boundary::Doubleword),
-        location: location_at(said, 4).unwrap_or(usual_location(form.family)),
-        form: form_by(form, said, 5),
+        subpool: subpool_at(said, SUBPOOL),
+        place: place_at(said, ADDRESS),
+        boundary: boundary_at(said, BOUNDARY).unwrap_or(Boundary::Doubleword),
+        location: location_at(said, LOCATION).unwrap_or(usual_location(form.family)),
+        form: form_by(form, said, CONDITION),
     });
     Ok(())
 }
@@ -216,14 +224,14 @@ fn whole_by(form: Form, said: &[Option<Said>], request: &mut Request) -> Result<
     ensures { left result request.new ≡ release_with None (as_value (slot (slots_in said.now) 2))
         (as_value (slot (slots_in said.now) 1)) (form_by form (as_condition (slot (slots_in said.now) 5))) }
 {
-    if value_at(said, 2).is_some() {
+    if value_at(said, ADDRESS).is_some() {
         return Err(FaultKind::Missing);
     }
-    match value_at(said, 1) {
+    match value_at(said, SUBPOOL) {
         Some(subpool) if has_whole(form.family) => {
             *request = Request::Act(Statement::Whole {
                 subpool,
-                form: form_by(form, said, 5),
+                form: form_by(form, said, CONDITION),
             });
             Ok(())
         }
@@ -237,17 +245,17 @@ fn release_by(form: Form, said: &[Option<Said>], request: &mut Request) -> Resul
     requires { length said.now ≡ 9 }
     ensures { left result request.new ≡ release_by form (slots_in said.now) }
 {
-    let Some(length) = value_at(said, 0) else {
+    let Some(length) = value_at(said, LENGTH) else {
         return whole_by(form, said, request);
     };
-    let Some(address) = value_at(said, 2) else {
+    let Some(address) = value_at(said, ADDRESS) else {
         return Err(FaultKind::Missing);
     };
     *request = Request::Act(Statement::Release {
         length,
         address,
-        subpool: subpool_at(said, 1),
-        form: form_by(form, said, 5),
+        subpool: subpool_at(said, SUBPOOL),
+        form: form_by(form, said, CONDITION),
     });
     Ok(())
 }
