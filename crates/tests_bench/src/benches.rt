@@ -1,64 +1,12 @@
 //! Calls of a bench by a Rust caller.
 
 use crate::checks::{holds, same};
-use std::alloc::Global;
 use std::process::Abort;
 use std::test::Fail;
 use vsm_bench::{
-    Bench, Boundary, Code, DEFAULT_SETTINGS, Family, Form, Length, Location, NewFault, Refusal,
-    Reply, Residence, Settings, Statement, Value,
+    Bench, Boundary, Code, DEFAULT_SETTINGS, Family, Form, Length, Location, Refusal, Reply,
+    Statement, Value,
 };
-
-fn settings_of(low_k: u32, high_k: u32, history: u32) -> Settings {
-    Settings {
-        low_k,
-        high_k,
-        history,
-        ..DEFAULT_SETTINGS
-    }
-}
-
-/// Why there is no bench with these settings.
-fn refusal_of(alloc: Global, settings: Settings) -> Option<NewFault> {
-    Bench::new(alloc, settings).err()
-}
-
-#[test]
-fn settings_within_their_limits_make_a_bench(rt: HostRuntime) -> Result<(), Fail> {
-    let above = Settings {
-        residence: Residence::Above,
-        ..DEFAULT_SETTINGS
-    };
-    for settings in [
-        DEFAULT_SETTINGS,
-        above,
-        settings_of(4, 4, 1),
-        settings_of(16_360, 64, 1024),
-        settings_of(64, 1_572_864, 1024),
-        settings_of(64, 64, 65_536),
-    ] {
-        assert_eq!(rt; refusal_of(rt.alloc(), settings), None, "{settings:?}");
-    }
-    Ok(())
-}
-
-#[test]
-fn settings_out_of_their_limits_make_none(rt: HostRuntime) -> Result<(), Fail> {
-    for settings in [
-        settings_of(0, 64, 1024),
-        settings_of(6, 64, 1024),
-        settings_of(16_364, 64, 1024),
-        settings_of(64, 0, 1024),
-        settings_of(64, 65_541, 1024),
-        settings_of(64, 1_572_868, 1024),
-        settings_of(64, 64, 0),
-        settings_of(64, 64, 65_537),
-    ] {
-        let refusal = refusal_of(rt.alloc(), settings);
-        assert_eq!(rt; refusal, Some(NewFault::Setting), "{settings:?}");
-    }
-    Ok(())
-}
 
 /// STORAGE OBTAIN of so many bytes from subpool 1.
 fn obtain(length: u32) -> Statement {

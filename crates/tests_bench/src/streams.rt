@@ -7,7 +7,7 @@ use std::io;
 use std::io::{Read, Write};
 use std::process::Abort;
 use std::test::Fail;
-use vsm_bench::{Bench, DEFAULT_SETTINGS, RunFault, RunTotals, run};
+use vsm_bench::{Bench, DEFAULT_SETTINGS, RunFault, run};
 
 const SCRIPT: &[u8] = b" STORAGE OBTAIN,LENGTH=8,SP=1
 * a comment
@@ -50,11 +50,10 @@ const FIRST_MAP: &[u8] = b" TASK 1 PARENT 0 CURRENT
  HISTORY KEPT 0 OF 1024
 ";
 
-/// A reader that gives one byte a call, and then its end or an error.
+/// A reader that gives one byte a call, and then an error.
 #[derive(Drop)]
 struct Slow<'a> {
     bytes: &'a [u8],
-    fails: bool,
 }
 
 impl<'a> Read for Slow<'a> {
@@ -67,10 +66,7 @@ impl<'a> Read for Slow<'a> {
             self.bytes = rest;
             return Ok(1);
         }
-        if self.fails {
-            return Err(io::Error::from(io::ErrorKind::Other));
-        }
-        Ok(0)
+        Err(io::Error::from(io::ErrorKind::Other))
     }
 }
 
@@ -113,28 +109,10 @@ impl Narrow {
 }
 
 #[test]
-fn byte_by_byte_is_as_at_once(rt: HostRuntime) -> Result<(), Fail> {
-    let mut reader = Slow {
-        bytes: SCRIPT,
-        fails: false,
-    };
-    let mut writer = Narrow::with_room(rt.alloc(), 10_000, false);
-    let totals = run(rt.alloc(), &mut reader, &mut writer, DEFAULT_SETTINGS);
-    let wanted = RunTotals {
-        statements: 8,
-        refused: 2,
-    };
-    holds!(rt; totals == Ok(wanted));
-    same!(rt; writer.bytes.as_slice(), OUTPUT);
-    Ok(())
-}
-
-#[test]
 fn a_read_error_leaves_the_answers_of_whole_lines(rt: HostRuntime) -> Result<(), Fail> {
     // The last line has no line feed, so nobody knows that it's whole.
     let mut reader = Slow {
         bytes: b" BACK 0\n BACK 0",
-        fails: true,
     };
     let mut output = Vec::new(rt.alloc());
     let totals = run(rt.alloc(), &mut reader, &mut output, DEFAULT_SETTINGS);
@@ -145,10 +123,7 @@ fn a_read_error_leaves_the_answers_of_whole_lines(rt: HostRuntime) -> Result<(),
 
 #[test]
 fn a_read_error_has_its_text_and_status(rt: HostRuntime) -> Result<(), Fail> {
-    let mut reader = Slow {
-        bytes: SCRIPT,
-        fails: true,
-    };
+    let mut reader = Slow { bytes: SCRIPT };
     let mut output = Vec::new(rt.alloc());
     outcome_of(&rt, &[], &mut reader, &mut output)?.is_fault(&rt, b"vsm: read\n");
     Ok(())
@@ -312,32 +287,6 @@ fn a_write_that_fails_once_ends_the_run(rt: HostRuntime) -> Result<(), Fail> {
         let totals = run(rt.alloc(), &mut SCRIPT, &mut writer, DEFAULT_SETTINGS);
         holds!(rt; totals == Err(RunFault::Write));
         is_begun(&rt, writer.bytes.as_slice(), OUTPUT, 40);
-    }
-    Ok(())
-}
-
-/// A reader that gives one byte a call, always the same, and has no end.
-#[derive(Drop)]
-struct Endless {
-    byte: u8,
-}
-
-impl Read for Endless {
-    fn read(&mut self, buf: &mut [u8]) -> io::Result<usize> {
-        if buf.is_empty() {
-            return Ok(0);
-        }
-        buf[0] = self.byte;
-        Ok(1)
-    }
-}
-
-#[test]
-fn bytes_without_an_end_end_the_run_one_by_one(rt: HostRuntime) -> Result<(), Fail> {
-    for byte in [b'\n', b'A'] {
-        let mut output = Vec::new(rt.alloc());
-        outcome_of(&rt, &[], &mut Endless { byte }, &mut output)?.is_fault(&rt, b"vsm: too long\n");
-        holds!(rt; output.is_empty());
     }
     Ok(())
 }
