@@ -1,9 +1,14 @@
-"""The words that hints of a listing are guessed from, as the code has them and as docs/STATEMENTS.md has them."""
+"""The words of statements: as hints of a listing are guessed from them, as the tools complete them, and as
+docs/STATEMENTS.md has them."""
 from __future__ import annotations
 
 import re
+import sys
 from dataclasses import dataclass, field
 from pathlib import Path
+
+sys.path.insert(0, str(Path(__file__).resolve().parent.parent / "tools"))
+from vsmtools.words import FORMS, KEYWORDS  # noqa: E402
 
 WORD = re.compile(r'b"([A-Z]+)"')
 
@@ -20,6 +25,8 @@ class Words:
     operations: dict[str, Known]
     # Keywords of which one stands in a statement.
     apart: set[tuple[str, str]]
+    # Keywords without an effect, which may stand in each of several macros.
+    idle: set[str] = field(default_factory=set)
 
 
 def in_code(text: str) -> Words:
@@ -48,9 +55,16 @@ def on_page(text: str) -> Words:
         known.keywords |= set(re.findall(r"([A-Z]+)=", operands))
         apart |= set(re.findall(r"\[,(\w+)=value\|(\w+)=value\]", operands))
     anywhere = re.search(r"(?m)^(.*) may stand in each (.*?), with any value", text)
+    idle = set(words_in(anywhere[1])) if anywhere else set()
     for operation in words_in(anywhere[2]) if anywhere else []:
-        operations[operation].keywords |= set(words_in(anywhere[1]))
-    return Words(operations, apart)
+        operations[operation].keywords |= idle
+    return Words(operations, apart, idle)
+
+
+def of_tools() -> dict[str, Known]:
+    """As the tools complete them, without those that have no effect."""
+    return {operation: Known(set(forms), {word for head, words in KEYWORDS.items() if head.split()[0] == operation for word in words})
+            for operation, forms in FORMS.items()}
 
 
 def read(top: Path) -> tuple[Words, Words]:
