@@ -238,7 +238,7 @@ module _ (s : Parts) (a : ChangeBuilder) (h : IsBuilding s a) (e : Store) (same 
   grown-parked = records-parked s a h e a.records grown-chain.0 a.last (h.last ∙ sym (ap (last_or 0) grown-chain.1)) still
 
   pub grown-pushes : s.elements.spare ≤ e.spare → live_count e ≡ live_count s.elements → MakesElements s.elements e 1 → Pushes s a [] (over s e) a
-  grown-pushes more live few = record { records = grown-records ∙ sym (append-nil (records_in s a)); parked = grown-parked; spare = omega (arith, more); live = omega (arith, live); made = omega (arith, few) }
+  grown-pushes more live few = record { records = grown-records ∙ sym (append-nil (records_in s a)); parked = grown-parked; spare = omega (arith, more); live = omega (arith, live); made = few }
 
   -- one record more, of a spare one
   module _ (added : Record) (end : Store) (chain : Chain) (stand : IsChain end chain) (last : ℕ) (is-last : last ≡ last_or 0 (links end chain)) (put : records_of end chain ≡ records_of e a.records ++ added ∷ [])
@@ -312,10 +312,10 @@ module _ (s : Parts) (a : ChangeBuilder) (h : IsBuilding s a) (e : Store) (same 
     end-hold : (i : ℕ) → hold (over s end) i ≡ hold (over s e) i
     end-hold = same-hold (over s e) end ready.stands.storage own-kept
 
-    abbrev made : TheChange
-    made = record { records = a.records; blanks = blanks; frames = []; parked = a.parked }
+    abbrev finished : TheChange
+    finished = record { records = a.records; blanks = blanks; frames = []; parked = a.parked }
 
-    pub finishes : Finishes s a blanks.count (over s end) made
+    pub finishes : Finishes s a blanks.count (over s end) finished
     finishes = record {
       ready = record {
         stands = record { storage = same-stands (over s e) end ready.stands.storage own-kept; parked = parked-stays.0; once = λ i. omega (arith, all-once i, end-hold i, parked-stays.2 i) };
@@ -326,12 +326,12 @@ module _ (s : Parts) (a : ChangeBuilder) (h : IsBuilding s a) (e : Store) (same 
         out = ready.out;
         places = ready.places;
       };
-      keeps = keeps-follow s (over s e) (over s end) (builder_holds s a) (builder_holds (over s e) a) (change_holds end made) began.keeps (record {
+      keeps = keeps-follow s (over s e) (over s end) (builder_holds s a) (builder_holds (over s e) a) (change_holds end finished) began.keeps (record {
         same = refl;
         shows = same-state (over s e) end ready.stands.storage own-kept;
         held = end-hold;
         kept = own-kept;
-        moves = moves-by e end no_ids (λ i. times i (owned end blanks)) (builder_holds (over s e) a) (change_holds end made) m (λ i. omega arith) (λ i. omega (arith, end-ids i, parked-stays.2 i));
+        moves = moves-by e end no_ids (λ i. times i (owned end blanks)) (builder_holds (over s e) a) (change_holds end finished) m (λ i. omega arith) (λ i. omega (arith, end-ids i, parked-stays.2 i));
       });
       meaning = λ i. record {
         records = (ap (map record_at) records-stay.1 ∙ grown-records) i;

@@ -15,7 +15,7 @@ use Rattle.subpool_storage.specs.SubpoolStorage
 use Rattle.subpool_storage.proofs.LawLemmas.{storage_owns}
 use Rattle.storage_swap.specs.declared.storage.Parts.{Parts}
 use Rattle.storage_swap.specs.Storage.{hold_with, StandsWith}
-use Rattle.storage_swap.proofs.StructureLemmas.{PagesStay, SubpoolsStay, TasksStay, pages-stay, subpools-stay, tasks-stay, pages-live, pages-once, tasks-live, tasks-once, two-live, three-live}
+use Rattle.storage_swap.specs.StructureKept.{PagesStay, SubpoolsStay, TasksStay, pages-stay, subpools-stay, tasks-stay, pages-live, pages-once, tasks-live, tasks-once, two-live, three-live}
 
 module _ (p : Parts) (parked : Subpools) (k : StandsWith p parked) (e : Store) where
   -- whose an element was

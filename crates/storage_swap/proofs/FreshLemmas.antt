@@ -29,7 +29,7 @@ use Rattle.storage_changes.proofs.Cases.{state-same}
 use Rattle.storage_swap.specs.declared.storage.Parts.{Parts}
 use Rattle.storage_swap.specs.Storage.{hold, tasks_of, state_of}
 use Rattle.storage_swap.specs.Fresh.{first_storage, IsFresh}
-use Rattle.storage_swap.proofs.StructureLemmas.{TasksStay}
+use Rattle.storage_swap.specs.StructureKept.{TasksStay}
 use Rattle.storage_swap.proofs.Below.{trees-kept, storage-owns, storage-stays}
 
 abbrev no_ids : ℕ → ℕ

@@ -20,7 +20,7 @@ use Rattle.subpool_storage.specs.SubpoolStorage
 use Rattle.storage_changes.proofs.Cases.{state-same}
 use Rattle.storage_swap.specs.declared.storage.Parts.{Parts}
 use Rattle.storage_swap.specs.Storage.{hold, hold_with, tasks_of, state_of, Stand, StandsWith}
-use Rattle.storage_swap.proofs.StructureLemmas.{TasksStay}
+use Rattle.storage_swap.specs.StructureKept.{TasksStay}
 use Rattle.storage_swap.proofs.Below.{trees-kept, storage-owns, storage-stays}
 
 -- over other elements

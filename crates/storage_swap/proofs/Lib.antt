@@ -1,4 +1,3 @@
-pub mod StructureLemmas
 pub mod WalkLemmas
 pub mod CallLemmas
 pub mod SubpoolLemmas

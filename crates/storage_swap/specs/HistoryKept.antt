@@ -16,8 +16,8 @@ use Rattle.subpool_storage.proofs.LawLemmas.{storage_owns}
 use Rattle.storage_changes.proofs.Cases.{state-same}
 use Rattle.storage_swap.specs.declared.storage.Parts.{Parts}
 use Rattle.storage_swap.specs.Storage.{hold, tasks_of, state_of, byte_held, Stand}
-use Rattle.storage_swap.proofs.StructureLemmas.{PagesStay, SubpoolsStay, TasksStay, pages-stay, subpools-stay}
-use Rattle.storage_swap.proofs.StructureLemmas.{tasks-stay, pages-live, tasks-live, three-live}
+use Rattle.storage_swap.specs.StructureKept.{PagesStay, SubpoolsStay, TasksStay, pages-stay, subpools-stay}
+use Rattle.storage_swap.specs.StructureKept.{tasks-stay, pages-live, tasks-live, three-live}
 use Rattle.storage_swap.specs.declared.change.Change.{Change}
 use Rattle.storage_swap.specs.Beside.{record_at}
 use Rattle.storage_swap.specs.Swap.{means, change_holds}

@@ -2,6 +2,7 @@ pub mod Storage
 pub mod Exchange
 pub mod Props
 pub mod Apart
+pub mod StructureKept
 pub mod HistoryKept
 pub mod Steps
 pub mod ReservedFit
