@@ -237,7 +237,7 @@ module _ (s : Parts) (a : ChangeBuilder) (h : IsBuilding s a) (e : Store) (same 
   pub grown-parked : parked_in (over s e) a ≡ parked_in s a
   grown-parked = records-parked s a h e a.records grown-chain.0 a.last (h.last ∙ sym (ap (last_or 0) grown-chain.1)) still
 
-  pub grown-pushes : s.elements.spare ≤ e.spare → live_count e ≡ live_count s.elements → MakesElements s.elements e 1 → Pushes s a [] (over s e) a
+  pub grown-pushes : s.elements.spare ≤ e.spare → live_count e ≡ live_count s.elements → MakesElements s.elements e 0 → Pushes s a [] (over s e) a
   grown-pushes more live few = record { records = grown-records ∙ sym (append-nil (records_in s a)); parked = grown-parked; spare = omega (arith, more); live = omega (arith, live); made = few }
 
   -- one record more, of a spare one
@@ -249,7 +249,7 @@ module _ (s : Parts) (a : ChangeBuilder) (h : IsBuilding s a) (e : Store) (same 
         builds-follow s (over s e) (over s end) a a (record { records = chain; last = last; parked = a.parked }) first
         (records-build (over s e) a first.building end chain stand last is-last (moves-of e end (owned e a.records) (owned end chain) f))
 
-    pub push-pushes : s.elements.spare ≤ e.spare → live_count e ≡ live_count s.elements → MakesElements s.elements e 1 → end.spare + 1 ≡ e.spare → Pushes s a (added ∷ []) (over s end) (record { records = chain; last = last; parked = a.parked })
+    pub push-pushes : s.elements.spare ≤ e.spare → live_count e ≡ live_count s.elements → MakesElements s.elements e 0 → end.spare + 1 ≡ e.spare → Pushes s a (added ∷ []) (over s end) (record { records = chain; last = last; parked = a.parked })
     push-pushes more live few less =
         let first : Builds s a (over s e) a = grown-builds in
         record {

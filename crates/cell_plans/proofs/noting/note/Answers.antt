@@ -14,7 +14,7 @@ pub returns-in_err-reserve-clause-moves : goal.returns-in_err-reserve-clause-mov
 returns-in_err-reserve-clause-moves c = grown-moves c.args.storage.now.elements c.reserve.new.self c.args.noted.now c.requires.queue c.reserve.ensures.kept
 
 pub returns-in_err-reserve-clause-made : goal.returns-in_err-reserve-clause-made
-returns-in_err-reserve-clause-made c = if-refused (MakesElements c.args.storage.now.elements c.reserve.new.self 2) c.from_residual.result c.reserve.ensures.made
+returns-in_err-reserve-clause-made c = if-refused (MakesElements c.args.storage.now.elements c.reserve.new.self 2) c.from_residual.result (omega (arith, c.reserve.ensures.made))
 
 pub note_area-requires-clause-queue : goal.note_area-requires-clause-queue
 note_area-requires-clause-queue c = grown-stands c.args.storage.now.elements c.reserve.new.self c.args.noted.now c.requires.queue c.reserve.ensures.kept
@@ -39,4 +39,4 @@ returns-clause-one c =
     notes-one e done.new.elements (owned e q) (owned done.new.elements done.new.noted) done.ensures.owned
     (owned-live e (owned e q) (queues_stand e q stand).1 c.live_are_counted.ensures) s (length (owned s q))
     (sym (ap length (grown-owned s e q c.requires.queue c.reserve.ensures.kept)))
-    c.reserve.ensures.grows c.reserve.ensures.made c.reserve.ensures.live done.ensures.spares
+    c.reserve.ensures.grows (omega (arith, c.reserve.ensures.made)) c.reserve.ensures.live done.ensures.spares

@@ -13,10 +13,10 @@ pub returns-in_err-reserve-clause-err : goal.returns-in_err-reserve-clause-err
 returns-in_err-reserve-clause-err c =
     let p = c.args.storage.now in
     let b = c.args.self.now in
-    if-refused (Pushes p b [] (over p c.reserve.new.self) b) c.from_residual.result (grown-pushes p b c.requires.building c.reserve.new.self c.reserve.ensures.kept c.reserve.ensures.grows c.reserve.ensures.live c.reserve.ensures.made)
+    if-refused (Pushes p b [] (over p c.reserve.new.self) b) c.from_residual.result (grown-pushes p b c.requires.building c.reserve.new.self c.reserve.ensures.kept c.reserve.ensures.grows c.reserve.ensures.live (omega (arith, c.reserve.ensures.made)))
 
 pub returns-in_err-reserve-clause-made : goal.returns-in_err-reserve-clause-made
-returns-in_err-reserve-clause-made c = if-refused (MakesElements c.args.storage.now.elements c.reserve.new.self 1) c.from_residual.result c.reserve.ensures.made
+returns-in_err-reserve-clause-made c = if-refused (MakesElements c.args.storage.now.elements c.reserve.new.self 1) c.from_residual.result (omega (arith, c.reserve.ensures.made))
 
 pub create-requires-clause-stands : goal.create-requires-clause-stands
 create-requires-clause-stands c = (grown-builds c.args.storage.now c.args.self.now c.requires.building c.reserve.new.self c.reserve.ensures.kept).building.ready.stands.parked
