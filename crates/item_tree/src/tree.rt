@@ -114,18 +114,19 @@ impl ItemTree {
         requires order { Ascends (items elements.now self) }
         ensures { result ≡ item_in k (items elements.now self) }
     {
-        if self.root == 0 {
-            return None;
+        let mut tree = self;
+        while tree.root != 0 {
+            let node = tree.open(elements);
+            let here = u64::from(node.item.words[0]);
+            if k < here {
+                tree = node.left;
+            } else if k == here {
+                return Some(node.item);
+            } else {
+                tree = node.right;
+            }
         }
-        let node = self.open(elements);
-        let here = u64::from(node.item.words[0]);
-        if k < here {
-            node.left.find(elements, k)
-        } else if k == here {
-            Some(node.item)
-        } else {
-            node.right.find(elements, k)
-        }
+        None
     }
 
     // The id of the first item whose key is this one or above it, or `best` where there is none.

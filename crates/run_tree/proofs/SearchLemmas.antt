@@ -1,5 +1,5 @@
 -- Searches, step by step.
-use Rattle.std.proofs.Common.{◌≡◌, ℕ, ◌+◌, ◌-◌, ◌<◌, ◌≤◌, ◌⊎◌, inl, inr, max, length, refl, sym, ◌∙◌, arith, subst}
+use Rattle.std.proofs.Common.{◌≡◌, ℕ, ◌+◌, ◌-◌, ◌<◌, ◌≤◌, ◌⊎◌, inl, inr, max, List, length, refl, sym, ◌∙◌, arith, subst}
 use Rattle.vsm_elements.specs.Store.{Store}
 use Rattle.run_tree.specs.declared.run.Run.{Run}
 use Rattle.run_tree.specs.declared.tree.FoundRun.{FoundRun}
@@ -22,6 +22,10 @@ find_none s h m before behind t e = record {
   next = λ low. absurd (omega (arith, low, e, length-tree s h t));
   end = λ high. refl;
 }
+
+pub found_at : (m : ℕ) (before behind : Run) (rs : List Run) (f : FoundRun) (i j : ℕ) → i ≡ j → FindsRuns m before behind rs (record { index = i; before = f.before; behind = f.behind })
+    → FindsRuns m before behind rs (record { index = j; before = f.before; behind = f.behind })
+found_at m before behind rs f i j e = subst (λ (k : ℕ). FindsRuns m before behind rs (record { index = k; before = f.before; behind = f.behind })) e
 
 pub rooms_end : (s : Store) (h : RunTree) (room : Run → ℕ) (from len : ℕ) → IsTree s h → from ≡ h.count → RoomsTo room (runs s h) from len h.count
 rooms_end s h room from len t e = record {

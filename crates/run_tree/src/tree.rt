@@ -236,25 +236,24 @@ impl RunTree {
         requires tree { IsTree elements.now self }
         ensures { FindsRuns n before behind (runs elements.now self) result }
     {
-        if self.count == 0 {
-            return FoundRun {
-                index: 0,
-                before,
-                behind,
-            };
-        }
-        let node = self.open(elements);
-        if u64::from(n) < u64::from(node.run.start) + u64::from(node.run.len) {
-            node.left.find(elements, n, before, node.run)
-        } else {
-            let rest = node.right.find(elements, n, node.run, behind);
-            let index = node.left.count + 1 + rest.index;
-            FoundRun {
-                index,
-                before: rest.before,
-                behind: rest.behind,
+        let mut tree = self;
+        let mut found = FoundRun {
+            index: 0,
+            before,
+            behind,
+        };
+        while tree.count > 0 {
+            let node = tree.open(elements);
+            if u64::from(n) < u64::from(node.run.start) + u64::from(node.run.len) {
+                found.behind = node.run;
+                tree = node.left;
+            } else {
+                found.index += node.left.count + 1;
+                found.before = node.run;
+                tree = node.right;
             }
         }
+        found
     }
 
     // The most room of all runs, from a number on a page or from any.
