@@ -1,5 +1,5 @@
 -- A queue of noted areas, beside the change that is being made.
-use Rattle.std.proofs.Common.{◌≡◌, ℕ, ◌+◌, ◌*◌, ◌-◌, ◌<◌, ◌≤◌, max, List, [], length, map, IsSome, inl, inr, refl, sym, ap, ◌∙◌, arith}
+use Rattle.std.proofs.Common.{◌≡◌, ℕ, ◌+◌, ◌*◌, ◌-◌, ◌<◌, ◌≤◌, List, [], length, map, IsSome, inl, inr, refl, sym, ap, ◌∙◌, arith}
 use Rattle.vsm_elements.specs.Store.{Store, at, made, live_count, AreLive, SameElements}
 use Rattle.vsm_elements.specs.Chain.{Link, last_or, links, ids, IsChain, owned as links_own}
 use Rattle.vsm_elements.specs.Ownership.{Owns, Leaves}

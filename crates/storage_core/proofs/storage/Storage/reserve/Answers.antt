@@ -1,4 +1,5 @@
 use Rattle.std.proofs.Common.{◌+◌, ◌≤◌, IsOk, IfOk, refl, sym, subst, rules}
+use Rattle.storage_swap.specs.Growth.{MakesElements}
 use Rattle.task_plans.specs.TaskPlans.{end_change}
 use Rattle.storage_core.specs.declared.plans.Plan.{Plan}
 use Rattle.storage_core.specs.declared.plans.Plan.TheVariants.{End}
@@ -22,6 +23,12 @@ returns-in-End-clause-few c =
     let m = state_in_place c.args.self.now in
     let P : Plan → Type 0 = λ x. IfOk c.reserve_end.result (λ change. change.records.count + change.blanks.count ≤ elements_needed m x) in
     subst P (sym c.in-End.is) c.reserve_end.ensures.few
+
+pub returns-in-End-clause-made : goal.returns-in-End-clause-made
+returns-in-End-clause-made c =
+    let s = c.args.self.now in
+    let P : Plan → Type 0 = λ x. MakesElements s.parts.elements c.reserve_end.new.self.parts.elements (elements_needed (state_in_place s) x) in
+    subst P (sym c.in-End.is) c.reserve_end.ensures.made
 
 pub returns-in-End-clause-needless : goal.returns-in-End-clause-needless
 returns-in-End-clause-needless c =
