@@ -1,9 +1,12 @@
 -- An item of a tree by its id: what it says, and that it is written.
-use Rattle.std.proofs.Common.{◌≡◌, ◌≢◌, ℕ, suc, ◌+◌, ◌≤◌, Bool, true, false, inl, inr, List, [], ◌∷◌, ◌++◌, length, drop, get_or, Some, None, refl, sym, ap, ◌∙◌, IsSome, subst, arith, append_assoc}
-use Rattle.std.specs.Prelude.{if◌then◌else◌, slice_set}
+use Rattle.std.proofs.Common.{◌≡◌, ◌≢◌, ℕ, suc, ◌+◌, ◌≤◌, Bool, true, false, inl, inr, List, [], ◌∷◌, ◌++◌, length, take, drop, get_or, Option, Some, None, refl, sym, ap, ◌∙◌, IsSome, subst, arith, append_assoc}
+use Rattle.std.specs.Prelude.{if◌then◌else◌, slice_set, unwrap_or}
+use Rattle.std.proofs.lemmas.List.{length-drop, append-nil}
+use Rattle.std.proofs.Math.ListN.{drop_of_length-le}
 use Rattle.std.proofs.lemmas.Bool.Decides.{eqb_tells}
 use Rattle.vsm_elements.specs.declared.element.Element.{Element}
-use Rattle.vsm_elements.specs.Store.{Store, at, among, Distinct, Updates}
+use Rattle.vsm_elements.specs.Store.{Store, at, blank, among, Distinct, Updates}
+use Rattle.vsm_elements.specs.Words.{with_word, with_four}
 use Rattle.vsm_elements.specs.Chain.{element}
 use Rattle.vsm_elements.proofs.StoreLemmas.{among_cons}
 use Rattle.vsm_elements.proofs.ChainLemmas.{not_both}
@@ -12,10 +15,10 @@ use Rattle.item_tree.specs.declared.item.Item.{Item}
 use Rattle.item_tree.specs.declared.tree.ItemTree.{ItemTree}
 use Rattle.item_tree.specs.Items.{item_named}
 use Rattle.item_tree.specs.Shape.{Shape, leaf, node, items_in, ids_in, top, written, Held, grown, limit, IsTreeOf}
-use Rattle.item_tree.specs.Trees.{items, owned, IsTree, IsSet, Writes}
+use Rattle.item_tree.specs.Trees.{items, owned, words_at, IsTree, IsSet, Writes}
 use Rattle.item_tree.proofs.Lists.{in_parts, out_parts, out_cons, distinct_left, distinct_right, distinct_apart, distinct_apart_back}
 use Rattle.item_tree.proofs.ShapeLemmas.{Held-same}
-use Rattle.item_tree.proofs.TreeLemmas.{is_tree, items_are, owned_are}
+use Rattle.item_tree.proofs.TreeLemmas.{is_tree, items_are, owned_are, owned_live}
 
 -- the node of an id holds its element
 same_element : (s : Store) (i : ℕ) (e f : Element) → at s i ≡ Some e → at s i ≡ Some f → e ≡ f
@@ -181,22 +184,51 @@ writes s t h x i m e a v f same up spare =
       as_many = up.as_many;
     }
 
--- the words of a node, where its item has another word, and what its item has
+-- the words of a node, where its item has another word or others at its end, and what its item has
 
-pub set_behind : (ws vs : List ℕ) (k v : ℕ) → ws ≡ get_or ws 0 0 ∷ drop 1 ws → drop 1 ws ≡ vs → slice_set ws (1 + k) v ≡ get_or ws 0 0 ∷ slice_set vs k v
+live_element : (s : Store) (i : ℕ) → IsSome (at s i) → at s i ≡ Some (element s i)
+live_element s i = go (at s i) where
+  go : (o : Option Element) → IsSome o → o ≡ Some (unwrap_or o blank)
+  go None h = cc
+  go (Some e) h = refl
+
+whole : (ws : List ℕ) → length ws ≡ 7 → ws ≡ get_or ws 0 0 ∷ drop 1 ws
+whole [] h = absurd (omega (arith, h))
+whole (x ∷ xs) h = refl
+
+pub six : (ws : List ℕ) → length ws ≡ 7 → length (drop 1 ws) ≡ 6
+six ws h = omega (arith, h, length-drop 1 ws)
+
+set_behind : (ws vs : List ℕ) (k v : ℕ) → ws ≡ get_or ws 0 0 ∷ drop 1 ws → drop 1 ws ≡ vs → slice_set ws (1 + k) v ≡ get_or ws 0 0 ∷ slice_set vs k v
 set_behind ws vs k v whole e =
     let one : 1 + k ≡ suc k = omega arith in
     ap (λ (z : List ℕ). slice_set z (1 + k) v) whole ∙ ap (λ (i : ℕ). slice_set (get_or ws 0 0 ∷ drop 1 ws) i v) one ∙ ap (λ (z : List ℕ). get_or ws 0 0 ∷ slice_set z k v) e
 
-pub got_behind : (ws vs : List ℕ) (k : ℕ) → ws ≡ get_or ws 0 0 ∷ drop 1 ws → drop 1 ws ≡ vs → get_or ws (1 + k) 0 ≡ get_or vs k 0
-got_behind ws vs k whole e =
-    let one : 1 + k ≡ suc k = omega arith in
-    ap (λ (z : List ℕ). get_or z (1 + k) 0) whole ∙ ap (λ (i : ℕ). get_or (get_or ws 0 0 ∷ drop 1 ws) i 0) one ∙ ap (λ (z : List ℕ). get_or z k 0) e
+four_behind : (ws four : List ℕ) → length ws ≡ 7 → take 3 ws ++ four ++ drop 7 ws ≡ get_or ws 0 0 ∷ take 2 (drop 1 ws) ++ four
+four_behind ws four h = ap (λ (z : List ℕ). take 3 ws ++ four ++ z) (drop_of_length-le ws {i = 7} (omega (arith, h))) ∙ append-nil (take 3 ws ++ four) ∙ go ws h where
+  go : (ws : List ℕ) → length ws ≡ 7 → take 3 ws ++ four ≡ get_or ws 0 0 ∷ take 2 (drop 1 ws) ++ four
+  go [] h = absurd (omega (arith, h))
+  go (x ∷ xs) h = refl
 
-pub later : (x : ℕ) (vs : List ℕ) (k : ℕ) → get_or vs k 0 ≡ get_or (x ∷ vs) (1 + k) 0
-later x vs k =
-    let one : suc k ≡ 1 + k = omega arith in
-    ap (λ (i : ℕ). get_or (x ∷ vs) i 0) one
+pub got_behind : (ws : List ℕ) (k : ℕ) → length ws ≡ 7 → get_or ws (1 + k) 0 ≡ get_or (drop 1 ws) k 0
+got_behind ws k h =
+    let one : 1 + k ≡ suc k = omega arith in
+    ap (λ (z : List ℕ). get_or z (1 + k) 0) (whole ws h) ∙ ap (λ (i : ℕ). get_or (get_or ws 0 0 ∷ drop 1 ws) i 0) one
+
+module _ (s t : Store) (h : ItemTree) (tree : IsTree s h) (i : ℕ) (there : among i (owned s h) ≡ true) (seven : length ((element s i).words) ≡ 7) (spare : t.spare ≡ s.spare) where
+  here : at s i ≡ Some (element s i)
+  here = live_element s i (owned_live s h tree i there)
+
+  pub writes_word : (k v : ℕ) → Updates s t i (Some (with_word (element s i) (1 + k) v)) → Writes s t h i (slice_set (words_at s i) k v)
+  writes_word k v up =
+      let ws = (element s i).words in
+      writes s t h tree i there (element s i) here (slice_set (words_at s i) k v) _
+      (ap (λ (w : List ℕ). record { next = (element s i).next; words = w }) (set_behind ws (drop 1 ws) k v (whole ws seven) refl)) up spare
+
+  pub writes_four : (four : List ℕ) → Updates s t i (Some (with_four (element s i) 3 four)) → Writes s t h i (take 2 (words_at s i) ++ four)
+  writes_four four up =
+      writes s t h tree i there (element s i) here (take 2 (words_at s i) ++ four) _
+      (ap (λ (w : List ℕ). record { next = (element s i).next; words = w }) (four_behind ((element s i).words) four seven)) up spare
 
 -- each item's element has its words
 

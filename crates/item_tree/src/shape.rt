@@ -1,5 +1,4 @@
 ghost use Rattle.std.specs.Prelude.{◌≡◌, ◌<◌, ◌∷◌, ◌++◌, IsSome, [], drop, slice_index_or};
-ghost use Rattle.std.specs.Prelude.{◌+◌, slice_set};
 ghost use Rattle.vsm_elements.specs.Store.{Store, at, Distinct};
 
 use crate::item::Item;
@@ -35,18 +34,6 @@ pub(crate) fn with_rest(words: [u32; 7], rest: [u32; 5]) -> [u32; 7]
     [
         words[0], words[1], rest[0], rest[1], rest[2], rest[3], rest[4],
     ]
-}
-
-// The words of a node whose item has another word at a place.
-pub(crate) fn with_word(words: [u32; 7], k: usize, word: u32) -> [u32; 7]
-    requires { k < 6 }
-    ensures set { result ≡ slice_set words (1 + k) word }
-    ensures whole { words ≡ slice_index_or words 0 0 ∷ drop 1 words }
-    ensures here { slice_index_or result (1 + k) 0 ≡ word }
-{
-    let mut words = words;
-    words[1 + k] = word;
-    words
 }
 
 impl ItemTree {

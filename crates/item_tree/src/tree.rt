@@ -1,13 +1,13 @@
 ghost use Rattle.std.specs.Prelude.{◌≡◌, ℕ, ◌<◌, ◌++◌, ◌∷◌, [], None, IsSome, Some, drop, ◌^◌, true, false};
 ghost use Rattle.std.specs.Prelude.{IfNone, IfSome};
-ghost use Rattle.std.specs.Prelude.{slice_set, slice_index_or};
+ghost use Rattle.std.specs.Prelude.{slice_set, slice_index_or, take, length};
 ghost use Rattle.vsm_elements.specs.Store.{Store, at, among, Distinct};
 ghost use Rattle.vsm_elements.specs.Ownership.{Leaves};
 ghost use Rattle.vsm_elements.specs.Chain.{element};
 ghost use Rattle.item_tree.specs.Items.{key, item_in, item_from, last_item, item_named, id_or, Ascends};
 
 use crate::item::Item;
-use crate::shape::{Node, last_six, with_rest, with_word};
+use crate::shape::{Node, last_six, with_rest};
 use vsm_elements::{Element, Elements, Id};
 
 /// The head of a list of items, kept in elements as a search tree: their keys ascend.
@@ -253,16 +253,17 @@ impl ItemTree {
         ensures answer { result ≡ slice_index_or (words_at elements.old id) k 0 }
         ensures here { slice_index_or (slice_set (words_at elements.old id) k word) k 0 ≡ word }
     {
-        let old = elements.get(id);
-        let words = with_word(old.words, k, word);
-        elements.set(
-            id,
-            Element {
-                next: old.next,
-                words,
-            },
-        );
-        old.words[1 + k]
+        elements.swap_word(id, 1 + k, word)
+    }
+
+    /// The item of this id has these four words at its end.
+    pub fn set_last(self, elements: &mut Elements, id: Id, four: [u32; 4])
+        requires tree { IsTree elements.old self }
+        requires there { among id (owned elements.old self) ≡ true }
+        ensures writes { Writes elements.old elements.new self id (take 2 (words_at elements.old id) ++ four) }
+        ensures six { length (words_at elements.old id) ≡ 6 }
+    {
+        elements.set_four(id, 3, four);
     }
 
     /// Gives back every element of the tree.

@@ -1,6 +1,7 @@
 -- A row is written by its id.
-use Rattle.std.proofs.Common.{◌≡◌, ℕ, zero, suc, ◌-◌, ◌<◌, ◌≤◌, Bool, true, false, List, [], ◌∷◌, drop, Option, Some, None, IsSome, refl, sym, ap, ◌∙◌, subst, arith, get_or-set_other}
+use Rattle.std.proofs.Common.{◌≡◌, ℕ, zero, suc, ◌-◌, ◌<◌, ◌≤◌, Bool, true, false, List, [], ◌∷◌, ◌++◌, length, take, drop, Option, Some, None, IsSome, refl, sym, ap, ◌∙◌, subst, arith, get_or-set_other}
 use Rattle.std.specs.Prelude.{if◌then◌else◌, option_map, slice_set}
+use Rattle.std.proofs.lemmas.List.{length-drop}
 use Rattle.vsm_elements.specs.Store.{Store, among}
 use Rattle.vsm_elements.specs.Chain.{element}
 use Rattle.item_tree.specs.declared.item.Item.{Item}
@@ -146,3 +147,30 @@ module _ (s : Store) (h : ItemTree) (id p v : ℕ) (kept : IsKept s h)
 
   pub swapped_rows : (x y : ℕ) → row_in x y (links t h) ≡ (if is_under x y words' then Some (record { id = id; words = words' }) else row_in x y (links s h))
   swapped_rows = named_rows s h id words' kept there' (item_at s id) refl refl t (slice_set (words_at s id) (p - 1) v) same_key' (seven_set (words_at s id) p v low) w
+
+-- The last four words of a row are the item's.
+
+seven_last : (w four : List ℕ) → length w ≡ 6 → seven (take 2 w ++ four) ≡ take 3 (seven w) ++ four
+seven_last [] four h = absurd (omega (arith, h))
+seven_last (x ∷ []) four h = absurd (omega (arith, h))
+seven_last (x ∷ y ∷ r) four h = refl
+
+same_first : (w four : List ℕ) → length w ≡ 6 → word (take 2 w ++ four) 0 ≡ word w 0
+same_first [] four h = absurd (omega (arith, h))
+same_first (x ∷ r) four h = refl
+
+pub seven_long : (w : List ℕ) → length w ≡ 6 → length (seven w) ≡ 7
+seven_long w h = omega (arith, h, length-drop 1 w)
+
+-- the row of an id gets other words at its end
+module _ (s : Store) (h : ItemTree) (id : ℕ) (four : List ℕ) (kept : IsKept s h)
+    (own : row_in (word (seven (words_at s id)) 0) (word (seven (words_at s id)) 1) (links s h) ≡ Some (record { id = id; words = seven (words_at s id) }))
+    (six : length (words_at s id) ≡ 6) (t : Store) (w : Writes s t h id (take 2 (words_at s id) ++ four)) where
+  abbrev ended : List ℕ
+  ended = take 3 (seven (words_at s id)) ++ four
+
+  pub last_kept : IsKept t h
+  last_kept = named_kept s h id ended kept (ap (option_map (λ (r : Row). r.id)) own) (item_at s id) refl refl t (take 2 (words_at s id) ++ four) (same_first (words_at s id) four six) (seven_last (words_at s id) four six) w
+
+  pub last_rows : (x y : ℕ) → row_in x y (links t h) ≡ (if is_under x y ended then Some (record { id = id; words = ended }) else row_in x y (links s h))
+  last_rows = named_rows s h id ended kept (ap (option_map (λ (r : Row). r.id)) own) (item_at s id) refl refl t (take 2 (words_at s id) ++ four) (same_first (words_at s id) four six) (seven_last (words_at s id) four six) w

@@ -1,5 +1,5 @@
 ghost use Rattle.std.specs.Prelude.{true, ◌≡◌, ℕ, ◌+◌, ◌<◌, ◌≤◌, ◌++◌, ◌∷◌, ◌||◌, ◌⊎◌, [], length, Some, None, IsSome};
-ghost use Rattle.std.specs.Prelude.{IfSome, IfNone, option_map, slice_index_or, slice_set, if◌then◌else◌};
+ghost use Rattle.std.specs.Prelude.{IfSome, IfNone, option_map, slice_index_or, slice_set, take, if◌then◌else◌};
 ghost use Rattle.vsm_elements.specs.Store.{Store, among};
 ghost use Rattle.vsm_elements.specs.Ownership.{Leaves, Apart};
 ghost use Rattle.row_table.specs.Rows.{word, same_key, is_under, either_of, IsInRange};
@@ -142,6 +142,22 @@ impl RowTable {
         ensures spares { elements.new.spare ≡ elements.old.spare }
     {
         self.tree.swap_word(elements, id, place - 1, value)
+    }
+
+    /// The row of this id gets these four words at its end.
+    pub fn set_last(&self, elements: &mut Elements, id: Id, four: [u32; 4])
+        requires table { IsTable elements.old self.now }
+        requires row { IsRow elements.old self.now id }
+        ensures table { IsTable elements.new self.now }
+        ensures rows { (a b : ℕ) → row elements.new self.now a b
+            ≡ (if is_under a b (take 3 (words_of elements.old id) ++ four)
+            then Some (record { id = id; words = take 3 (words_of elements.old id) ++ four })
+            else row elements.old self.now a b) }
+        ensures seven { length (words_of elements.old id) ≡ 7 }
+        ensures owned { Leaves elements.old elements.new (owned elements.old self.now) (owned elements.new self.now) }
+        ensures spares { elements.new.spare ≡ elements.old.spare }
+    {
+        self.tree.set_last(elements, id, four);
     }
 
     /// The row under these two numbers gets other words, and keeps its element. Where its key changes, the new

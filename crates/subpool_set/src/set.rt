@@ -110,17 +110,6 @@ impl SubpoolSet {
         self.rows.find(elements, seen.words[2], u32::from(number))
     }
 
-    // The task that owns the subpool, and its number.
-    fn owner_and_number(&self, elements: &Elements, id: PoolId) -> (u8, u8)
-        requires set { IsSubpoolSet elements.now self.now }
-        requires pool { IsSubpool elements.now self.now id }
-        ensures owner { result.0 ≡ owner_of elements.now id }
-        ensures number { result.1 ≡ number_of elements.now id }
-    {
-        let words = self.rows.words(elements, id);
-        (words[2] as u8, words[1] as u8)
-    }
-
     /// The task that owns the subpool.
     pub fn owner(&self, elements: &Elements, id: PoolId) -> u8
         requires set { IsSubpoolSet elements.now self.now }
@@ -170,9 +159,10 @@ impl SubpoolSet {
         ensures ids { (i : ℕ) → among i (owned elements.new self.now) ≡ among i (owned elements.old self.now) }
         ensures spares { elements.new.spare ≡ elements.old.spare }
     {
-        let (owner, number) = self.owner_and_number(elements, id);
-        let words = row_words(owner, number, owner, queues);
-        self.rows.set_row(elements, id, words);
+        let extents = queues.extents.head();
+        let free = queues.free.head();
+        let heads = [extents[0], extents[1], free[0], free[1]];
+        self.rows.set_last(elements, id, heads);
     }
 
     /// An empty subpool of this number, which the task owns and sees.

@@ -1,0 +1,21 @@
+use Rattle.std.proofs.Common.{◌<◌, ◌-◌, ◌/◌, ◌%◌, [], length, set, get_or, arith, sym, ◌∙◌, ap}
+use Rattle.std.proofs.lemmas.List.{get_or_default}
+use Rattle.vsm_elements.specs.Store.{with_stored, stored, blank}
+use Rattle.vsm_elements.specs.Words.{with_four}
+use Rattle.vsm_elements.proofs.StoreLemmas.{in_table_bounds}
+use Rattle.vsm_elements.proofs.elements.store_four.Goals as goal
+
+pub returns-clause-stored : goal.returns-clause-stored
+unfolding with_stored stored
+returns-clause-stored c =
+    let b = in_table_bounds c.args.blocks.now.items c.args.id c.requires.id in
+    let q : (c.args.id - 1) / 128 < length c.args.blocks.now.items = omega arith in
+    ap (λ x. set c.args.blocks.now.items ((c.args.id - 1) / 128) x)
+    (c.set_four.ensures.value ∙ ap (λ x. set x ((c.args.id - 1) % 128) (with_four (get_or x ((c.args.id - 1) % 128) blank) c.args.from c.args.four)) (c.index_mut-block.ensures.value ∙ get_or_default _ _ _ [] q))
+
+pub returns-clause-seven : goal.returns-clause-seven
+unfolding stored
+returns-clause-seven c =
+    let b = in_table_bounds c.args.blocks.now.items c.args.id c.requires.id in
+    let q : (c.args.id - 1) / 128 < length c.args.blocks.now.items = omega arith in
+    ap (λ x. length ((get_or x ((c.args.id - 1) % 128) blank).words)) (sym (c.index_mut-block.ensures.value ∙ get_or_default _ _ _ [] q)) ∙ c.set_four.ensures.seven
