@@ -1,5 +1,5 @@
 //! The storage in elements and frames, and changes of it in place: a change is exchanged with the storage record by
-//! record (a function for each kind in `exchange`, `sharing` and `cells`), and is then the one that leads back; and that
+//! record (a function for each kind in `exchange`, `sharing`, `cells`), and is then the one that leads back; and that
 //! nothing is leaked or shared on the way (`history`).
 #![tactic(auto)]
 
