@@ -10,18 +10,15 @@ use Rattle.run_tree.specs.Trees.{runs, owned, IsTree, Writes}
 use Rattle.run_tree.proofs.TreeLemmas.{length-tree}
 
 -- what a run at one place makes of the list
-pub set_tree : (s t : Store) (h r : RunTree) (k : ℕ) (run : Run) → Writes s t h k run r → IsTree t h
-set_tree s t h r k run w = let P : RunTree → Type 0 = IsTree t in subst P w.same w.tree
-
-pub set_parts : (s t : Store) (h r : RunTree) (k : ℕ) (run : Run) → IsTree s h → k < h.count → Writes s t h k run r → runs t h ≡ take k (runs s h) ++ run ∷ drop (k + 1) (runs s h)
-set_parts s t h r k run tree low w =
+pub set_parts : (s t : Store) (h : RunTree) (k : ℕ) (run : Run) → IsTree s h → k < h.count → Writes s t h k run → runs t h ≡ take k (runs s h) ++ run ∷ drop (k + 1) (runs s h)
+set_parts s t h k run tree low w =
     let e : suc k ≡ k + 1 = omega arith in
-    ap (runs t) (sym w.same) ∙ w.are ∙ set_split (runs s h) k run (omega (arith, low, length-tree s h tree)) ∙ ap (λ (j : ℕ). take k (runs s h) ++ run ∷ drop j (runs s h)) e
+    w.are ∙ set_split (runs s h) k run (omega (arith, low, length-tree s h tree)) ∙ ap (λ (j : ℕ). take k (runs s h) ++ run ∷ drop j (runs s h)) e
 
-pub set_leaves : (s t : Store) (h r : RunTree) (k : ℕ) (run : Run) → Writes s t h k run r → Leaves s t (owned s h) (owned t h)
-set_leaves s t h r k run w =
+pub set_leaves : (s t : Store) (h : RunTree) (k : ℕ) (run : Run) → Writes s t h k run → Leaves s t (owned s h) (owned t h)
+set_leaves s t h k run w =
     let P : List ℕ → Type 0 = λ x. Leaves s t (owned s h) x in
-    subst P (sym (ap (owned t) (sym w.same) ∙ w.own)) (record {
+    subst P (sym w.own) (record {
       others = λ i p q. w.others i p;
       gained = λ i p q. absurd (not_both (among i (owned s h)) q p);
       lost = λ i p q. absurd (not_both (among i (owned s h)) p q);

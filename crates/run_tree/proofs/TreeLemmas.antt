@@ -1,18 +1,23 @@
 -- Trees of elements: what a node opens to, what is joined, and that a tree stays whose elements are as they were.
-use Rattle.std.proofs.Common.{◌≡◌, ℕ, zero, suc, ◌+◌, ◌-◌, ◌<◌, ◌≤◌, true, List, [], ◌∷◌, ◌++◌, length, get_or, Some, refl, sym, ap, ◌∙◌, arith, IsSome, subst, inl, inr, length-append}
+use Rattle.std.proofs.Common.{◌≡◌, ℕ, zero, suc, ◌+◌, ◌-◌, ◌<◌, ◌≤◌, true, List, [], ◌∷◌, ◌++◌, length, take, drop, get_or, max, Some, Option, refl, sym, ap, ◌∙◌, arith, IsSome, subst, inl, inr, length-append}
+use Rattle.std.specs.Prelude.{unwrap_or}
 use Rattle.std.proofs.lemmas.List.{nil_from_length}
 use Rattle.std.proofs.lemmas.Bool.Decides.{eqb_tells}
 use Rattle.vsm_elements.specs.declared.element.Element.{Element}
-use Rattle.vsm_elements.specs.Store.{Store, at, among, Distinct, Updates}
+use Rattle.vsm_elements.specs.Store.{Store, at, blank, among, Distinct, Updates}
+use Rattle.vsm_elements.specs.Words.{with_four}
+use Rattle.vsm_elements.specs.Chain.{element}
 use Rattle.vsm_elements.proofs.StoreLemmas.{length-distinct, among_cons}
 use Rattle.vsm_elements.proofs.ChainCalls.{element_is, some_of}
 use Rattle.run_tree.specs.declared.run.Run.{Run}
 use Rattle.run_tree.specs.declared.tree.RunTree.{RunTree}
 use Rattle.run_tree.specs.declared.shape.RunNode.{RunNode}
+use Rattle.run_tree.specs.declared.shape.Rooms.{Rooms}
 use Rattle.run_tree.specs.Shape.{Shape, leaf, node, runs_in, ids_in, size, top, written, grown, longest, plain, paged, IsTreeOf}
+use Rattle.run_tree.specs.Nodes.{IsLinked, AreRooms}
 use Rattle.run_tree.specs.Trees.{fitted, runs, owned, IsTree, Opens, Joins}
 use Rattle.run_tree.proofs.Lists.{in_parts, in_left, in_right, out_cons, distinct_left, distinct_right, not_middle}
-use Rattle.run_tree.proofs.ShapeLemmas.{size_node, Held-same, live_in, read_off, length-runs}
+use Rattle.run_tree.proofs.ShapeLemmas.{longest_node, size_node, Held-same, live_in, read_off, length-runs}
 
 -- from a shape
 
@@ -140,6 +145,21 @@ opens s h e x some a = go (grown s h.count h.root) x where
   go leaf t = absurd (omega (arith, t.count, some))
   go (node l id r q) t = let P : Element → Type 0 = λ z. Opens s h (opened h z) in subst P (sym (top_is s h l id r q e t a)) (opens_node s h l id r q t)
 
+pub opens_linked : (s : Store) (h : RunTree) (e : Element) → IsTree s h → 0 < h.count → at s h.root ≡ Some e → IsLinked s (opened h e)
+unfolding IsTree
+opens_linked s h e x some a = go (grown s h.count h.root) x where
+  go : (y : Shape) → IsTreeOf s h y → IsLinked s (opened h e)
+  go leaf t = absurd (omega (arith, t.count, some))
+  go (node l id r q) t =
+      let is : element s h.root ≡ e = element_is s h.root e a in
+      let w : e ≡ written l r q = top_is s h l id r q e t a in
+      let P : Element → Type 0 = λ z. take 2 z.words ≡ get_or z.words 0 0 ∷ get_or z.words 1 0 ∷ [] in
+      record {
+        next = ap (λ (z : Element). z.next) is;
+        front = ap (λ (z : Element). take 2 z.words) is ∙ subst P (sym w) refl;
+        end = ap (λ (z : Element). drop 6 z.words) (is ∙ w);
+      }
+
 pub top_live : (s : Store) (h : RunTree) → IsTree s h → 0 < h.count → IsSome (at s h.root)
 unfolding IsTree
 top_live s h x some = go (grown s h.count h.root) x where
@@ -199,6 +219,34 @@ module _ (s t : Store) (left : RunTree) (id : ℕ) (run : Run) (right : RunTree)
         spare = spare;
         as_many = up.as_many;
       }
+
+-- a node has another run, or other trees below it with the same tops
+
+pub linked_kept : (s u : Store) (n : RunNode) → at u n.id ≡ at s n.id → IsLinked s n → IsLinked u n
+linked_kept s u n e l =
+    let is : element u n.id ≡ element s n.id = ap (λ (o : Option Element). unwrap_or o blank) e in
+    record {
+      next = ap (λ (z : Element). z.next) is ∙ l.next;
+      front = ap (λ (z : Element). take 2 z.words) is ∙ l.front;
+      end = ap (λ (z : Element). drop 6 z.words) is ∙ l.end;
+    }
+
+module _ (before behind over : Rooms) (xs : List Run) (r : Run) (ys : List Run) (b : AreRooms before xs) (c : AreRooms behind ys)
+    (p : over.plain ≡ max (max before.plain (plain r)) behind.plain) (g : over.paged ≡ max (max before.paged (paged r)) behind.paged) where
+  pub over_rooms : AreRooms over (xs ++ r ∷ ys)
+  over_rooms = (longest_node plain xs r ys over.plain (omega (arith, p, b.0, c.0)), longest_node paged xs r ys over.paged (omega (arith, g, b.1, c.1)))
+
+pub renews : (s t : Store) (n : RunNode) (run : Run) (rooms : Rooms) → IsTree s n.left → IsTree s n.right → Distinct (owned s n.left ++ n.id ∷ owned s n.right) → IsSome (at s n.id) → IsLinked s n
+    → AreRooms rooms (runs s n.left ++ run ∷ runs s n.right) → Updates s t n.id (Some (with_four (element s n.id) 2 (run.start ∷ run.len ∷ rooms.plain ∷ rooms.paged ∷ []))) → t.spare ≡ s.spare
+    → Joins s t n.left n.id run n.right (record { root = n.id; count = n.left.count + n.right.count + 1 })
+renews s t n run rooms tl tq distinct live l are up spare =
+    let four : List ℕ = run.start ∷ run.len ∷ rooms.plain ∷ rooms.paged ∷ [] in
+    let P : Element → Type 0 = λ z. Updates s t n.id (Some z) in
+    let same : ◌≡◌ {A = Element} (with_four (element s n.id) 2 four) (record { next = n.left.root; words = n.right.root ∷ n.left.count ∷ run.start ∷ run.len ∷ rooms.plain ∷ rooms.paged ∷ 0 ∷ [] }) =
+    ap (λ (z : ℕ). record { next = z; words = take 2 ((element s n.id).words) ++ four ++ drop 6 ((element s n.id).words) }) l.next
+    ∙ ap (λ (z : List ℕ). record { next = n.left.root; words = z ++ four ++ drop 6 ((element s n.id).words) }) l.front
+    ∙ ap (λ (z : List ℕ). record { next = n.left.root; words = (n.right.root ∷ n.left.count ∷ []) ++ four ++ z }) l.end in
+    joins s t n.left n.id run n.right tl tq distinct live rooms.plain rooms.paged _ are.0 are.1 (subst P same up) spare refl refl
 
 pub no_runs : (s : Store) (h : RunTree) → IsTree s h → h.count ≡ 0 → runs s h ≡ []
 no_runs s h t e = nil_from_length (runs s h) (length-tree s h t ∙ e)

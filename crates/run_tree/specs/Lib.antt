@@ -2,3 +2,4 @@ pub mod Shape
 pub mod Trees
 pub mod Searches
 pub mod Props
+pub mod Nodes

@@ -90,12 +90,11 @@ pub record CutsOut (s t : Store) (h : RunTree) (k : ℕ) (r : RunTree) (id : ℕ
   pub spare : t.spare ≡ s.spare
   pub as_many : made t ≡ made s
 
--- the run at k is another one
-pub record Writes (s t : Store) (h : RunTree) (k : ℕ) (run : Run) (r : RunTree) : Type 0 where
-  pub tree : IsTree t r
-  pub are : runs t r ≡ slice_set (runs s h) k run
-  pub own : owned t r ≡ owned s h
-  pub same : r ≡ h
+-- the run at k is another one, and the head stays
+pub record Writes (s t : Store) (h : RunTree) (k : ℕ) (run : Run) : Type 0 where
+  pub tree : IsTree t h
+  pub are : runs t h ≡ slice_set (runs s h) k run
+  pub own : owned t h ≡ owned s h
   pub others : (i : ℕ) → among i (owned s h) ≡ false → at t i ≡ at s i
   pub spare : t.spare ≡ s.spare
   pub as_many : made t ≡ made s

@@ -1,4 +1,4 @@
-ghost use Rattle.std.specs.Prelude.{◌≡◌, ◌+◌, ◌<◌, ◌∷◌, ◌++◌, IsSome, []};
+ghost use Rattle.std.specs.Prelude.{◌≡◌, max, ◌+◌, ◌<◌, ◌∷◌, ◌++◌, IsSome, []};
 ghost use Rattle.vsm_elements.specs.Store.{Store, at, Distinct};
 ghost use Rattle.run_tree.specs.Shape.{longest, plain, paged, room_of};
 
@@ -42,8 +42,22 @@ pub(crate) fn room(run: Run, paged: bool) -> u32
     if paged { paged_room(run) } else { run.len }
 }
 
+impl Rooms {
+    // The most room of two lists and a run between them.
+    fn around(self, run: Run, behind: Rooms) -> Rooms
+        ensures plain { result.plain ≡ max (max self.plain (plain run)) behind.plain }
+        ensures paged { result.paged ≡ max (max self.paged (paged run)) behind.paged }
+    {
+        Rooms {
+            plain: self.plain.max(run.len).max(behind.plain),
+            paged: self.paged.max(paged_room(run)).max(behind.paged),
+        }
+    }
+}
+
 impl RunTree {
     ghost use Rattle.run_tree.specs.Trees.{runs, owned, IsTree, Opens, Joins};
+    ghost use Rattle.run_tree.specs.Nodes.{IsLinked, AreRooms};
 
     // The tree without runs.
     pub(crate) fn empty() -> RunTree
@@ -60,7 +74,8 @@ impl RunTree {
     pub(crate) fn open(self, elements: &Elements) -> RunNode
         requires tree { IsTree elements.now self }
         requires some { 0 < self.count }
-        ensures { Opens elements.now self result }
+        ensures opens { Opens elements.now self result }
+        ensures linked { IsLinked elements.now result }
     {
         let element = elements.get(self.root);
         let words = element.words;
@@ -97,6 +112,30 @@ impl RunTree {
         }
     }
 
+    // The node has this run, over trees with this most room each. What else its element says stays.
+    pub(crate) fn renew(
+        elements: &mut Elements,
+        node: RunNode,
+        run: Run,
+        before: Rooms,
+        behind: Rooms,
+    ) -> Rooms
+        requires left { IsTree elements.old node.left }
+        requires right { IsTree elements.old node.right }
+        requires distinct { Distinct (owned elements.old node.left ++ node.id ∷ owned elements.old node.right) }
+        requires live { IsSome (at elements.old node.id) }
+        requires linked { IsLinked elements.old node }
+        requires before { AreRooms before (runs elements.old node.left) }
+        requires behind { AreRooms behind (runs elements.old node.right) }
+        ensures joins { Joins elements.old elements.new node.left node.id run node.right
+            (record { root = node.id; count = node.left.count + node.right.count + 1 }) }
+        ensures rooms { AreRooms result (runs elements.old node.left ++ run ∷ runs elements.old node.right) }
+    {
+        let rooms = before.around(run, behind);
+        elements.set_four(node.id, 2, [run.start, run.len, rooms.plain, rooms.paged]);
+        rooms
+    }
+
     // A live element becomes a node over two trees.
     pub(crate) fn join(
         elements: &mut Elements,
@@ -114,9 +153,16 @@ impl RunTree {
         elements.ids_in_range();
         let before = left.rooms(elements);
         let behind = right.rooms(elements);
-        let plain = before.plain.max(run.len).max(behind.plain);
-        let paged = before.paged.max(paged_room(run)).max(behind.paged);
-        let words = [right.root, left.count, run.start, run.len, plain, paged, 0];
+        let rooms = before.around(run, behind);
+        let words = [
+            right.root,
+            left.count,
+            run.start,
+            run.len,
+            rooms.plain,
+            rooms.paged,
+            0,
+        ];
         elements.set(
             id,
             Element {

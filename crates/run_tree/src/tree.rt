@@ -5,7 +5,7 @@ ghost use Rattle.vsm_elements.specs.Ownership.{Leaves};
 ghost use Rattle.run_tree.specs.Shape.{longest, room_of};
 
 use crate::run::Run;
-use crate::shape::room;
+use crate::shape::{Rooms, room};
 use vsm_elements::{Element, Elements, Id};
 
 /// The head of a list of runs, kept in elements as a search tree.
@@ -33,6 +33,7 @@ fn rank(id: Id) -> u32 {
 
 impl RunTree {
     ghost use Rattle.run_tree.specs.Trees.{runs, owned, IsTree, Merges, Splits, Puts, CutsOut, Writes};
+    ghost use Rattle.run_tree.specs.Nodes.{AreRooms};
     ghost use Rattle.run_tree.specs.Searches.{SeeksTo, FindsRuns, RoomsTo, IsMost};
 
     // The runs of both, those of the other tree behind.
@@ -126,21 +127,27 @@ impl RunTree {
         }
     }
 
-    // The run at `k` is another one.
-    fn rewrite(self, elements: &mut Elements, k: u32, run: Run) -> RunTree
+    // The run at `k` is another one. It answers the most room of the tree's runs then.
+    fn rewrite(self, elements: &mut Elements, k: u32, run: Run) -> Rooms
         requires tree { IsTree elements.old self }
         requires place { k < self.count }
-        ensures { Writes elements.old elements.new self k run result }
+        ensures writes { Writes elements.old elements.new self k run }
+        ensures rooms { AreRooms result (runs elements.new self) }
     {
         let node = self.open(elements);
-        if k < node.left.count {
-            let left = node.left.rewrite(elements, k, run);
-            RunTree::join(elements, left, node.id, node.run, node.right)
-        } else if k == node.left.count {
-            RunTree::join(elements, node.left, node.id, run, node.right)
+        let middle = node.left.count;
+        if k < middle {
+            let before = node.left.rewrite(elements, k, run);
+            let behind = node.right.rooms(elements);
+            RunTree::renew(elements, node, node.run, before, behind)
+        } else if k == middle {
+            let before = node.left.rooms(elements);
+            let behind = node.right.rooms(elements);
+            RunTree::renew(elements, node, run, before, behind)
         } else {
-            let right = node.right.rewrite(elements, k - node.left.count - 1, run);
-            RunTree::join(elements, node.left, node.id, node.run, right)
+            let before = node.left.rooms(elements);
+            let behind = node.right.rewrite(elements, k - middle - 1, run);
+            RunTree::renew(elements, node, node.run, before, behind)
         }
     }
 
@@ -195,7 +202,7 @@ impl RunTree {
         ensures owned { Leaves elements.old elements.new (owned elements.old self) (owned elements.new self) }
         ensures spares { elements.new.spare ≡ elements.old.spare }
     {
-        let _same = self.rewrite(elements, k, run);
+        let _rooms = self.rewrite(elements, k, run);
     }
 
     /// The run at `k`.
