@@ -34,9 +34,13 @@ pub const ATTACH: OperandRow = OperandRow {
 
 /// The slots of the operands that have an effect.
 const GSPV: usize = 1;
+
 const GSPL: usize = 2;
+
 const SHSPV: usize = 3;
+
 const SHSPL: usize = 4;
+
 const SZERO: usize = 5;
 
 /// The subpools that were read at the place of their number, or at the place of a list's address.

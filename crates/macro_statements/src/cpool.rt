@@ -53,13 +53,21 @@ macro_rules! pool_row {
 
 /// The slots of the operands in such a row.
 const CPID: usize = 0;
+
 const PCELLCT: usize = 1;
+
 const SCELLCT: usize = 2;
+
 const CSIZE: usize = 3;
+
 const SP: usize = 4;
+
 const LOC: usize = 5;
+
 const HDR: usize = 6;
+
 const WORD: usize = 7;
+
 const CELL: usize = 8;
 
 /// CPOOL BUILD.

@@ -122,10 +122,15 @@ pub(crate) use storage_row;
 
 /// The slots of the operands in such a row.
 const LENGTH: usize = 0;
+
 const SUBPOOL: usize = 1;
+
 const ADDRESS: usize = 2;
+
 const BOUNDARY: usize = 3;
+
 const LOCATION: usize = 4;
+
 const CONDITION: usize = 5;
 
 /// The length that was read at a place: a value or a pair of values.
