@@ -5,7 +5,7 @@ ghost use Rattle.row_table.specs.Rows.{either_of, IsInRange};
 ghost use Rattle.subpool_set.specs.Pools.{no_queues, sight_with, pools_with, sight_given, pools_given, sight_of_pool};
 ghost use Rattle.subpool_set.specs.Pools.{sight_without, pool_alone, IsNumbersEnd};
 ghost use Rattle.row_table.specs.RowTable.{row};
-ghost use Rattle.subpool_set.specs.Kept.{owner_in, AreWords};
+ghost use Rattle.subpool_set.specs.Kept.{owner_in, queues_of, AreWords};
 ghost use Rattle.subpool_set.specs.QueueElements.{AreApart, AreApartTogether};
 
 use crate::parked::ParkedPool;
@@ -44,6 +44,16 @@ fn row_words(task: u8, number: u8, owner: u8, queues: Queues) -> [u32; 7]
         free[0],
         free[1],
     ]
+}
+
+// The queues whose heads are in a row of these words.
+fn queues_in(words: [u32; 7]) -> Queues
+    ensures { result ≡ queues_of words }
+{
+    Queues {
+        extents: Extents::from_head([words[3], words[4]]),
+        free: FreeQueue::from_head([words[5], words[6]]),
+    }
 }
 
 #[tactic(auto, unfolding(
@@ -135,11 +145,24 @@ impl SubpoolSet {
         ensures { pool elements.now self.now (number_of elements.now id) (owner_of elements.now id)
             ≡ Some (record { id = id; queues = result }) }
     {
-        let words = self.rows.words(elements, id);
-        Queues {
-            extents: Extents::from_head([words[3], words[4]]),
-            free: FreeQueue::from_head([words[5], words[6]]),
+        queues_in(self.rows.words(elements, id))
+    }
+
+    /// The subpool of this number that the task owns, and the heads of its queues: its row is read once.
+    pub fn own(&self, elements: &Elements, owner: u8, number: u8) -> Option<(PoolId, Queues)>
+        requires { IsSubpoolSet elements.now self.now }
+        ensures none { IfNone result (pool elements.now self.now number owner ≡ None) }
+        ensures some { IfSome result (λ p. pool elements.now self.now number owner
+            ≡ Some (record { id = p.0; queues = p.1 })) }
+    {
+        let row = self
+            .rows
+            .find(elements, u32::from(owner), u32::from(number))?;
+        if row.words[2] != u32::from(owner) {
+            return None;
         }
+        let queues = queues_in(row.words);
+        Some((row.id, queues))
     }
 
     /// The subpool's queues have these heads from now on.

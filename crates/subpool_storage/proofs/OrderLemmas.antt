@@ -36,6 +36,10 @@ module _ {A B : Type 0} (f : A → B) where
       → map f (flat_map (λ n. filter_map (p n) tasks) numbers) ≡ flat_map (λ n. filter_map (q n) tasks) numbers
   map_order p q e = map_flat (λ n. filter_map (p n) tasks) (λ n. filter_map (q n) tasks) (λ n. map_given (p n) (q n) (e n) tasks) numbers
 
+pub seen_by : (o : ℕ) (y : Option ℕ) → holds (λ owner. owner == o) y ≡ true → y ≡ Some o
+seen_by o None e = absurd (not_both false e refl)
+seen_by o (Some z) e = ap Some (eqb_same z o e)
+
 module _ (s : Store) (q : SubpoolStorage) (h : Stands s q) where
   abbrev subpool : ℕ → ℕ → Subpool
   subpool n o = record { number = n; owner = o }
@@ -43,12 +47,8 @@ module _ (s : Store) (q : SubpoolStorage) (h : Stands s q) where
   named_at : (n o : ℕ) → option_map (named s) (option_map (λ (x : Pool). x.id) (pool s q.set n o)) ≡ subpool_at (subpools_of s q) n o
   unfolding Stands subpools_of
   named_at n o = go (pool s q.set n o) refl where
-    seen : (y : Option ℕ) → holds (λ owner. owner == o) y ≡ true → y ≡ Some o
-    seen None e = absurd (not_both false e refl)
-    seen (Some z) e = ap Some (eqb_same z o e)
-
     go : (y : Option Pool) → pool s q.set n o ≡ y → option_map (named s) (option_map (λ (x : Pool). x.id) y) ≡ (if is_there (subpools_of s q) (subpool n o) then Some (subpool n o) else None)
-    go None e = sym (cond-false (is_there (subpools_of s q) (subpool n o)) (Some (subpool n o)) None (false_if (is_there (subpools_of s q) (subpool n o)) (λ k. own_is_there s q.set n o e (seen (sight s q.set o n) k))))
+    go None e = sym (cond-false (is_there (subpools_of s q) (subpool n o)) (Some (subpool n o)) None (false_if (is_there (subpools_of s q) (subpool n o)) (λ k. own_is_there s q.set n o e (seen_by o (sight s q.set o n) k))))
     go (Some x) e =
         let k : IsSubpool s q.set x.id × (number_of s x.id ≡ n) × (owner_of s x.id ≡ o) × (sight s q.set o n ≡ Some o) = pools_are_named s q.set n o x h.set e in
         (λ i. Some (record { number = k.1 i; owner = k.2 i }))

@@ -4,15 +4,15 @@ ghost use Rattle.vsm_elements.specs.Owners.{Moves};
 ghost use Rattle.run_set.specs.Runs.{AllIn, NoneIn};
 ghost use Rattle.run_set.specs.Counts.{joins};
 ghost use Rattle.subpool_set.specs.Pools.{IsNumbersEnd};
-ghost use Rattle.subpool_set.specs.SubpoolSet.{IsSubpool, number_of, owner_of};
+ghost use Rattle.subpool_set.specs.SubpoolSet.{IsSubpool, number_of, owner_of, pool};
 ghost use Rattle.subpool_storage.specs.Subpools.{no_subpools, is_there, with_pages, with_free, with_own};
 ghost use Rattle.subpool_storage.specs.Subpools.{with_storage_of, CanExchange};
 
 use cell_pool::CellPools;
-use descriptor_queue::Run;
-use free_queue::Area;
+use descriptor_queue::{Extents, Run};
+use free_queue::{Area, FreeQueue};
 use subpool_set::laws::new_queues_are_empty;
-use subpool_set::{PoolId, SubpoolSet};
+use subpool_set::{PoolId, Queues, SubpoolSet};
 use vsm_elements::Elements;
 use vsm_model::Subpool;
 
@@ -78,6 +78,25 @@ impl SubpoolStorage {
         }
     }
 
+    // The name of a subpool that is there, and the heads of its queues.
+    fn own(&self, elements: &Elements, subpool: Subpool) -> (PoolId, Queues)
+        requires stands { Stands elements.now self.now }
+        requires there { is_there (subpools_of elements.now self.now) subpool ≡ true }
+        ensures { pool elements.now self.now.set subpool.number subpool.owner
+            ≡ Some (record { id = result.0; queues = result.1 }) }
+    {
+        match self.set.own(elements, subpool.owner, subpool.number) {
+            Some(own) => own,
+            None => (
+                0,
+                Queues {
+                    extents: Extents::new(),
+                    free: FreeQueue::new(),
+                },
+            ),
+        }
+    }
+
     /// The doublewords of an area become free storage of the subpool.
     ///
     /// It takes one element, less one for each of the two doublewords beside the area that are free.
@@ -92,8 +111,7 @@ impl SubpoolStorage {
         ensures spares { elements.new.spare + 1
             ≡ elements.old.spare + joins ((subpools_of elements.old self.now).free subpool) area }
     {
-        let id = self.id(elements, subpool);
-        let mut queues = self.set.queues(elements, id);
+        let (id, mut queues) = self.own(elements, subpool);
         queues.free.free(elements, area);
         self.set.set_queues(elements, id, queues);
     }
@@ -112,8 +130,7 @@ impl SubpoolStorage {
         ensures spares { elements.new.spare + joins ((subpools_of elements.old self.now).free subpool) area
             ≡ elements.old.spare + 1 }
     {
-        let id = self.id(elements, subpool);
-        let mut queues = self.set.queues(elements, id);
+        let (id, mut queues) = self.own(elements, subpool);
         queues.free.carve(elements, area);
         self.set.set_queues(elements, id, queues);
     }
@@ -132,8 +149,7 @@ impl SubpoolStorage {
         ensures spares { elements.new.spare + 1
             ≡ elements.old.spare + joins ((subpools_of elements.old self.now).pages subpool) run }
     {
-        let id = self.id(elements, subpool);
-        let mut queues = self.set.queues(elements, id);
+        let (id, mut queues) = self.own(elements, subpool);
         queues.extents.insert_run(elements, run);
         self.set.set_queues(elements, id, queues);
     }
@@ -152,8 +168,7 @@ impl SubpoolStorage {
         ensures spares { elements.new.spare + joins ((subpools_of elements.old self.now).pages subpool) run
             ≡ elements.old.spare + 1 }
     {
-        let id = self.id(elements, subpool);
-        let mut queues = self.set.queues(elements, id);
+        let (id, mut queues) = self.own(elements, subpool);
         queues.extents.remove_run(elements, run);
         self.set.set_queues(elements, id, queues);
     }
