@@ -22,7 +22,7 @@ from facts import Commit, Refusal
 
 # What of tools/ and page/ isn't put with the tools: tests, what bench.html is made from, and the library, which has
 # places of its own.
-NOT_INSTALLED = re.compile(r".*/(tests/|\.)|(page|tools)/check|tools/(c/|vsm_bench)|"
+NOT_INSTALLED = re.compile(r".*/(tests/|\.)|(page|tools)/check|tools/c/|"
                            r"page/(bench|module|host|chromium|colours|expected|on_page|\w*trials)")
 # How the tools begin, and how a package wants them to.
 FREE_PYTHON, SYSTEM_PYTHON = b"#!/usr/bin/env python3\n", b"#!/usr/bin/python3\n"
@@ -32,10 +32,18 @@ DOCS = ("STATEMENTS.md", "MESSAGES.md", "EXPLAIN.md", "PROTOCOL.md", "ZOS.md", "
 PROGRAMS = {"vsm": "vsm", "vsm-explain": "vsm_explain_program"}
 COMMANDS = ("list", "why", "report", "who")
 # The library: where tools/c/build leaves it, and its files in a release.
-LIBRARY = Path("crates") / "vsm_c" / "out"
-ARCHIVE, SHARED = "lib/libvsm.a", "lib/nilbozad/libvsm.so"
-WITH_LIBRARY = {"tools/c/vsm.h": "include/vsm.h", "tools/c/example.c": "share/doc/nilbozad/examples/example.c",
-                "tools/vsm_bench.py": "lib/python3/dist-packages/vsm_bench.py"}
+LIBRARY = Path("crates") / "vsm" / "out"
+ARCHIVE, SHARED = "lib/libvsm.a", "lib/libvsm.so.1"
+WITH_LIBRARY = {"tools/c/vsm.h": "include/vsm.h", "tools/c/example.c": "share/doc/nilbozad/examples/example.c"}
+LINKS = {"lib/libvsm.so": "libvsm.so.1", "lib/python3/dist-packages/vsmtools": "../../../share/nilbozad/tools/vsmtools"}
+PKG_CONFIG = """\
+prefix=${{pcfiledir}}/../..
+Name: vsm
+Description: bench for the virtual storage of z/OS
+Version: {version}
+Cflags: -I${{prefix}}/include
+Libs: -L${{prefix}}/lib -lvsm
+"""
 DESCRIPTION = """\
 Description: bench for the virtual storage of z/OS
  It carries out scripts of storage macros (STORAGE, GETMAIN, FREEMAIN, CPOOL,
@@ -49,9 +57,6 @@ Description: bench for the virtual storage of z/OS
 BEFORE_REMOVAL = """\
 #!/bin/sh
 set -e
-modules="$DPKG_ROOT/usr/lib/python3/dist-packages/__pycache__"
-rm -f "$modules"/vsm_bench.*.pyc
-rmdir "$modules" 2>/dev/null || true  # others may have files there
 find "$DPKG_ROOT/usr/share/nilbozad" -name __pycache__ -prune -exec rm -rf {} + || true
 """
 
@@ -136,6 +141,10 @@ def put_library(release: Release, root: Path) -> None:
     facts.output_of("strip", "--strip-unneeded", str(root / SHARED))
     for file, name in WITH_LIBRARY.items():
         copy(release.top / file, root / name)
+    put(root / "lib/pkgconfig/vsm.pc", PKG_CONFIG.format(version=release.version))
+    for name, to in LINKS.items():
+        (root / name).parent.mkdir(parents=True, exist_ok=True)
+        (root / name).symlink_to(to)
 
 
 def put_manual(release: Release, root: Path, helps: dict[str, str], commands: list[str]) -> None:
@@ -267,11 +276,11 @@ def read_me(release: Release, libc: str) -> str:
     man -l share/man/man1/vsm.1.gz                          describes the program
     man -l share/man/man5/vsm-statements.5.gz               what can stand in a script
     man -l share/man/man7/vsm-messages.7.gz                 what is printed
-    cc -Iinclude share/doc/nilbozad/examples/example.c -Llib -lvsm
-    PYTHONPATH=lib/python3/dist-packages python3 -c 'import vsm_bench; help(vsm_bench)'
+    cc -Iinclude share/doc/nilbozad/examples/example.c lib/libvsm.a
+    PYTHONPATH=lib/python3/dist-packages python3 -c 'from vsmtools import bench; help(bench.Session)'
 
-Copied to /usr/local, bin/, include/, lib/ and share/ are found by the shell, by cc, by man and by completions. vsm,
-vsm-explain and the library need x86-64 Linux and glibc {libc} or newer; the other programs of bin/ need Python 3.11.
+Copied to /usr/local, bin/, include/, lib/ and share/ are found by the shell, by cc, by pkg-config (vsm), by man and by
+completions; ldconfig then makes the shared library known. vsm, vsm-explain and the library need x86-64 Linux and glibc {libc} or newer; the other programs of bin/ need Python 3.11.
 PROVED says what was proved, CHANGELOG.md what has changed.
 """
 
@@ -321,13 +330,12 @@ def statement_head(release: Release) -> list[str]:
 
 
 def what_was_built(release: Release, root: Path) -> list[str]:
-    """The proved programs and the proved archive with their sums, and what of them is in the release."""
+    """The proved programs with their sums, and what of them is in the release."""
     programs = [line for name in PROGRAMS for line in (
         f"Program    {name} as it was built, SHA-256 {facts.sha256(built(release.top, name))}",
         f"           bin/{name}, the same without its symbols, {facts.sha256(root / 'bin' / name)}")]
     return [*programs,
-            f"Library    libvsm_c.a as it was built, SHA-256 {facts.sha256(release.top / LIBRARY / 'libvsm_c.a')}",
-            f"           {ARCHIVE}, its file vsm_c.o and the handles, {facts.sha256(root / ARCHIVE)}",
+            f"Library    {ARCHIVE}, vsm's object file under other outer names, and its calls, SHA-256 {facts.sha256(root / ARCHIVE)}",
             f"           {SHARED}, these to be loaded, {facts.sha256(root / SHARED)}"]
 
 

@@ -87,13 +87,13 @@ def gate_line(file: str | None) -> str:
 
 
 def crates_of(top: Path) -> tuple[list[str], list[str]]:
-    """The crates below the programs and the library and themselves, and the kit's that they use."""
+    """The crates below the programs and themselves, and the kit's that they use."""
     uses: dict[str, list[str]] = {}
     for line in (top / "crates.txt").read_text(encoding="utf-8").split("\n"):
         name, colon, rest = line.partition("#")[0].partition(":")
         if colon:
             uses[name.split()[0]] = rest.split()
-    found = ["vsm", "vsm_explain_program", "vsm_c"]
+    found = ["vsm", "vsm_explain_program"]
     left = list(found)
     while left:
         for name in uses.get(left.pop(), []):
@@ -137,7 +137,7 @@ def proved(top: Path, files: list[str], head: list[str], built: list[str]) -> st
              "Gate is the last line of the gate's output, or 'not told' where ./release wasn't given that.",
              "'Proved' says no more than the contracts do: README.md of the repository has what can be relied on,",
              "what was only tested, and what is trusted. The other programs, the pages, and what the library has beside",
-             "the proved code (its handles, and the module for Python) are tested and not proved."]
+             "the proved code (its calls, and the package for Python) are tested and not proved."]
     return "\n".join(lines) + "\n"
 
 

@@ -8,12 +8,11 @@ import zipfile
 from pathlib import Path
 
 # What is installed beside the Python that pip belongs to, in a folder nilbozad but for the two programs.
-PLACES = {"share/nilbozad/": "nilbozad/", "lib/nilbozad/": "nilbozad/tools/",
-          "lib/python3/dist-packages/": "nilbozad/tools/", "share/doc/nilbozad/PROVED": "nilbozad/PROVED",
+PLACES = {"share/nilbozad/": "nilbozad/", "lib/libvsm.so.1": "nilbozad/tools/libvsm.so.1", "share/doc/nilbozad/PROVED": "nilbozad/PROVED",
           "share/doc/nilbozad/copyright": "{info}/licenses/copyright",
           "share/doc/nilbozad/licenses/": "{info}/licenses/licenses/"}
-STARTER = '''"""Nilbozad as pip installs it: each function here is a tool of the folder tools, which also has the modules vsm_bench
-and vsmtools (nilbozad.pth puts it on Python's path). bench.html is the bench as a page for a browser."""
+STARTER = '''"""Nilbozad as pip installs it: each function here is a tool of the folder tools, which also has the package vsmtools
+(nilbozad.pth puts it on Python's path) and the library. bench.html is the bench as a page for a browser."""
 import os
 import sys
 
@@ -33,7 +32,7 @@ License: MIT OR Apache-2.0
 Requires-Python: >=3.11
 
 `vsm SCRIPT` runs a script of storage macros, `vsm-explain --help` and the other commands explain, draw and test one;
-`vsm_bench` and `vsmtools` are its modules for Python. It needs Linux on x86-64 and glibc {libc} or newer.
+`vsmtools` is its package for Python. It needs Linux on x86-64 and glibc {libc} or newer.
 """
 
 

@@ -21,7 +21,7 @@ NOT_RUN = {
     r"\./prove": "takes 45 minutes",
     r"\./release": "takes proved programs; tests/release runs it",
     r"page/(module|bench\.py)": "takes a proved program, or the module of it; the gate runs both",
-    r"tools/c/build": "takes proved libraries; tests/library runs it",
+    r"tools/c/build": "takes the proved program; tests/library runs it",
     r"cc -o example": "takes an installed release; tests/library compiles the example",
     r"tests/wrong-bodies( |$)": "proves; the gate runs it",
     r"tests/edits-refused LOG": "takes the output of rt ci; the gate runs it",

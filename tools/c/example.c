@@ -1,47 +1,36 @@
-/* Does what vsm does without words: reads a script from standard input line by line, writes each to a bench, and
-   prints what it is answered. The four settings can be given, as 64 64 24 1024.
+/* Does what vsm does without options: reads a script from standard input line by line, writes each line to a bench, and
+   prints the answers. The four settings can be given, as 64 64 24 1024.
 
    cc -o example example.c -lvsm */
 #include <stdio.h>
 #include <stdlib.h>
-#include <string.h>
 
 #include "vsm.h"
 
-static int failed(enum vsm_code code) {
-  fprintf(stderr, "example: %s\n", code == VSM_NO_MEMORY ? "memory" : code == VSM_TOO_LONG ? "too long"
-                                  : code == VSM_SETTING ? "setting" : "fault");
-  return code == VSM_TOO_LONG ? 8 : 16;
-}
-
-static enum vsm_code print(uint64_t bench) {
+static int print(vsm *bench) {
   char room[4096];
   size_t length;
-  do {
-    enum vsm_code code = vsm_read(bench, room, sizeof room, &length);
-    if (code != VSM_OK) return code;
-    fwrite(room, 1, length, stdout);
-  } while (length);
-  return VSM_OK;
+  int code;
+  while ((code = vsm_read(bench, room, sizeof room, &length)) == VSM_OK && length) fwrite(room, 1, length, stdout);
+  return code;
 }
 
 int main(int count, char **words) {
-  struct vsm_settings settings = VSM_DEFAULTS;
+  vsm_settings settings = VSM_SETTINGS;
   static char line[65538];
-  enum vsm_code code;
-  uint64_t bench;
-  int status = 0, c = 0;
+  int code, status = 0, c = 0;
+  vsm *bench;
   if (count == 5) {
-    settings.low = strtoul(words[1], NULL, 10);
-    settings.high = strtoul(words[2], NULL, 10);
-    settings.residence = strtoul(words[3], NULL, 10);
-    settings.history = strtoul(words[4], NULL, 10);
+    settings.low = (uint32_t)strtoul(words[1], NULL, 10);
+    settings.high = (uint32_t)strtoul(words[2], NULL, 10);
+    settings.residence = (uint32_t)strtoul(words[3], NULL, 10);
+    settings.history = (uint32_t)strtoul(words[4], NULL, 10);
   }
   code = vsm_open(&settings, &bench);
   while (code == VSM_OK && c != EOF) {
     size_t length = 0;
     while (length < sizeof line && (c = getchar()) != EOF) {
-      line[length++] = c;
+      line[length++] = (char)c;
       if (c == '\n') break;
     }
     code = vsm_write(bench, line, length);
@@ -49,6 +38,7 @@ int main(int count, char **words) {
   }
   if (code == VSM_OK) code = vsm_end(bench, &status);
   if (code == VSM_OK) code = print(bench);
-  if (code == VSM_OK) code = vsm_close(bench);
-  return code == VSM_OK ? status : failed(code);
+  if (code != VSM_OK) fprintf(stderr, "example: %s\n", vsm_strerror(code));
+  vsm_close(&bench);
+  return code == VSM_OK ? status : code == VSM_TOO_LONG ? 8 : 16;
 }

@@ -1,185 +1,353 @@
-/* Handles over the proved calls of crates/vsm_c: a table of benches, each with its script so far and the text of
-   all answers. Whatever is written is first run with the script so far, and taken only when that was answered in
-   full. No two calls may be at work at once. */
+/* The bench in the process: each bench is the main of the proved program, on a stack of its own. The build gives the outer
+   calls of the program's object file the names vsm_host_.. below; it has no writable data, so benches share nothing. If
+   the program reads and nothing is left, it has written all its answers: then the call returns, and the next one goes on
+   from there. */
+#define _GNU_SOURCE
 #include "vsm.h"
 
+#include <errno.h>
+#include <signal.h>
+#include <stdio.h>
 #include <stdlib.h>
 #include <string.h>
+#include <sys/mman.h>
+#include <ucontext.h>
 
-/* The codes of crates/vsm_c, of which 0, 8, 16, 17 and 18 are those of vsm.h. */
-enum { SERVED = 0, REFUSED = 4 };
+#if !defined __linux__ || !defined __x86_64__ || !defined __LP64__ || !defined __GLIBC__
+#error "libvsm is for Linux on x86-64 with glibc, as the proved program is"
+#endif
 
-typedef uint32_t Run(const struct vsm_settings *wanted, const uint8_t *script, size_t length, uint8_t *room,
-                     size_t size, size_t *text);
-Run vsm_c_lines, vsm_c_script;
+enum { MOST_LINES = 1048576, MOST_BYTES = 65536, STACK = 8 << 20, GUARD = 65536 };
+enum { NUMBER = 8 /* of an answer's line, with the blank after it */ };
 
-/* The proved code's growths. A size of 0 is that of a byte. */
+/* How far the script is, by its rules of lines. */
+struct place {
+  uint32_t lines, column; /* whole lines, and bytes of the next one */
+  uint32_t begun;         /* statements */
+  int is_open;            /* the last of these goes on in the next line */
+  int star, marked, goes_on, feed; /* of the next line; `feed`: a carriage return that may belong to its end */
+};
+
+struct vsm {
+  ucontext_t caller, program;
+  char words[9][12]; /* the program's arguments */
+  unsigned count;
+  int status, is_over, is_ending, error;
+  struct place place;
+  const char *in; /* what this call writes and the program hasn't read */
+  size_t in_left;
+  char *out, *stack; /* the answers, of which `taken` bytes were read */
+  size_t length, taken, room;
+  char message[12]; /* the beginning of what goes to standard error */
+  size_t said;
+};
+
+/* The bench whose call this thread is in. */
+static __thread vsm *current;
+
+const char *vsm_version(void) { return VSM_VERSION; }
+int vsm_version_number(void) { return VSM_VERSION_NUMBER; }
+
+const char *vsm_strerror(int code) {
+  switch (code) {
+    case VSM_OK: return "no error";
+    case VSM_TOO_LONG: return "the script has more than 1,048,576 lines, or a line of more than 65,536 bytes";
+    case VSM_NO_MEMORY: return "no memory for a bench";
+    case VSM_SETTING: return "a setting is out of its limits";
+    case VSM_NULL: return "a null pointer that isn't allowed";
+    case VSM_LENGTH: return "a length that nothing in memory has";
+    case VSM_ENDED: return "the script has ended";
+    case VSM_STATEMENT: return "not exactly one whole statement, or another one is open";
+    case VSM_LOST: return "the bench is lost: there was no memory for an answer";
+    default: return "no code of this library";
+  }
+}
+
+/* ---- what the program calls: hidden, so that nothing else can be bound to it ---- */
+
+#pragma GCC visibility push(hidden)
+
 struct growth {
   uint64_t succeeded;
   void *bytes;
 };
-static char nothing[16];
 
-static struct growth grown(void *bytes) { return (struct growth){bytes != NULL, bytes ? bytes : nothing}; }
-struct growth rattle_alloc(uint64_t size, uint64_t alignment) { return grown(malloc(size ? size : alignment)); }
-struct growth rattle_realloc(void *old, uint64_t old_size, uint64_t size, uint64_t alignment) {
+int vsm_program_main(int count, char **words);
+struct growth vsm_host_alloc(uint64_t size, uint64_t alignment);
+struct growth vsm_host_realloc(void *old, uint64_t old_size, uint64_t size, uint64_t alignment);
+void vsm_host_dealloc(void *bytes);
+int vsm_host_errno(void);
+void vsm_host_set_errno(int number);
+uint64_t vsm_host_arg(uint64_t index, char *to, uint64_t most);
+int64_t vsm_host_read(int file, char *to, uint64_t most);
+int64_t vsm_host_write(int file, const char *from, uint64_t count);
+int64_t vsm_host_raw_write(int file, const char *from, uint64_t count);
+int vsm_host_open(const char *path, int flags, ...);
+int vsm_host_close(int file);
+int vsm_host_isatty(int file);
+int vsm_host_strerror(int number, char *to, uint64_t most);
+long vsm_host_signal(int number, long handler);
+
+#pragma GCC visibility pop
+
+static struct growth grown(void *bytes) {
+  static char nothing[16];
+  return (struct growth){bytes != NULL, bytes ? bytes : nothing};
+}
+struct growth vsm_host_alloc(uint64_t size, uint64_t alignment) { return grown(malloc(size ? size : alignment)); }
+struct growth vsm_host_realloc(void *old, uint64_t old_size, uint64_t size, uint64_t alignment) {
   (void)old_size;
   return grown(realloc(old, size ? size : alignment));
 }
-void rattle_dealloc(void *bytes) { free(bytes); }
+void vsm_host_dealloc(void *bytes) { free(bytes); }
+int vsm_host_errno(void) { return current->error; }
+void vsm_host_set_errno(int number) { current->error = number; }
 
-struct bytes {
-  uint8_t *at;
-  size_t length, room;
-};
+/* It names no file, and no stream of it is a terminal. */
+int vsm_host_open(const char *path, int flags, ...) { return (void)path, (void)flags, current->error = ENOENT, -1; }
+int vsm_host_close(int file) { return (void)file, 0; }
+int vsm_host_isatty(int file) { return (void)file, 0; }
+int vsm_host_strerror(int number, char *to, uint64_t most) {
+  if (most) *to = '\0';
+  return (void)number, 0;
+}
+long vsm_host_signal(int number, long handler) { return (void)number, (void)handler, 0; }
 
-struct bench {
-  int is_open, has_ended;
-  uint32_t opened; /* how often this place was opened */
-  struct vsm_settings settings;
-  struct bytes script, text;
-  size_t was_read; /* so many bytes of the text */
-};
-
-static struct bench *benches;
-static size_t bench_count;
-
-/* The number of a bench: its place from 1 on, below how often that was opened. */
-static uint64_t number_of(size_t place) { return (uint64_t)benches[place].opened << 32 | (place + 1); }
-
-static struct bench *bench_of(uint64_t number) {
-  uint64_t place = (number & UINT32_MAX) - 1;
-  if (place >= bench_count || !benches[place].is_open || number_of(place) != number) return NULL;
-  return &benches[place];
+uint64_t vsm_host_arg(uint64_t index, char *to, uint64_t most) {
+  const char *word = index < current->count ? current->words[index] : NULL;
+  uint64_t length = word ? strlen(word) : UINT64_MAX;
+  if (word && to) memcpy(to, word, length < most ? length : most);
+  return length;
 }
 
-/* Room for at least so many bytes; what is there stays. */
-static int make_room(struct bytes *bytes, size_t size) {
-  size_t room = bytes->room * 2 > size ? bytes->room * 2 : size;
-  uint8_t *at;
-  if (bytes->at && size <= bytes->room) return 1;
-  at = realloc(bytes->at, room ? room : 1);
-  if (!at) return 0;
-  bytes->at = at;
-  bytes->room = room;
-  return 1;
+/* Only this function and `run` switch stacks; the thread sanitizer, which counts calls, is to see neither's begin. After a
+   switch the thread may be another one, so `current` isn't looked at again. */
+#define SWITCHES __attribute__((noinline, no_sanitize_thread))
+
+SWITCHES int64_t vsm_host_read(int file, char *to, uint64_t most) {
+  vsm *bench = current;
+  (void)file;
+  while (!bench->in_left && !bench->is_ending) swapcontext(&bench->program, &bench->caller);
+  if (most > bench->in_left) most = bench->in_left;
+  if (most) memcpy(to, bench->in, most);
+  bench->in += most;
+  bench->in_left -= most;
+  return (int64_t)most;
 }
 
-/* Runs a script, and keeps the text of its answers, if it begins with what was answered so far. */
-static enum vsm_code answer(struct bench *bench, Run *run, size_t length, int *refused) {
-  struct bytes text = {NULL, 0, 0};
-  uint32_t code = SERVED;
-  size_t size = bench->text.room;
-  do {
-    if (!make_room(&text, size)) {
-      free(text.at);
-      return VSM_NO_MEMORY;
-    }
-    code = run(&bench->settings, bench->script.at, length, text.at, text.room, &size);
-  } while ((code == SERVED || code == REFUSED) && size > text.room);
-  if (code == SERVED || code == REFUSED) {
-    if (size >= bench->text.length && (!bench->text.length || !memcmp(text.at, bench->text.at, bench->text.length))) {
-      free(bench->text.at);
-      bench->text = text;
-      bench->text.length = size;
-      bench->script.length = length;
-      *refused = code == REFUSED;
-      return VSM_OK;
-    }
-    code = VSM_BROKEN;
+/* Whether `count` bytes and one more fit after the answers. */
+static int has_room(vsm *bench, size_t count) {
+  size_t room = bench->room * 2 + count + 4096;
+  char *more;
+  if (bench->taken > bench->length / 2) {
+    bench->length -= bench->taken;
+    memmove(bench->out, bench->out + bench->taken, bench->length);
+    bench->taken = 0;
   }
-  free(text.at);
-  return (enum vsm_code)code;
-}
-
-/* A place that is free; `bench_count` where there is none. */
-static size_t free_place(void) {
-  size_t place = 0;
-  while (place < bench_count && (benches[place].is_open || benches[place].opened == UINT32_MAX)) place++;
-  return place;
-}
-
-static int add_place(void) {
-  struct bench *more = bench_count < UINT32_MAX ? realloc(benches, (bench_count + 1) * sizeof *benches) : NULL;
+  if (bench->room - bench->length > count) return 1;
+  more = realloc(bench->out, room);
   if (!more) return 0;
-  benches = more;
-  memset(&benches[bench_count++], 0, sizeof *benches);
+  bench->out = more;
+  bench->room = room;
   return 1;
 }
 
-static void discard(struct bench *bench) {
-  free(bench->script.at);
-  free(bench->text.at);
-  memset(&bench->settings, 0, sizeof bench->settings);
-  bench->script = bench->text = (struct bytes){NULL, 0, 0};
-  bench->was_read = 0;
-  bench->is_open = bench->has_ended = 0;
-}
-
-enum vsm_code vsm_open(const struct vsm_settings *settings, uint64_t *bench) {
-  enum vsm_code code;
-  struct bench *made;
-  size_t place;
-  int refused;
-  if (!settings || !bench) return VSM_NULL;
-  place = free_place();
-  if (place == bench_count && !add_place()) return VSM_NO_MEMORY;
-  made = &benches[place];
-  made->settings = *settings;
-  /* A script of no lines shows whether there can be such a bench. */
-  code = make_room(&made->script, 0) ? answer(made, vsm_c_lines, 0, &refused) : VSM_NO_MEMORY;
-  if (code != VSM_OK) {
-    discard(made);
-    return code;
+int64_t vsm_host_write(int file, const char *from, uint64_t count) {
+  vsm *bench = current;
+  if (file == 2) {
+    size_t left = sizeof bench->message - 1 - bench->said, size = count < left ? count : left;
+    memcpy(bench->message + bench->said, from, size);
+    bench->said += size;
+    return (int64_t)count;
   }
-  made->is_open = 1;
-  made->opened++;
-  *bench = number_of(place);
-  return VSM_OK;
+  if (!has_room(bench, count)) return bench->error = ENOMEM, -1;
+  memcpy(bench->out + bench->length, from, count);
+  bench->length += count;
+  return (int64_t)count;
+}
+int64_t vsm_host_raw_write(int file, const char *from, uint64_t count) { return vsm_host_write(file, from, count); }
+
+SWITCHES static void run(void) {
+  vsm *bench = current;
+  bench->status = vsm_program_main(1, NULL);
+  bench->is_over = 1;
+  setcontext(&bench->caller);
 }
 
-enum vsm_code vsm_write(uint64_t number, const char *text, size_t length) {
-  struct bench *bench = bench_of(number);
-  int refused;
-  if (!bench) return VSM_NOT_OPEN;
-  if (!text) return VSM_NULL;
-  if (length > PTRDIFF_MAX - bench->script.length) return VSM_LENGTH;
-  if (bench->has_ended) return VSM_ENDED;
-  if (!make_room(&bench->script, bench->script.length + length)) return VSM_NO_MEMORY;
-  memcpy(bench->script.at + bench->script.length, text, length);
-  return answer(bench, vsm_c_lines, bench->script.length + length, &refused);
+/* Lets the program go on until it has read this text and asks for more. */
+__attribute__((noinline)) static void resume(vsm *bench, const char *text, size_t length) {
+  if (bench->taken == bench->length) bench->taken = bench->length = 0;
+  bench->in = text;
+  bench->in_left = length;
+  if (bench->is_over) return;
+  current = bench;
+  sigprocmask(SIG_SETMASK, NULL, &bench->program.uc_sigmask);
+  swapcontext(&bench->caller, &bench->program);
+  current = NULL;
 }
 
-enum vsm_code vsm_read(uint64_t number, char *room, size_t size, size_t *length) {
-  struct bench *bench = bench_of(number);
-  size_t left;
-  if (!bench) return VSM_NOT_OPEN;
-  if (!room || !length) return VSM_NULL;
-  if (size > PTRDIFF_MAX) return VSM_LENGTH;
-  left = bench->text.length - bench->was_read;
-  *length = size < left ? size : left;
-  memcpy(room, bench->text.at + bench->was_read, *length);
-  bench->was_read += *length;
-  return VSM_OK;
+/* ---- lines that are written ---- */
+
+static void take_byte(struct place *place, char byte) {
+  uint32_t column = place->column++;
+  if (column == 0) place->star = byte == '*';
+  if (column < 71) place->marked |= byte != ' ';
+  if (column == 71) place->goes_on = byte != ' ';
 }
 
-enum vsm_code vsm_end(uint64_t number, int *status) {
-  struct bench *bench = bench_of(number);
-  enum vsm_code code;
-  int refused;
-  if (!bench) return VSM_NOT_OPEN;
-  if (!status) return VSM_NULL;
-  if (bench->has_ended) return VSM_ENDED;
-  code = answer(bench, vsm_c_script, bench->script.length, &refused);
+static void end_line(struct place *place) {
+  place->lines++;
+  if (place->is_open || (place->marked && !place->star)) {
+    place->begun += !place->is_open;
+    place->is_open = place->goes_on;
+  }
+  place->column = 0;
+  place->star = place->marked = place->goes_on = place->feed = 0;
+}
+
+/* Whether the text goes on from this place within the bounds of a script; then the place is the one after it. */
+static int take_text(struct place *place, const char *text, size_t length) {
+  for (size_t i = 0; i < length; i++) {
+    if (place->lines == MOST_LINES) return 0;
+    if (text[i] == '\n') {
+      end_line(place);
+      continue;
+    }
+    if (place->column + (uint32_t)place->feed >= MOST_BYTES) return 0;
+    if (place->feed) take_byte(place, '\r');
+    place->feed = text[i] == '\r';
+    if (!place->feed) take_byte(place, text[i]);
+  }
+  return 1;
+}
+
+/* ---- calls ---- */
+
+/* The program's arguments for these settings. */
+static void put_words(vsm *bench, const vsm_settings *settings) {
+  static const char *const options[] = {"--low", "--high", "--residence", "--history"};
+  const uint32_t numbers[] = {settings->low, settings->high, settings->residence, settings->history};
+  strcpy(bench->words[bench->count++], "vsm");
+  for (int i = 0; i < 4; i++) {
+    if (!numbers[i]) continue;
+    strcpy(bench->words[bench->count++], options[i]);
+    snprintf(bench->words[bench->count++], sizeof *bench->words, "%lu", (unsigned long)numbers[i]);
+  }
+}
+
+/* Runs the program up to its first read. */
+static int start(vsm *bench) {
+  char *stack = mmap(NULL, STACK, PROT_READ | PROT_WRITE, MAP_PRIVATE | MAP_ANONYMOUS | MAP_NORESERVE | MAP_STACK, -1, 0);
+  if (stack == MAP_FAILED) return VSM_NO_MEMORY;
+  bench->stack = stack;
+  if (mprotect(stack, GUARD, PROT_NONE) || getcontext(&bench->program)) return bench->is_over = 1, VSM_NO_MEMORY;
+  bench->program.uc_stack.ss_sp = stack;
+  bench->program.uc_stack.ss_size = STACK;
+  makecontext(&bench->program, run, 0);
+  resume(bench, NULL, 0);
+  if (!bench->is_over) return VSM_OK;
+  return strcmp(bench->message, "vsm: memory") ? VSM_SETTING : VSM_NO_MEMORY;
+}
+
+int vsm_open(const vsm_settings *settings, vsm **bench) {
+  vsm_settings own = VSM_SETTINGS;
+  vsm *made;
+  int code;
+  if (!bench) return VSM_NULL;
+  *bench = NULL;
+  if (settings) {
+    if (settings->size < sizeof own || settings->size > MOST_BYTES) return VSM_SETTING;
+    for (size_t i = sizeof own; i < settings->size; i++)
+      if (((const char *)settings)[i]) return VSM_SETTING;
+    own = *settings;
+  }
+  made = calloc(1, sizeof *made);
+  if (!made) return VSM_NO_MEMORY;
+  put_words(made, &own);
+  code = start(made);
+  if (code != VSM_OK) vsm_close(&made);
+  *bench = made;
+  return code;
+}
+
+/* Whether the program ended before its script did: a write failed, since there was no memory for an answer. */
+static int is_lost(const vsm *bench) { return bench->is_over && bench->status != 0 && bench->status != 4; }
+
+/* Why the script can't go on, or VSM_OK. */
+static int refusal(const vsm *bench) {
+  return !bench ? VSM_NULL : is_lost(bench) ? VSM_LOST : bench->is_ending ? VSM_ENDED : VSM_OK;
+}
+
+int vsm_write(vsm *bench, const char *text, size_t length) {
+  struct place place;
+  int code = refusal(bench);
+  if (code == VSM_NULL || (!text && length)) return VSM_NULL;
+  if (length > PTRDIFF_MAX) return VSM_LENGTH;
   if (code != VSM_OK) return code;
-  bench->has_ended = 1;
-  *status = refused ? REFUSED : SERVED;
+  place = bench->place;
+  if (!take_text(&place, text, length)) return VSM_TOO_LONG;
+  bench->place = place;
+  if (length) resume(bench, text, length);
+  return is_lost(bench) ? VSM_LOST : VSM_OK;
+}
+
+int vsm_ask(vsm *bench, const char *statement, const char **answer) {
+  struct place place;
+  size_t length, left, begin;
+  int needs_feed, code = refusal(bench);
+  if (code == VSM_NULL || !statement || !answer) return VSM_NULL;
+  if (code != VSM_OK) return code;
+  place = bench->place;
+  if (place.is_open || place.column || place.feed) return VSM_STATEMENT;
+  length = strlen(statement);
+  needs_feed = !length || statement[length - 1] != '\n';
+  if (!take_text(&place, statement, length) || !take_text(&place, "\n", (size_t)needs_feed)) return VSM_TOO_LONG;
+  if (place.is_open || place.begun != bench->place.begun + 1) return VSM_STATEMENT;
+  bench->place = place;
+  left = bench->length - bench->taken;
+  resume(bench, statement, length);
+  if (needs_feed) resume(bench, "\n", 1);
+  begin = bench->taken + left;
+  if (is_lost(bench) || bench->length < begin + NUMBER + 1) return VSM_LOST;
+  bench->out[bench->length - 1] = '\0';
+  bench->length = begin;
+  *answer = bench->out + begin + NUMBER;
   return VSM_OK;
 }
 
-enum vsm_code vsm_close(uint64_t number) {
-  struct bench *bench = bench_of(number);
-  if (!bench) return VSM_NOT_OPEN;
-  discard(bench);
+int vsm_read(vsm *bench, char *room, size_t size, size_t *length) {
+  if (!bench || !length || (!room && size)) return VSM_NULL;
+  if (size > PTRDIFF_MAX) return VSM_LENGTH;
+  *length = bench->length - bench->taken;
+  if (!room) return VSM_OK;
+  if (*length > size) *length = size;
+  if (*length) memcpy(room, bench->out + bench->taken, *length);
+  bench->taken += *length;
   return VSM_OK;
+}
+
+int vsm_end(vsm *bench, int *status) {
+  int code = refusal(bench);
+  if (code == VSM_NULL || !status) return VSM_NULL;
+  if (code != VSM_OK) return code;
+  bench->is_ending = 1;
+  resume(bench, NULL, 0);
+  if (is_lost(bench)) return VSM_LOST;
+  *status = bench->status;
+  return VSM_OK;
+}
+
+uint32_t vsm_lines(const vsm *bench) { return bench ? bench->place.lines : 0; }
+
+void vsm_close(vsm **bench) {
+  vsm *old = bench ? *bench : NULL;
+  if (!old) return;
+  *bench = NULL;
+  old->is_ending = 1;
+  if (old->stack) {
+    resume(old, NULL, 0); /* at the end of its script the program frees its memory */
+    munmap(old->stack, STACK);
+  }
+  free(old->out);
+  free(old);
 }

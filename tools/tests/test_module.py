@@ -24,7 +24,7 @@ def test_the_clang_that_keeps_files_works_in_a_folder_with_a_blank(tmp_path: Pat
     clang.chmod(0o755)
     source.write_bytes(b"BC\xc0\xde")
     kit = SimpleNamespace(folder=room, clang=clang)
-    keeping = module.Kit.with_keeping_clang(kit, room / "links", kept) / "bin" / "clang"
+    keeping = module.with_keeping_clang(kit, room / "links", kept) / "bin" / "clang"
     done = subprocess.run([keeping, "-c", source], capture_output=True, text=True, timeout=60)
     assert (done.returncode, done.stdout, done.stderr) == (0, f"-c\n{source}\n", "")
     assert [it.read_bytes() for it in kept.iterdir()] == [b"BC\xc0\xde"]

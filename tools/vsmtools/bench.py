@@ -1,4 +1,4 @@
-"""Finding vsm and running it: over a whole script, or as a partner that answers statement by statement."""
+"""Finding vsm and running it over a whole script, and sessions that answer statement by statement."""
 from __future__ import annotations
 
 import argparse
@@ -10,13 +10,15 @@ import signal
 import subprocess
 import sysconfig
 import tempfile
+import threading
 import time
 from dataclasses import dataclass
-from typing import IO, NamedTuple, Optional, Sequence, Union
+from typing import IO, Optional, Sequence, Union
 
+from . import library
+from .answers import Answer, answers
 from .command import WORDS, Fault, reason
 from .lines import is_continued, statements
-from .maps import Map, parse_map
 
 TOOLS = os.path.dirname(os.path.dirname(os.path.realpath(__file__)))
 TOP = os.path.dirname(TOOLS)
@@ -33,61 +35,6 @@ class Overrun(Fault):
 
 class TooMuch(Overrun):
     """A program prints more than it may."""
-
-
-class Answer(NamedTuple):
-    """One answer: the number of its statement's first line, its text, and the lines of a map behind it.
-
-    What the text doesn't have is None."""
-    line: int
-    text: str
-    rest: tuple[str, ...] = ()
-
-    @property
-    def is_map(self) -> bool:
-        return self.text == "MAP"
-
-    @property
-    def is_refused(self) -> bool:
-        return self.text.startswith(("FAULT ", "REFUSED ", "ABEND "))
-
-    @property
-    def is_kept(self) -> bool:
-        """Whether the statement is one more change that can be undone."""
-        return self.text.startswith(("RC=", "T=")) or self.text == "OK"
-
-    @property
-    def kept(self) -> Optional[int]:
-        """How many changes are kept behind a step."""
-        return int(self.text[5:]) if self.text.startswith("KEPT=") else None
-
-    def _value(self, key: str) -> Optional[str]:
-        found = re.search(r"(?:^| )%s=(\w+)" % key, self.text)
-        return found[1] if found and not self.is_refused else None
-
-    def _number(self, key: str, base: int) -> Optional[int]:
-        value = self._value(key)
-        return None if value is None else int(value, base)
-
-    rc = property(lambda it: it._number("RC", 10), doc="The return code.")
-    address = property(lambda it: it._number("A", 16))
-    length = property(lambda it: it._number("L", 16))
-    task = property(lambda it: it._number("T", 10))
-
-    @property
-    def code(self) -> Optional[str]:
-        """What stands behind ABEND, FAULT or REFUSED, as S878 or OPERAND."""
-        return self.text.partition(" ")[2] if self.is_refused else None
-
-    @property
-    def data(self) -> Optional[bytes]:
-        """The bytes that PEEK shows."""
-        value = self._value("D")
-        return None if value is None else bytes.fromhex(value)
-
-    @property
-    def map(self) -> Optional[Map]:
-        return parse_map(self.rest) if self.is_map else None
 
 
 @dataclass(frozen=True)
@@ -158,19 +105,6 @@ def find_explain(vsm: str) -> str:
         if is_program(place):
             return compiled(place, ["why", "OK"]) if place == launcher else place
     raise Fault("no program vsm-explain is found: it goes beside vsm, or on the PATH", status=WORDS)
-
-
-def answers(output: bytes) -> list[Answer]:
-    """The answers of an output in turn."""
-    found: list[tuple[int, str, list[str]]] = []
-    for number, line in enumerate(output.decode("ascii", "replace").split("\n"), 1):
-        if line.startswith(" ") and found:
-            found[-1][2].append(line)
-        elif line[:7].isdigit() and line[7:8] == " ":
-            found.append((int(line[:7]), line[8:], []))
-        elif line:
-            raise Fault("no answer of vsm: '%s'" % line[:60], "the output", number)
-    return [Answer(line, text, tuple(rest)) for line, text, rest in found]
 
 
 def ended(program: str, status: int, errors: str) -> Fault:
@@ -252,8 +186,8 @@ def check_is_one(lines: Sequence[str]) -> None:
         raise Fault("column 72 isn't blank, so the statement goes on, and no line follows")
 
 
-class Session:
-    """vsm as a partner over pipes: each statement is answered before the next one is written."""
+class Partner:
+    """vsm over pipes: each statement is answered before the next one is written."""
 
     def __init__(self, program: str, options: Sequence[str] = (), seconds: float = SECONDS) -> None:
         self.program, self.seconds, self.line = program, seconds, 0
@@ -265,23 +199,13 @@ class Session:
             self.errors.close()
             raise
 
-    def __enter__(self) -> Session:
-        return self
-
-    def __exit__(self, *_: object) -> None:
-        self.close()
-
-    def say(self, lines: Sequence[str]) -> Answer:
+    def ask(self, statement: str) -> Answer:
         """Writes the lines of one statement, and waits for its answer."""
-        check_is_one(lines)
-        if self.errors.closed:
-            raise Fault("the session is closed")
-        text = "".join(line + "\n" for line in lines).encode("utf-8", "surrogateescape")
         first = self.line + 1
-        self.line += len(lines)
+        self.line += statement.count("\n")
         try:
             assert self.child.stdin is not None
-            self.child.stdin.write(text)
+            self.child.stdin.write(statement.encode("utf-8", "surrogateescape"))
         except (OSError, ValueError):
             raise self.end() from None
         end = time.monotonic() + self.seconds
@@ -331,3 +255,53 @@ class Session:
             self.child.kill()
             self.child.wait()
         self.errors.close()
+
+
+def in_library(options: Sequence[str]) -> Optional[library.Bench]:
+    """A bench of the library; None if no library is found, or if these are options that vsm itself has to judge."""
+    path, numbers = library.find(), dict(zip(options[::2], options[1::2]))
+    is_plain = set(numbers) <= set(BENCH_OPTIONS) and all(re.fullmatch("[1-9][0-9]{0,8}", it) for it in numbers.values())
+    if not path or not is_plain or len(options) != 2 * len(numbers):
+        return None
+    try:
+        return library.Bench(path=path, **{name[2:]: int(number) for name, number in numbers.items()})
+    except library.BenchError as fault:
+        if fault.code != library.Code.SETTING:
+            raise
+        return None
+
+
+class Session:
+    """A bench that answers statement by statement: the library's if no program is named and one is found, else a program
+    over pipes. Threads that share it wait for each other."""
+
+    def __init__(self, program: Optional[str] = None, options: Sequence[str] = (), seconds: float = SECONDS) -> None:
+        self._lock = threading.Lock()
+        self._partner: Union[library.Bench, Partner, None] = None if program else in_library(options)
+        if self._partner is None:
+            self._partner = Partner(program or find_program(), options, seconds)
+
+    def __enter__(self) -> Session:
+        return self
+
+    def __exit__(self, *_: object) -> None:
+        self.close()
+
+    def say(self, lines: Sequence[str]) -> Answer:
+        """The answer to the lines of one statement."""
+        check_is_one(lines)
+        text = "".join(line + "\n" for line in lines)
+        with self._lock:
+            if self._partner is None:
+                raise Fault("the session is closed")
+            if "\0" in text and isinstance(self._partner, library.Bench):   # it can't be asked as a C string
+                self._partner.write(text)
+                return answers(self._partner.read())[0]
+            return self._partner.ask(text)
+
+    def close(self) -> None:
+        """Ends the bench."""
+        with self._lock:
+            if self._partner is not None:
+                self._partner.close()
+            self._partner = None

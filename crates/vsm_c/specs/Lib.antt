@@ -1,5 +1,0 @@
-pub mod Codes
-pub mod Wanted
-pub mod Texts
-pub mod Told
-pub mod Fronts

@@ -1,0 +1,158 @@
+"""The library libvsm by ctypes: a bench in this process, by the calls of vsm.h."""
+from __future__ import annotations
+
+import ctypes
+import os
+import threading
+from ctypes import POINTER, Structure, byref, c_char_p, c_int, c_size_t, c_uint32, c_void_p, create_string_buffer
+from enum import IntEnum
+from functools import cache
+from typing import Optional, Union
+
+from .answers import Answer
+from .command import READ_OR_WRITE, WORDS, Fault
+
+TOOLS = os.path.dirname(os.path.dirname(os.path.realpath(__file__)))
+TOP = os.path.dirname(TOOLS)
+NAME = "libvsm.so.1"
+
+
+class Code(IntEnum):
+    """What a call returns, as in vsm.h."""
+    OK = 0
+    TOO_LONG = 8
+    NO_MEMORY = 16
+    SETTING = 17
+    NULL = 20
+    LENGTH = 21
+    ENDED = 22
+    STATEMENT = 23
+    LOST = 40
+
+
+class BenchError(Fault):
+    """A call that was refused, with its code; except for LOST the bench is as it was."""
+
+    def __init__(self, code: int, text: str) -> None:
+        super().__init__(text, status=WORDS if code in (Code.NO_MEMORY, Code.SETTING) else READ_OR_WRITE)
+        self.code = Code(code)
+
+
+class Settings(Structure):
+    _fields_ = [("size", c_size_t), ("low", c_uint32), ("high", c_uint32), ("residence", c_uint32), ("history", c_uint32)]
+
+
+CALLS = {"vsm_open": [POINTER(Settings), POINTER(c_void_p)], "vsm_ask": [c_void_p, c_char_p, POINTER(c_char_p)],
+         "vsm_write": [c_void_p, c_char_p, c_size_t], "vsm_read": [c_void_p, c_char_p, c_size_t, POINTER(c_size_t)],
+         "vsm_end": [c_void_p, POINTER(c_int)], "vsm_close": [POINTER(c_void_p)], "vsm_lines": [c_void_p],
+         "vsm_strerror": [c_int], "vsm_version": []}
+RESULTS = {"vsm_close": None, "vsm_lines": c_uint32, "vsm_strerror": c_char_p, "vsm_version": c_char_p}
+
+
+def find() -> Optional[str]:
+    """The path of the library: the environment's VSM_LIBRARY, the one beside the tools, the one that tools/c/build made,
+    or a release's; its name if the system finds it; else None."""
+    named = os.environ.get("VSM_LIBRARY")
+    if named:
+        return named
+    for folder in (TOOLS, os.path.join(TOP, "crates", "vsm", "out"), os.path.join(TOP, "..", "..", "lib")):
+        if os.path.isfile(os.path.join(folder, NAME)):
+            return os.path.join(folder, NAME)
+    try:
+        ctypes.CDLL(NAME)
+        return NAME
+    except OSError:
+        return None
+
+
+@cache
+def load(path: str) -> ctypes.CDLL:
+    """The library of a path, with the types of its calls."""
+    try:
+        library = ctypes.CDLL(path)
+        for name, types in CALLS.items():
+            call = getattr(library, name)
+            call.argtypes, call.restype = types, RESULTS.get(name, c_int)
+    except (OSError, AttributeError) as fault:
+        raise Fault("%s isn't the library: %s" % (path, fault), status=WORDS) from None
+    return library
+
+
+def data_of(text: Union[str, bytes]) -> bytes:
+    return text.encode("utf-8", "surrogateescape") if isinstance(text, str) else bytes(text)
+
+
+class Bench:
+    """A bench that takes statements, or a script in any pieces; threads that share it wait for each other.
+
+    A number is as vsm's option has it; 0 stands for its default. Each call that is refused is a BenchError."""
+
+    def __init__(self, low: int = 0, high: int = 0, residence: int = 0, history: int = 0, path: Optional[str] = None) -> None:
+        self._bench, self._lock = c_void_p(None), threading.Lock()
+        path = path or find()
+        if not path:
+            raise Fault("no library %s is found: VSM_LIBRARY names one" % NAME, status=WORDS)
+        self._library = load(path)
+        numbers = low, high, residence, history
+        if not all(0 <= number < 2 ** 32 for number in numbers):
+            self._check(Code.SETTING)
+        settings = Settings(ctypes.sizeof(Settings), *numbers)
+        self._check(self._library.vsm_open(byref(settings), byref(self._bench)))
+
+    def _check(self, code: int) -> None:
+        if code == Code.NULL and not self._bench:
+            raise BenchError(code, "the bench is closed")
+        if code:
+            raise BenchError(code, self._library.vsm_strerror(code).decode())
+
+    @property
+    def lines(self) -> int:
+        """How many whole lines were written."""
+        return self._library.vsm_lines(self._bench)
+
+    def ask(self, statement: Union[str, bytes]) -> Answer:
+        """Asks one statement of one or more lines, whose last line feed may be missing. Before it no comments, since the
+        answer has the number of the first of these lines."""
+        data, answer = data_of(statement), c_char_p()
+        with self._lock:
+            first = self.lines + 1
+            self._check(Code.STATEMENT if b"\0" in data else self._library.vsm_ask(self._bench, data, byref(answer)))
+            text, *rest = (answer.value or b"").decode("ascii").split("\n")
+        return Answer(first, text, tuple(rest))
+
+    def write(self, text: Union[str, bytes]) -> None:
+        """Writes a part of the script: any number of lines, or parts of lines."""
+        data = data_of(text)
+        with self._lock:
+            self._check(self._library.vsm_write(self._bench, data, len(data)))
+
+    def read(self) -> bytes:
+        """The answers that were not given yet, as vsm prints them."""
+        length = c_size_t(0)
+        with self._lock:
+            self._check(self._library.vsm_read(self._bench, None, 0, byref(length)))
+            room = create_string_buffer(length.value + 1)
+            self._check(self._library.vsm_read(self._bench, room, length.value, byref(length)))
+        return room.raw[:length.value]
+
+    def end(self) -> int:
+        """Ends the script: a last line without a line feed and an open statement are answered. Gives vsm's status."""
+        status = c_int(0)
+        with self._lock:
+            self._check(self._library.vsm_end(self._bench, byref(status)))
+        return status.value
+
+    def close(self) -> None:
+        """Closes the bench, also if it's closed already."""
+        with self._lock:
+            self._library.vsm_close(byref(self._bench))
+
+    def __enter__(self) -> Bench:
+        return self
+
+    def __exit__(self, *_: object) -> None:
+        self.close()
+
+    def __del__(self) -> None:
+        if getattr(self, "_bench", None):
+            self._library.vsm_close(byref(self._bench))
