@@ -1,4 +1,5 @@
 pub mod SettingsAsked
+pub mod WordsRead
 pub mod Asked
 pub mod Obeys
 pub mod Reached

@@ -1,19 +1,20 @@
 -- What the program does is what its words ask for.
-use Rattle.std.proofs.Common.{arith, map, Bool, ◌≡◌, ◌∙◌, ◌≤◌, inl, inr, ℕ, refl, sym, subst, List, [], ◌∷◌, length, Option, Some, Err}
+use Rattle.std.proofs.Common.{arith, map, Bool, ◌≡◌, ◌∙◌, ◌≤◌, ◌⊎◌, inl, inr, ℕ, ap, refl, sym, subst, codes, true, true≢false, List, [], ◌∷◌, length, Option, Some, Err}
 use Rattle.std.specs.Io.KnownBytes.{Appends}
 use Rattle.std.proofs.lemmas.Option.{none-some}
 use Rattle.std.proofs.KnownBytes.{Appends-nil, Consumes-nil}
-use Rattle.clap.specs.Words.{Kinds, Row, Text, HasKind, IsAmong, fault_of, kind_of, matches_of}
+use Rattle.clap.specs.Words.{Row, Text, kind_of}
 use Rattle.clap.specs.declared.Error.{Error}
 use Rattle.clap.specs.declared.error.ErrorKind.{ErrorKind}
 use Rattle.clap.specs.declared.error.ErrorKind.TheVariants as kind
 use Rattle.vsm_model.specs.declared.limits.Settings.{Settings}
-use Rattle.vsm_bench.specs.Command.{Answers, Commanded, Does, DoesBy, Obeys, Refuses}
-use Rattle.vsm_bench.specs.Settings.{Residences, AreResidences, settings_asked}
-use Rattle.vsm_bench.specs.Options.{command_line, file_asked}
+use Rattle.vsm_bench.specs.Command.{Answers, Commanded, Does, Obeys, Refuses}
+use Rattle.vsm_bench.specs.Settings.{settings_asked}
+use Rattle.vsm_bench.specs.Options.{AnswersKind, Gives, IsKindOf, file_asked, is_wrong}
+use Rattle.vsm_bench.specs.Words.{Asked, asked, given, help, run, version, wrong}
 use Rattle.script_steps.specs.declared.faults.RunFault.TheVariants as fault
 use Rattle.bench_core.specs.NewFault.TheVariants as new_fault
-use Rattle.vsm_bench.proofs.Asked.{nothing_said, nothing_wrong}
+use Rattle.vsm_bench.proofs.Asked.{file_is, nothing_asked, settings_are}
 
 -- as many words as texts
 pub map_few : {A B : Type 0} (f : A → B) (xs : List A) → length xs ≤ 1 → length (map f xs) ≤ 1
@@ -22,10 +23,9 @@ map_few f (x ∷ []) few = few
 map_few f (x ∷ y ∷ xs) few = absurd (omega arith)
 
 -- without words there is no file
-names_no_file : (values : Residences) (words : List Text) (rows : List Row) (path : Text) → rows ≡ matches_of (command_line values) words
-    → Some path ≡ file_asked rows → length words ≤ 1 → ⊥
-names_no_file values words rows path is named few =
-    none-some path (sym (subst (λ (rs : List Row). Some path ≡ file_asked rs) (is ∙ nothing_said values words few) named))
+names_no_file : (words : List Text) (rows : List Row) (path : Text) → Gives rows (asked words) → Some path ≡ file_asked rows → length words ≤ 1 → ⊥
+names_no_file words rows path gives named few =
+    none-some path (sym (named ∙ ap file_asked (subst (Gives rows) (nothing_asked words few) gives)))
 
 module _ {O E : Type 0} (contents : O → Option (List ℕ)) (said : E → E → List ℕ → Bool → Type 0) (output later : O) (errors told : E) (at_terminal : Bool) (code : ℕ) where
   -- a run that found no memory for its bench
@@ -39,36 +39,46 @@ module _ {O E : Type 0} (contents : O → Option (List ℕ)) (said : E → E →
   )
 
   -- the error of words that have no fault is want of memory
-  pub refuses_memory : (e : Error) → kind_of e ≡ kind.OutOfMemory → Answers said errors told at_terminal contents (kind_of e) output later code
+  pub refuses_memory : (e : Error) → kind_of e ≡ kind.OutOfMemory → AnswersKind said errors told at_terminal contents (kind_of e) output later code
       → Refuses said errors told at_terminal output later code (fault.New new_fault.NoMemory)
-  refuses_memory e memory answers = subst (λ k. Answers said errors told at_terminal contents k output later code) memory answers
+  refuses_memory e memory answers = subst (λ k. AnswersKind said errors told at_terminal contents k output later code) memory answers
+
+  -- the error of wrong words
+  pub wrong_answer : (k : ErrorKind) → is_wrong k ≡ true → AnswersKind said errors told at_terminal contents k output later code → (later ≡ output) × (code ≡ 16)
+  wrong_answer kind.DisplayHelp bad answers = absurd (true≢false (sym bad))
+  wrong_answer kind.DisplayVersion bad answers = absurd (true≢false (sym bad))
+  wrong_answer kind.OutOfMemory bad answers = absurd (true≢false (sym bad))
+  wrong_answer _ bad answers = answers
 
 module _ {I O E : Type 0} (remaining : I → Option (List ℕ)) (contents : O → Option (List ℕ)) (said : E → E → List ℕ → Bool → Type 0) (input : I) (output later : O) (errors told : E) (at_terminal : Bool) (code : ℕ) where
-  pub runs_refuse : (values : Residences) (words : List Text) (e : Error) → HasKind (fault_of (command_line values) words) e
-      → Answers said errors told at_terminal contents (kind_of e) output later code → length words ≤ 1
+  pub runs_refuse : (words : List Text) (e : Error) → (kind_of e ≡ kind.OutOfMemory) ⊎ IsKindOf (kind_of e) (asked words)
+      → AnswersKind said errors told at_terminal contents (kind_of e) output later code → length words ≤ 1
       → Commanded said errors told at_terminal (remaining input) (remaining input) (contents output) (contents later) code
-  runs_refuse values words e (inl memory) answers few =
+  runs_refuse words e (inl memory) answers few =
       no_memory contents said output later errors told at_terminal code (remaining input) (refuses_memory contents said output later errors told at_terminal code e memory answers)
-  runs_refuse values words e (inr is) answers few = absurd (subst (IsAmong (kind_of e)) (nothing_wrong values words few) is)
+  runs_refuse words e (inr is) answers few = absurd (subst (IsKindOf (kind_of e)) (nothing_asked words few) is)
 
   -- a file that is named is a word
-  pub runs_named : (values : Residences) (words : List Text) (rows : List Row) (path : Text) → rows ≡ matches_of (command_line values) words
-      → Some path ≡ file_asked rows → length words ≤ 1 → Commanded said errors told at_terminal (remaining input) (remaining input) (contents output) (contents later) code
-  runs_named values words rows path is named few = absurd (names_no_file values words rows path is named few)
+  pub runs_named : (words : List Text) (rows : List Row) (path : Text) → Gives rows (asked words) → Some path ≡ file_asked rows → length words ≤ 1
+      → Commanded said errors told at_terminal (remaining input) (remaining input) (contents output) (contents later) code
+  runs_named words rows path gives named few = absurd (names_no_file words rows path gives named few)
 
 module _ {F I O E : Type 0} (opened : Text → Option F → Type 0) (unread : F → Option (List ℕ)) (remaining : I → Option (List ℕ)) (contents : O → Option (List ℕ))
     (said : E → E → List ℕ → Bool → Type 0) (input : I) (output later : O) (errors told : E) (at_terminal : Bool) (code : ℕ) where
-  among : (kinds : Kinds) (what : ErrorKind) (rows : List Row) → IsAmong what kinds → Answers said errors told at_terminal contents what output later code
-      → DoesBy opened unread remaining contents said input input output later errors told at_terminal code kinds rows
-  among [] what rows is answers = absurd is
-  among (k ∷ ks) what rows is answers = (what, is, refl, answers)
+  answers_kind : (k : ErrorKind) (what : Asked) → IsKindOf k what → AnswersKind said errors told at_terminal contents k output later code
+      → Answers opened unread remaining contents said input input output later errors told at_terminal code what
+  answers_kind k help is answers = (refl, subst (λ (j : ErrorKind). AnswersKind said errors told at_terminal contents j output later code) is answers)
+  answers_kind k version is answers = (refl, subst (λ (j : ErrorKind). AnswersKind said errors told at_terminal contents j output later code) is answers)
+  answers_kind k wrong is answers =
+      let found = wrong_answer contents said output later errors told at_terminal code k is answers in
+      (refl, found.0, found.1)
+  answers_kind k (run uses) is answers = absurd is
 
-  -- the words are at fault, or there was no memory
-  pub does_refuse : (values : Residences) (words : List Text) (e : Error) → AreResidences values → HasKind (fault_of (command_line values) words) e
-      → Answers said errors told at_terminal contents (kind_of e) output later code → Does opened unread remaining contents said input input output later errors told at_terminal code words
-  does_refuse values words e are (inl memory) answers = inl (refl, refuses_memory contents said output later errors told at_terminal code e memory answers)
-  does_refuse values words e are (inr is) answers =
-      inr (values, are, among (fault_of (command_line values) words) (kind_of e) (matches_of (command_line values) words) is answers)
+  -- the words ask for no run, or there was no memory
+  pub does_refuse : (words : List Text) (e : Error) → (kind_of e ≡ kind.OutOfMemory) ⊎ IsKindOf (kind_of e) (asked words)
+      → AnswersKind said errors told at_terminal contents (kind_of e) output later code → Does opened unread remaining contents said input input output later errors told at_terminal code words
+  does_refuse words e (inl memory) answers = inl (refl, refuses_memory contents said output later errors told at_terminal code e memory answers)
+  does_refuse words e (inr is) answers = inr (answers_kind (kind_of e) (asked words) is answers)
 
 module _ {F I O E : Type 0} (opened : Text → Option F → Type 0) (unread : F → Option (List ℕ)) (remaining : I → Option (List ℕ)) (contents : O → Option (List ℕ))
     (said : E → E → List ℕ → Bool → Type 0) (input left : I) (output later : O) (errors told : E) (at_terminal : Bool) (code : ℕ) where
@@ -79,22 +89,24 @@ module _ {F I O E : Type 0} (opened : Text → Option F → Type 0) (unread : F 
       subst (λ s. Obeys opened unread remaining contents said input left output later errors told at_terminal code s (file_asked rows)) same
       (subst (Obeys opened unread remaining contents said input left output later errors told at_terminal code settings) named obeys)
 
-  pub does_obey : (values : Residences) (words : List Text) (rows : List Row) → AreResidences values → fault_of (command_line values) words ≡ []
-      → rows ≡ matches_of (command_line values) words → Obeys opened unread remaining contents said input left output later errors told at_terminal code (settings_asked rows) (file_asked rows)
+  answers_run : (rows : List Row) (what : Asked) → Gives rows what → Obeys opened unread remaining contents said input left output later errors told at_terminal code (settings_asked rows) (file_asked rows)
+      → Answers opened unread remaining contents said input left output later errors told at_terminal code what
+  answers_run rows (run uses) is obeys =
+      subst (λ s. Obeys opened unread remaining contents said input left output later errors told at_terminal code s (given (codes "FILE") uses)) (settings_are rows uses is)
+      (subst (Obeys opened unread remaining contents said input left output later errors told at_terminal code (settings_asked rows)) (file_is rows uses is) obeys)
+  answers_run rows help is obeys = absurd is
+  answers_run rows version is obeys = absurd is
+  answers_run rows wrong is obeys = absurd is
+
+  pub does_obey : (words : List Text) (rows : List Row) → Gives rows (asked words)
+      → Obeys opened unread remaining contents said input left output later errors told at_terminal code (settings_asked rows) (file_asked rows)
       → Does opened unread remaining contents said input left output later errors told at_terminal code words
-  does_obey values words rows are right is obeys =
-      let by_rows : DoesBy opened unread remaining contents said input left output later errors told at_terminal code [] (matches_of (command_line values) words) =
-      subst (λ (rs : List Row). Obeys opened unread remaining contents said input left output later errors told at_terminal code (settings_asked rs) (file_asked rs)) is obeys in
-      inr (
-        values,
-        are,
-        subst (λ (ks : Kinds). DoesBy opened unread remaining contents said input left output later errors told at_terminal code ks (matches_of (command_line values) words)) (sym right) by_rows,
-      )
+  does_obey words rows gives obeys = inr (answers_run rows (asked words) gives obeys)
 
   -- without words it's a run by default
-  pub runs_obey : (values : Residences) (words : List Text) (rows : List Row) → rows ≡ matches_of (command_line values) words
+  pub runs_obey : (words : List Text) (rows : List Row) → Gives rows (asked words)
       → Obeys opened unread remaining contents said input left output later errors told at_terminal code (settings_asked rows) (file_asked rows) → length words ≤ 1
       → Commanded said errors told at_terminal (remaining input) (remaining left) (contents output) (contents later) code
-  runs_obey values words rows is obeys few =
+  runs_obey words rows gives obeys few =
       subst (λ (rs : List Row). Obeys opened unread remaining contents said input left output later errors told at_terminal code (settings_asked rs) (file_asked rs))
-      (is ∙ nothing_said values words few) obeys
+      (subst (Gives rows) (nothing_asked words few) gives) obeys

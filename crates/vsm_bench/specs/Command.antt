@@ -1,18 +1,15 @@
 -- What the program does, and its exit status.
-use Rattle.std.specs.Prelude.{◌≡◌, ℕ, ◌==◌, ◌⊎◌, ◌++◌, Bool, if◌then◌else◌, List, [], ◌∷◌, Option, Some, None, Result}
+use Rattle.std.specs.Prelude.{◌≡◌, ℕ, ◌==◌, ◌⊎◌, ◌++◌, Bool, if◌then◌else◌, codes, List, [], Option, Some, None, Result}
 use Rattle.std.specs.Prelude.{Ok, Err}
 use Rattle.std.specs.Io.KnownBytes.{Appends}
-use Rattle.clap.specs.Words.{Row, Text, Kinds, IsAmong, fault_of, matches_of}
-use Rattle.clap.specs.declared.error.ErrorKind.{ErrorKind}
-use Rattle.clap.specs.declared.error.ErrorKind.TheVariants as kind
 use Rattle.vsm_model.specs.declared.limits.Settings.{Settings}
 use Rattle.text_output.specs.Writing.{AppendsFront}
 use Rattle.bench_core.specs.NewFault.TheVariants as new_fault
 use Rattle.script_steps.specs.Run.{Ran}
-use Rattle.vsm_bench.specs.Settings.{Residences, AreResidences, default_settings, settings_asked}
+use Rattle.vsm_bench.specs.Settings.{default_settings}
 use Rattle.vsm_bench.specs.Help.{help_end, version_text}
 use Rattle.vsm_bench.specs.Messages.{SaysFirst, fault_text}
-use Rattle.vsm_bench.specs.Options.{command_line, file_asked}
+use Rattle.vsm_bench.specs.Words.{Asked, help, version, wrong, run, asked, given, settings_in}
 use Rattle.script_steps.specs.declared.faults.RunFault.{RunFault}
 use Rattle.script_steps.specs.declared.faults.RunFault.TheVariants as fault
 use Rattle.script_steps.specs.declared.totals.RunTotals.{RunTotals}
@@ -91,21 +88,13 @@ module _ {E : Type 0} (said : E → E → List ℕ → Bool → Type 0) (errors 
       (outcome : Result (Unit {0}) RunFault) × Versioned at_first now outcome × (code ≡ help_status outcome)
       × Reports outcome
 
-  -- An answer to words that ask for no run: help, or the version; or want of memory, which is said; or status 16, and
-  -- nothing is written.
-  abbrev pub Answers : {O : Type 0} → (O → Option (List ℕ)) → ErrorKind → O → O → ℕ → Type 0
-  Answers contents kind.DisplayHelp output later code = Helps (contents output) (contents later) code
-  Answers contents kind.DisplayVersion output later code = Versions (contents output) (contents later) code
-  Answers contents kind.OutOfMemory output later code = Refuses output later code (fault.New new_fault.NoMemory)
-  Answers contents _ output later code = (later ≡ output) × (code ≡ 16)
-
 -- What the program does with its input, its output and its status. `opened` says what opening a path gave, and `unread`
 -- what an open script has left to be read.
-module _ {F I O E : Type 0} (opened : Text → Option F → Type 0) (unread : F → Option (List ℕ))
+module _ {F I O E : Type 0} (opened : List ℕ → Option F → Type 0) (unread : F → Option (List ℕ))
     (remaining : I → Option (List ℕ)) (contents : O → Option (List ℕ)) (said : E → E → List ℕ → Bool → Type 0)
     (input left : I) (output later : O) (errors told : E) (at_terminal : Bool) (code : ℕ) where
   -- the input is read where the words name no file, and else left as it was
-  abbrev pub Runs : Settings → Option Text → Type 0
+  abbrev pub Runs : Settings → Option (List ℕ) → Type 0
   Runs settings None =
       CommandedWith said errors told at_terminal settings (remaining input) (remaining left) (contents output)
       (contents later) code
@@ -113,20 +102,19 @@ module _ {F I O E : Type 0} (opened : Text → Option F → Type 0) (unread : F 
       × RunsOpened said errors told at_terminal unread contents settings output later code script)
 
   -- a number above 32 bits is refused before the file is opened
-  abbrev pub Obeys : Option Settings → Option Text → Type 0
+  abbrev pub Obeys : Option Settings → Option (List ℕ) → Type 0
   Obeys None file =
       (left ≡ input) × Refuses said errors told at_terminal output later code (fault.New new_fault.Setting)
   Obeys (Some settings) file = Runs settings file
 
-  -- by the faults of the words, and by what they say where they have none
-  abbrev pub DoesBy : Kinds → List Row → Type 0
-  DoesBy [] rows = Obeys (settings_asked rows) (file_asked rows)
-  DoesBy (k ∷ ks) rows =
-      (what : ErrorKind) × IsAmong what (k ∷ ks) × (left ≡ input)
-      × Answers said errors told at_terminal contents what output later code
+  -- help, the version, a run with what the words give, or status 16 where they are wrong
+  abbrev pub Answers : Asked → Type 0
+  Answers help = (left ≡ input) × Helps said errors told at_terminal (contents output) (contents later) code
+  Answers version = (left ≡ input) × Versions said errors told at_terminal (contents output) (contents later) code
+  Answers wrong = (left ≡ input) × (later ≡ output) × (code ≡ 16)
+  Answers (run uses) = Obeys (settings_in uses) (given (codes "FILE") uses)
 
   -- or there is no memory to read the words, which is said
-  abbrev pub Does : List Text → Type 0
+  abbrev pub Does : List (List ℕ) → Type 0
   Does words = ((left ≡ input) × Refuses said errors told at_terminal output later code (fault.New new_fault.NoMemory))
-      ⊎ ((values : Residences) × AreResidences values
-      × DoesBy (fault_of (command_line values) words) (matches_of (command_line values) words))
+      ⊎ Answers (asked words)

@@ -1,8 +1,9 @@
 pub mod Headline
 pub mod Reached
 pub mod Settings
-pub mod Options
+pub mod Words
 pub mod Help
 pub mod Messages
 pub mod Command
+pub mod Options
 pub mod Served

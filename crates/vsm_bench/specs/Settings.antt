@@ -42,33 +42,45 @@ with_settings values app =
 abbrev pub default_settings : Settings
 default_settings = record { low_k = 64; high_k = 64; residence = Below; history = 1024 }
 
-abbrev pub is_numeral : Text → Bool
+abbrev pub is_numeral : List ℕ → Bool
 is_numeral digits = nat_lt 0 (length digits) && list_all (λ d. nat_lt (digit_value d) 10) digits
 
 -- the number that a text writes, where it has 32 bits
-abbrev pub number_in : Text → Option ℕ
+abbrev pub number_in : List ℕ → Option ℕ
 number_in text =
     let digits = without_leading_plus text in
     if is_numeral digits && nat_lt (digits_value 10 digits) (2 ^ 32) then Some (digits_value 10 digits) else None
 
-abbrev pub number_asked : Text → ℕ → List Row → Option ℕ
-number_asked name default rows = option_map_or number_in (one_of name rows) (Some default)
+abbrev pub number_or : ℕ → Option (List ℕ) → Option ℕ
+number_or default text = option_map_or number_in text (Some default)
 
-abbrev pub residence_in : Text → Residence
+abbrev pub residence_in : List ℕ → Residence
 residence_in text = if bytes_eq text (codes "31") then Above else Below
 
-abbrev pub residence_asked : List Row → Residence
-residence_asked rows = option_map_or residence_in (first_of (codes "residence") rows) default_settings.residence
+abbrev pub residence_or : Residence → Option (List ℕ) → Residence
+residence_or default text = option_map_or residence_in text default
 
 abbrev pub settings_from : Option ℕ → Option ℕ → Residence → Option ℕ → Option Settings
 settings_from (Some low) (Some high) residence (Some history) =
     Some (record { low_k = low; high_k = high; residence = residence; history = history })
 settings_from _ _ residence _ = None
 
--- the settings, unless a number has more than 32 bits
+-- the settings by what --low, --high, --residence and --history say, unless a number has more than 32 bits
+abbrev pub settings_of : Option (List ℕ) → Option (List ℕ) → Option (List ℕ) → Option (List ℕ) → Option Settings
+settings_of low high residence history = settings_from
+    (number_or default_settings.low_k low)
+    (number_or default_settings.high_k high)
+    (residence_or default_settings.residence residence)
+    (number_or default_settings.history history)
+
+-- ---- the same, of what clap read
+
+abbrev pub number_asked : Text → ℕ → List Row → Option ℕ
+number_asked name default rows = number_or default (one_of name rows)
+
+abbrev pub residence_asked : List Row → Residence
+residence_asked rows = residence_or default_settings.residence (first_of (codes "residence") rows)
+
 abbrev pub settings_asked : List Row → Option Settings
-settings_asked rows = settings_from
-    (number_asked (codes "low") default_settings.low_k rows)
-    (number_asked (codes "high") default_settings.high_k rows)
-    (residence_asked rows)
-    (number_asked (codes "history") default_settings.history rows)
+settings_asked rows = settings_of (one_of (codes "low") rows) (one_of (codes "high") rows)
+    (first_of (codes "residence") rows) (one_of (codes "history") rows)

@@ -3,9 +3,10 @@ ghost use Rattle.std.specs.Prelude.{◌≡◌, ◌≤◌, false, length, map};
 ghost use Rattle.std.specs.Result.{result_ok};
 ghost use Rattle.std.specs.String.{string_bytes};
 ghost use Rattle.clap.specs.Words.{kind_of};
-ghost use Rattle.vsm_bench.specs.Command.{Answers, Commanded, CommandedWith, Does, Helps, RunsOpened};
+ghost use Rattle.vsm_bench.specs.Command.{Commanded, CommandedWith, Does, Helps, RunsOpened};
 ghost use Rattle.vsm_bench.specs.Command.{Versions, fault_status};
 ghost use Rattle.vsm_bench.specs.Messages.{SaysFirst, fault_text};
+ghost use Rattle.vsm_bench.specs.Options.{AnswersKind};
 
 use crate::advice::Advice;
 use crate::help::{write_help, write_version};
@@ -145,7 +146,7 @@ fn answer<O: Write, E: Messages>(
     errors: &mut E,
     at_terminal: bool,
 ) -> u8
-    ensures { Answers E.said errors.old errors.new at_terminal O.contents (kind_of error.now) output.old output.new
+    ensures { AnswersKind E.said errors.old errors.new at_terminal O.contents (kind_of error.now) output.old output.new
         result }
 {
     match error.kind() {

@@ -27,7 +27,7 @@ fn command_line<'a>(alloc: Global) -> Result<Command<'a>, AllocError>
 /// What the words say, the first of which is the program's name; or the text for whoever wrote them: help, or what is
 /// wrong.
 pub(crate) fn read_words<'a>(alloc: Global, words: &'a [String]) -> Result<ArgMatches<'a>, Error>
-    ensures { (values : Residences) × AreResidences values × Reads values (map string_bytes words.entry.now) result }
+    ensures { Reads (map string_bytes words.entry.now) result }
 {
     command_line(alloc)?.try_get_matches_from(words)
 }
