@@ -1,13 +1,12 @@
 -- What clap read of a command line is what its words ask for.
-use Rattle.std.proofs.Common.{◌≡◌, ◌⊎◌, ◌∙◌, ◌≤◌, Bool, true, false, cond, refl, sym, ap, subst, ⊎_elim, inl, inr, arith, codes, find, map, List, [], ◌∷◌, length, bytes_eq, Option, Some, None, Result, Ok, Err, option_map, option_and_then}
+use Rattle.std.proofs.Common.{◌≡◌, ◌∙◌, ◌≤◌, Bool, true, false, cond, refl, sym, ap, subst, ⊎_elim, inl, inr, arith, codes, find, map, List, [], ◌∷◌, length, bytes_eq, Some, Result, Ok, Err, option_map, option_and_then}
 use Rattle.std.specs.Prelude.{IfOk, slice_get}
-use Rattle.clap.specs.Words.{App, FailsBy, HasKind, HasMatchesOf, IsAmong, Kinds, Row, Text, fault_of, first_of, found_of, is_simple, kind_of, matches_of, one_of, rows_of}
+use Rattle.clap.specs.Words.{App, FailsBy, HasMatchesOf, IsAmong, Kinds, Row, Text, fault_of, first_of, found_of, is_simple, kind_of, matches_of, one_of, rows_of}
 use Rattle.clap.specs.Words.{is_simple_and_free}
 use Rattle.clap.specs.Walk.{row_text}
 use Rattle.clap.proofs.OnLiterals.{clap_on_literals}
 use Rattle.clap.specs.declared.parser.ArgMatches.{ArgMatches}
 use Rattle.clap.specs.declared.error.ErrorKind.{ErrorKind}
-use Rattle.clap.specs.declared.error.ErrorKind.TheVariants as kind
 use Rattle.clap.specs.declared.Error.{Error}
 use Rattle.vsm_bench.specs.Settings.{AreResidences, Residences, settings_asked, settings_of}
 use Rattle.vsm_bench.specs.Options.{Gives, IsKindOf, Reads, command_line, file_asked, row_of_use}

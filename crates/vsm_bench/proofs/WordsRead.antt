@@ -1,5 +1,5 @@
 -- What clap makes of the words is what `specs/Words.antt` says.
-use Rattle.std.proofs.Common.{◌≡◌, ◌⊎◌, ◌∙◌, ◌&&◌, ◌||◌, ◌++◌, ◌==◌, ◌<◌, ◌≤◌, ◌^◌, ⊎_elim, inl, inr, ℕ, Bool, true, false, not, cond, refl, sym, ap, ap₂, subst, List, [], ◌∷◌, map, fold, drop, codes, chars, slice_get, nat_lt, nat_le, leb-false, lt-ltb, ltb-true, le-leb, arith, Option, Some, None, append-nil, unwrap_or, true≢false, bytes_eq}
+use Rattle.std.proofs.Common.{◌≡◌, ◌⊎◌, ◌∙◌, ◌&&◌, ◌||◌, ◌++◌, ◌==◌, ◌<◌, ◌^◌, ⊎_elim, inl, inr, ℕ, Bool, true, false, not, cond, refl, sym, ap, subst, List, [], ◌∷◌, map, fold, drop, codes, chars, slice_get, nat_lt, nat_le, ltb-true, le-leb, arith, Option, Some, None, append-nil, unwrap_or, true≢false, bytes_eq}
 use Rattle.std.specs.List.{list_all, list_any}
 use Rattle.std.specs.Option.{option_map_or}
 use Rattle.std.specs.Borrow.{Bor}
@@ -16,7 +16,7 @@ use Rattle.clap.specs.Values.{refused_kind}
 use Rattle.clap.specs.ValueTests.{accepts}
 use Rattle.clap.specs.Words.{Kinds, Row, Rule, Shape, Text, fault_of, matches_of, new_rule, reading_of}
 use Rattle.clap.specs.Kinds.{or_else}
-use Rattle.clap.specs.Walk.{Held, Step, Waiting, Walk, after_step, arg_by_id, arg_by_index, arg_by_long, arg_by_short, at_row, has_row, idle, is_empty, is_pending, more_values, next, nothing_held, option, plain_word, positional, settled, settled_rows, subcommand_met, subcommand_or_other, trailing, used, value, walk_from, walked, with_default, with_values, without, word_met, bundle_met}
+use Rattle.clap.specs.Walk.{Held, Step, Waiting, Walk, after_step, arg_by_id, arg_by_index, arg_by_long, arg_by_short, at_row, has_row, idle, is_empty, is_pending, more_values, next, nothing_held, option, plain_word, positional, settled, settled_rows, subcommand_met, subcommand_or_other, trailing, used, value, walk_from, walked, with_default, with_values, bundle_met}
 use Rattle.clap.specs.Simple.{built, filled, help_rule, new_shape, version_rule}
 use Rattle.clap.specs.Faults.{defaults_fault, flags_fault, other_fault, settle_fault, step_fault, turn_fault, use_fault, walk_fault}
 use Rattle.clap.proofs.FaultLemmas.{leaf_fault}
@@ -24,7 +24,7 @@ use Rattle.clap.proofs.SimpleLemmas.{is_nil}
 use Rattle.clap.proofs.WalkLemmas.{both, list_any-map}
 use Rattle.vsm_bench.specs.Settings.{Residences, AreResidences, is_numeral}
 use Rattle.vsm_bench.specs.Options.{IsKindOf, command_line, is_wrong, row_of_use}
-use Rattle.vsm_bench.specs.Words.{Asked, Form, Progress, Uses, after_form, after_name, after_value, after_word, asked, asked_at, awaits, dashes, ends, form_of, help, hyphen_form, is_given, is_option, is_number, letter, long_form, named, operands, plain, ready, requested, requested_by, run, takes, version, with_file, with_option, wrong}
+use Rattle.vsm_bench.specs.Words.{Asked, Form, Progress, Uses, after_form, after_value, after_word, asked, asked_at, awaits, dashes, ends, form_of, help, hyphen_form, is_given, is_option, is_number, letter, long_form, named, operands, plain, ready, requested, requested_by, run, takes, version, with_file, with_option, wrong}
 
 -- ---- truth values
 
@@ -521,7 +521,7 @@ module _ (c : List Rule) (facts : Facts c) where
           (
             is,
             walk_passes idle n rs p word (held (settled_rows c p rs) (Some (name, [])), next (option name)) (separate_met idle n rs p word name o u)
-            ∙ ap (λ (l : List Row). walk_at false (option name) n l (Some (name, []))) ok.1,
+                ∙ ap (λ (l : List Row). walk_at false (option name) n l (Some (name, []))) ok.1,
           ),
         )
     name_goes name (Some v) u false out = inr (
@@ -567,7 +567,7 @@ module _ (c : List Rule) (facts : Facts c) where
         let o = facts.options name is in (
           k,
           turn_stops waiting (place b) rs p word k (attached_fault waiting (place b) rs p word name o v u
-          ∙ ap (λ (ks : Kinds). or_else ks (use_fault false (option_rule name o.by) (v ∷ []) (settled_rows c p rs))) fails),
+              ∙ ap (λ (ks : Kinds). or_else ks (use_fault false (option_rule name o.by) (v ∷ []) (settled_rows c p rs))) fails),
           bad,
         )
     name_dooms waiting name None u true is =

@@ -10,4 +10,4 @@ pub returns : goal.returns
 returns c =
     let line = c.in_ok-command_line.ensures in
     reads_as line.0 line.1 _ line.2 (map string_bytes c.args.words.now) c.try_get_matches_from.result
-        c.try_get_matches_from.ensures.matches c.try_get_matches_from.ensures.kinds
+    c.try_get_matches_from.ensures.matches c.try_get_matches_from.ensures.kinds
