@@ -206,53 +206,37 @@ abbrev name_kind : Option ErrorKind → Text → Option Text → ErrorKind
 name_kind o name (Some v) = cond (bytes_eq (codes "help") name) kind.TooManyValues (cond (bytes_eq (codes "version") name) kind.TooManyValues kind.UnknownArgument)
 name_kind o name None = cond (bytes_eq (codes "help") name) (unwrap_or o kind.DisplayHelp) (cond (bytes_eq (codes "version") name) (unwrap_or o kind.DisplayVersion) kind.UnknownArgument)
 
+still_wrong : (k : ErrorKind) → is_wrong k ≡ true → (a b : Bool) → is_wrong (cond a k (cond b k kind.UnknownArgument)) ≡ true
+still_wrong k bad true b = bad
+still_wrong k bad false true = bad
+still_wrong k bad false false = refl
+
 letter_wrong : (k : ErrorKind) (x : ℕ) → is_wrong k ≡ true → is_wrong (letter_kind (Some k) x) ≡ true
-letter_wrong k x bad = go (104 == x) (86 == x)
-  where
-    go : (a b : Bool) → is_wrong (cond a k (cond b k kind.UnknownArgument)) ≡ true
-    go true b = bad
-    go false true = bad
-    go false false = refl
+letter_wrong k x bad = still_wrong k bad (104 == x) (86 == x)
 
 attached_wrong : (o : Option ErrorKind) (name v : Text) → is_wrong (name_kind o name (Some v)) ≡ true
-attached_wrong o name v = go (bytes_eq (codes "help") name) (bytes_eq (codes "version") name)
-  where
-    go : (a b : Bool) → is_wrong (cond a kind.TooManyValues (cond b kind.TooManyValues kind.UnknownArgument)) ≡ true
-    go true b = refl
-    go false true = refl
-    go false false = refl
+attached_wrong o name v = still_wrong kind.TooManyValues refl (bytes_eq (codes "help") name) (bytes_eq (codes "version") name)
 
 name_wrong : (k : ErrorKind) (name : Text) (text : Option Text) → is_wrong k ≡ true → is_wrong (name_kind (Some k) name text) ≡ true
 name_wrong k name (Some v) bad = attached_wrong (Some k) name v
-name_wrong k name None bad = go (bytes_eq (codes "help") name) (bytes_eq (codes "version") name)
-  where
-    go : (a b : Bool) → is_wrong (cond a k (cond b k kind.UnknownArgument)) ≡ true
-    go true b = bad
-    go false true = bad
-    go false false = refl
+name_wrong k name None bad = still_wrong k bad (bytes_eq (codes "help") name) (bytes_eq (codes "version") name)
 
 -- the walk ends with this kind, as the words ask
 abbrev Stops : Kinds → Progress → Type 0
 Stops kinds (ends what) = (k : ErrorKind) × (kinds ≡ k ∷ []) × IsKindOf k what
 Stops kinds _ = ⊥
 
+request_stops : (kinds : Kinds) (a b : Bool) → kinds ≡ cond a kind.DisplayHelp (cond b kind.DisplayVersion kind.UnknownArgument) ∷ []
+    → Stops kinds (cond a (ends help) (cond b (ends version) (ends wrong)))
+request_stops kinds true b e = (kind.DisplayHelp, e, refl)
+request_stops kinds false true e = (kind.DisplayVersion, e, refl)
+request_stops kinds false false e = (kind.UnknownArgument, e, refl)
+
 letter_stops : (kinds : Kinds) (x : ℕ) → kinds ≡ letter_kind None x ∷ [] → Stops kinds (requested_by x)
-letter_stops kinds x = go (104 == x) (86 == x)
-  where
-    go : (a b : Bool) → kinds ≡ cond a kind.DisplayHelp (cond b kind.DisplayVersion kind.UnknownArgument) ∷ []
-        → Stops kinds (cond a (ends help) (cond b (ends version) (ends wrong)))
-    go true b e = (kind.DisplayHelp, e, refl)
-    go false true e = (kind.DisplayVersion, e, refl)
-    go false false e = (kind.UnknownArgument, e, refl)
+letter_stops kinds x = request_stops kinds (104 == x) (86 == x)
 
 name_stops : (kinds : Kinds) (name : Text) → kinds ≡ name_kind None name None ∷ [] → Stops kinds (requested name)
-name_stops kinds name = go (bytes_eq (codes "help") name) (bytes_eq (codes "version") name)
-  where
-    go : (a b : Bool) → kinds ≡ cond a kind.DisplayHelp (cond b kind.DisplayVersion kind.UnknownArgument) ∷ []
-        → Stops kinds (cond a (ends help) (cond b (ends version) (ends wrong)))
-    go true b e = (kind.DisplayHelp, e, refl)
-    go false true e = (kind.DisplayVersion, e, refl)
-    go false false e = (kind.UnknownArgument, e, refl)
+name_stops kinds name = request_stops kinds (bytes_eq (codes "help") name) (bytes_eq (codes "version") name)
 
 -- what a use comes to: its kinds and its rows, and how far the words then are
 abbrev Comes : Uses → Kinds → List Row → Progress → Type 0

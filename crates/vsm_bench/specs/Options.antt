@@ -1,5 +1,6 @@
 -- The command line as clap is told of it, and what clap reads.
-use Rattle.std.specs.Prelude.{◌≡◌, ◌⊎◌, ℕ, Bool, true, false, List, [], ◌∷◌, map, codes, Option, Some, None, Result, Ok, Err}
+use Rattle.std.specs.Prelude.{◌≡◌, ◌⊎◌, ℕ, Bool, true, false, List, [], ◌∷◌, map, codes, Option, Some, None, Result}
+use Rattle.std.specs.Prelude.{Ok, Err}
 use Rattle.clap.specs.Words.{App, Row, Text, new_app, new_rule, with_rule, first_of, rows_of, found_of}
 use Rattle.clap.specs.Words.{kind_of, reading_of}
 use Rattle.clap.specs.declared.error.ErrorKind.{ErrorKind}
