@@ -39,6 +39,22 @@ returns-in-None-clause-runs g c = λ few.
     rows (Some c.in-Some.settings) None c.in-Some.ensures c.in-None.ensures c.run_script.ensures)
     (map_few string_bytes c.args.words.now few)
 
+pub returns-in_default-clause-does : goal.returns-in_default-clause-does
+returns-in_default-clause-does g c =
+    let read = c.in-Ok.ensures in
+    let rows = rows_of (found_of c.in-Ok.matches) in
+    does_obey (g.R.ScriptFiles.opened c.args.rt.now) g.R.Script.Read.remaining g.I.Read.remaining g.O.Write.contents g.E.Messages.said c.args.input.now c.args.input.now c.args.output.now c.args.output.now c.args.errors.now c.report_fault.new.errors c.args.at_terminal c.report_fault.result (map string_bytes c.args.words.now) rows read
+    (subst (λ s. Obeys (g.R.ScriptFiles.opened c.args.rt.now) g.R.Script.Read.remaining g.I.Read.remaining g.O.Write.contents g.E.Messages.said c.args.input.now c.args.input.now c.args.output.now c.args.output.now c.args.errors.now c.report_fault.new.errors c.args.at_terminal c.report_fault.result s (file_asked rows))
+    c.in_default.ensures (refl, (refl, c.report_fault.ensures.status, c.report_fault.ensures.says)))
+
+pub returns-in-None-clause-does : goal.returns-in-None-clause-does
+returns-in-None-clause-does g c =
+    let read = c.in-Ok.ensures in
+    let rows = rows_of (found_of c.in-Ok.matches) in
+    does_obey (g.R.ScriptFiles.opened c.args.rt.now) g.R.Script.Read.remaining g.I.Read.remaining g.O.Write.contents g.E.Messages.said c.args.input.now c.run_script.new.input c.args.output.now c.run_script.new.output c.args.errors.now c.run_script.new.errors c.args.at_terminal c.run_script.result (map string_bytes c.args.words.now) rows read
+    (obeys_by (g.R.ScriptFiles.opened c.args.rt.now) g.R.Script.Read.remaining g.I.Read.remaining g.O.Write.contents g.E.Messages.said c.args.input.now c.run_script.new.input c.args.output.now c.run_script.new.output c.args.errors.now c.run_script.new.errors c.args.at_terminal c.run_script.result
+    rows (Some c.in-Some.settings) None c.in-Some.ensures c.in-None.ensures c.run_script.ensures)
+
 pub returns-clause-runs : goal.returns-clause-runs
 returns-clause-runs g c = λ few.
     let read = c.in-Ok.ensures in
