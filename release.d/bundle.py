@@ -61,6 +61,14 @@ find "$DPKG_ROOT/usr/share/nilbozad" -name __pycache__ -prune -exec rm -rf {} + 
 """
 
 
+OVERRIDES = """\
+# The library goes along with the programs, in one package, which is for one architecture.
+nilbozad: package-name-doesnt-match-sonames
+nilbozad: link-to-shared-library-in-wrong-package
+nilbozad: pkg-config-unavailable-for-cross-compilation
+"""
+
+
 @dataclass(frozen=True)
 class Release:
     top: Path
@@ -306,6 +314,7 @@ def package(release: Release, root: Path, file: Path) -> None:
     doc = root / "usr/share/doc/nilbozad"
     (doc / "CHANGELOG.md").unlink()
     put(doc / "changelog.gz", gzip.compress(debian_changes(release).encode(), 9, mtime=0))
+    put(root / "usr/share/lintian/overrides/nilbozad", OVERRIDES)
     found = [it for it in sorted(root.rglob("*")) if it.is_file() and not it.is_symlink()]
     for name in found:
         data = name.read_bytes()
@@ -315,6 +324,8 @@ def package(release: Release, root: Path, file: Path) -> None:
     put(root / "DEBIAN" / "control", control(release, root))
     put(root / "DEBIAN" / "md5sums", sums)
     put(root / "DEBIAN" / "prerm", BEFORE_REMOVAL, 0o755)
+    put(root / "DEBIAN" / "shlibs", f"libvsm 1 nilbozad (>= {release.version})\n")
+    put(root / "DEBIAN" / "triggers", "activate-noawait ldconfig\n")
     settle(root, release.commit.seconds)
     environment = {**os.environ, "SOURCE_DATE_EPOCH": str(release.commit.seconds)}
     words = ["dpkg-deb", "--root-owner-group", "-Zxz", "--build", str(root), str(file)]

@@ -1,4 +1,4 @@
-/* Runs scripts on benches, and prints what each is answered. Usage: scripts pieces|growths [MOST] <SCRIPTS
+/* Runs scripts on benches, and prints what each is answered. Usage: scripts pieces | growths MOST, with the scripts as input
    A script is a line 'LOW HIGH RESIDENCE HISTORY SEED LENGTH' and that many bytes; its output is a line of numbers, the code,
    the status and the length first, and that many bytes.
    pieces: asked statement by statement where that can be, and else written in pieces that end anywhere; by seed 0 line by line.
@@ -204,7 +204,7 @@ int main(int count, char **words) {
     told.length = 0;
     number = 0;
     code = of_growths ? by_lines(&settings, &script, &told, &status) : in_pieces(&settings, &script, &told, &status);
-    if (of_growths) each_growth(&settings, &script, &told, status, count > 2 ? atol(words[2]) : number, counts);
+    if (of_growths) each_growth(&settings, &script, &told, status, count > 2 ? atol(words[2]) : 100, counts);
     printf("%d %d %zu", code, status, told.length);
     if (of_growths) for (int i = 0; i < 7; i++) printf(" %ld", counts[i]);
     printf(of_growths ? " %zu\n" : "\n", depth / 1024);
