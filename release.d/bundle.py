@@ -288,7 +288,8 @@ def read_me(release: Release, libc: str) -> str:
     PYTHONPATH=lib/python3/dist-packages python3 -c 'from vsmtools import bench; help(bench.Session)'
 
 Copied to /usr/local, bin/, include/, lib/ and share/ are found by the shell, by cc, by pkg-config (vsm), by man and by
-completions; ldconfig then makes the shared library known. vsm, vsm-explain and the library need x86-64 Linux and glibc {libc} or newer; the other programs of bin/ need Python 3.11.
+completions; ldconfig then makes the shared library known. vsm, vsm-explain and the library need x86-64 Linux and glibc
+{libc} or newer; the other programs of bin/ need Python 3.11.
 PROVED says what was proved, CHANGELOG.md what has changed.
 """
 
@@ -346,7 +347,8 @@ def what_was_built(release: Release, root: Path) -> list[str]:
         f"Program    {name} as it was built, SHA-256 {facts.sha256(built(release.top, name))}",
         f"           bin/{name}, the same without its symbols, {facts.sha256(root / 'bin' / name)}")]
     return [*programs,
-            f"Library    {ARCHIVE}, vsm's object file under other outer names, and its calls, SHA-256 {facts.sha256(root / ARCHIVE)}",
+            f"Library    {ARCHIVE}, vsm's object file under other outer names, and its calls, SHA-256 "
+            f"{facts.sha256(root / ARCHIVE)}",
             f"           {SHARED}, these to be loaded, {facts.sha256(root / SHARED)}"]
 
 

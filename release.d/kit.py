@@ -19,7 +19,7 @@ class Fault(Exception):
 
 
 def run(words: list[str | Path], what: str, minutes: int = 10, **how) -> bytes:
-    """Runs a command, and gives its standard output; its last words where it fails."""
+    """Runs a command, and gives its standard output; if it fails, its first line with an error, or its last one."""
     how = {"stdin": subprocess.DEVNULL, "stdout": subprocess.PIPE, "stderr": subprocess.PIPE, **how}
     try:
         done = subprocess.run([str(word) for word in words], timeout=60 * minutes, **how)
@@ -29,7 +29,7 @@ def run(words: list[str | Path], what: str, minutes: int = 10, **how) -> bytes:
         raise Fault(f"{what}: no end within {minutes} minutes") from None
     if done.returncode:
         said = (done.stdout + (done.stderr or b"")).decode(errors="replace").strip().splitlines() or [""]
-        raise Fault(f"{what}: status {done.returncode}: {said[-1]}")
+        raise Fault(f"{what}: status {done.returncode}: {next((it for it in said if 'error' in it), said[-1])}")
     return done.stdout
 
 
@@ -84,7 +84,8 @@ class Kit:
         code = folder / "vsm.o"
         shutil.copytree(TOP / "crates" / "vsm" / "src", folder / "crate" / "src")
         words = self.build_words(toolchain or self.folder / "toolchain", code)
-        said = run(words, "the proved build", MINUTES, cwd=folder / "crate", stderr=subprocess.STDOUT).decode(errors="replace")
+        told = run(words, "the proved build", MINUTES, cwd=folder / "crate", stderr=subprocess.STDOUT)
+        said = told.decode(errors="replace")
         if not re.search(r"(?m)^logic=proved ", said):
             raise Fault(f"the kit's compiler doesn't say that the program is proved: {said.strip().splitlines()[-1:]}")
         if not self.gives_program(code, folder):
@@ -94,7 +95,8 @@ class Kit:
 
 def refuse_unproved() -> None:
     if subprocess.run([TOP / "prove", "--check"], stdin=subprocess.DEVNULL, check=False).returncode:
-        raise Fault(f"{PROGRAM} isn't proved and built from these sources: ./prove does that, in about 45 minutes, or .ci/run")
+        raise Fault(f"{PROGRAM} isn't proved and built from these sources: ./prove does that, in about 45 minutes, or "
+                    ".ci/run")
 
 
 def crates() -> dict[str, list[str]]:

@@ -8,11 +8,12 @@ import zipfile
 from pathlib import Path
 
 # What is installed beside the Python that pip belongs to, in a folder nilbozad but for the two programs.
-PLACES = {"share/nilbozad/": "nilbozad/", "lib/libvsm.so.1": "nilbozad/tools/libvsm.so.1", "share/doc/nilbozad/PROVED": "nilbozad/PROVED",
+PLACES = {"share/nilbozad/": "nilbozad/", "lib/libvsm.so.1": "nilbozad/tools/libvsm.so.1",
+          "share/doc/nilbozad/PROVED": "nilbozad/PROVED",
           "share/doc/nilbozad/copyright": "{info}/licenses/copyright",
           "share/doc/nilbozad/licenses/": "{info}/licenses/licenses/"}
-STARTER = '''"""Nilbozad as pip installs it: each function here is a tool of the folder tools, which also has the package vsmtools
-(nilbozad.pth puts it on Python's path) and the library. bench.html is the bench as a page for a browser."""
+STARTER = '''"""Nilbozad as pip installs it: each function here is a tool of the folder tools, which also has the package
+vsmtools (nilbozad.pth puts it on Python's path) and the library. bench.html is the bench as a page for a browser."""
 import os
 import sys
 

@@ -28,7 +28,8 @@ static void texts(void) {
 static void settings(void) {
   static const uint32_t wrong[][4] = {
       {5, 0, 0, 0}, {6, 0, 0, 0}, {16364, 0, 0, 0}, {UINT32_MAX, 0, 0, 0}, {0, 5, 0, 0}, {0, 1572868, 0, 0},
-      {0, UINT32_MAX, 0, 0}, {0, 0, 1, 0}, {0, 0, 25, 0}, {0, 0, UINT32_MAX, 0}, {0, 0, 0, 65537}, {0, 0, 0, UINT32_MAX}};
+      {0, UINT32_MAX, 0, 0}, {0, 0, 1, 0}, {0, 0, 25, 0}, {0, 0, UINT32_MAX, 0}, {0, 0, 0, 65537},
+      {0, 0, 0, UINT32_MAX}};
   struct {
     vsm_settings known;
     char more[8];
@@ -283,7 +284,8 @@ static void streams(void) {
   fflush(stdout);
   if (!fork()) {
     close(0), close(1), close(2);
-    status = vsm_open(&usual, &bench) != VSM_OK || vsm_ask(bench, " BACK 0", &answer) != VSM_OK || strcmp(answer, "KEPT=0");
+    status = vsm_open(&usual, &bench) != VSM_OK || vsm_ask(bench, " BACK 0", &answer) != VSM_OK ||
+             strcmp(answer, "KEPT=0");
     for (file = 0; file < 3; file++) open += fcntl(file, F_GETFD) >= 0;
     vsm_close(&bench);
     _exit(status || open);

@@ -1,11 +1,13 @@
-/* Runs scripts on benches, and prints what each is answered. Usage: scripts pieces | growths MOST, with the scripts as input
-   A script is a line 'LOW HIGH RESIDENCE HISTORY SEED LENGTH' and that many bytes; its output is a line of numbers, the code,
-   the status and the length first, and that many bytes.
-   pieces: asked statement by statement where that can be, and else written in pieces that end anywhere; by seed 0 line by line.
-   growths: line by line, and again and again with another growth refused each time: each one, or of more than MOST so many, at
-   equal distances. The line goes on with how many growths there are and how many were refused, how often no bench was opened, an
-   answer was REFUSED MEMORY, an answer had no memory, all was as before, and anything was wrong; then the deepest stack in KiB.
-   vsm.c is included, with its growths counted. */
+/* Runs scripts on benches, and prints what each is answered. Usage: scripts pieces | growths MOST, with the scripts
+   as input
+   A script is a line 'LOW HIGH RESIDENCE HISTORY SEED LENGTH' and that many bytes; its output is a line of numbers, the
+   code, the status and the length first, and that many bytes.
+   pieces: asked statement by statement where that can be, and else written in pieces that end anywhere; by seed 0 line
+   by line.
+   growths: line by line, and again and again with another growth refused each time: each one, or of more than MOST so
+   many, at equal distances. The line goes on with how many growths there are and how many were refused, how often no
+   bench was opened, an answer was REFUSED MEMORY, an answer had no memory, all was as before, and anything was wrong;
+   then the deepest stack in KiB. vsm.c is included, with its growths counted. */
 #define _GNU_SOURCE
 #include <stdlib.h>
 #include <sys/mman.h>
@@ -71,7 +73,8 @@ static int drain(vsm *bench, struct text *told, uint32_t most) {
   return code;
 }
 
-/* Puts the answer to lines that were asked, under the number of the statement's first line: lines before it have none. */
+/* Puts the answer to lines that were asked, under the number of the statement's first line: lines before it have
+   none. */
 static void put_answer(struct text *told, uint32_t line, const char *from, const char *answer) {
   char start[16];
   for (struct place place = {0}; take_text(&place, from, 1), !place.begun; from++) line += *from == '\n';
@@ -155,8 +158,8 @@ static int is_front(const struct text *told, const struct text *right, const cha
   return told->length - i >= 8 + strlen(answer) && !strncmp(told->at + i + 8, answer, strlen(answer));
 }
 
-static void each_growth(const vsm_settings *settings, const struct text *script, const struct text *right, int right_status,
-                        long most, long counts[7]) {
+static void each_growth(const vsm_settings *settings, const struct text *script, const struct text *right,
+                        int right_status, long most, long counts[7]) {
   struct text told = {NULL, 0, 0};
   long all = number, step = 1 + (all - 1) / most;
   counts[0] = all;

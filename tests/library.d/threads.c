@@ -1,4 +1,5 @@
-/* Threads with benches of their own, one that forks meanwhile, and benches that go from thread to thread and to a child.
+/* Threads with benches of their own, one that forks meanwhile, and benches that go from thread to thread and to a
+   child.
    Usage: threads THREADS BENCHES STATEMENTS */
 #define _GNU_SOURCE
 #include "check.h"

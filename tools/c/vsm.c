@@ -1,7 +1,7 @@
-/* The bench in the process: each bench is the main of the proved program, on a stack of its own. The build gives the outer
-   calls of the program's object file the names vsm_host_.. below; it has no writable data, so benches share nothing. If
-   the program reads and nothing is left, it has written all its answers: then the call returns, and the next one goes on
-   from there. */
+/* The bench in the process: each bench is the main of the proved program, on a stack of its own. The build gives the
+   outer calls of the program's object file the names vsm_host_.. below; it has no writable data, so benches share
+   nothing. If the program reads and nothing is left, it has written all its answers: then the call returns, and the
+   next one goes on from there. */
 #define _GNU_SOURCE
 #include "vsm.h"
 
@@ -120,8 +120,8 @@ uint64_t vsm_host_arg(uint64_t index, char *to, uint64_t most) {
   return length;
 }
 
-/* Only this function and `run` switch stacks; the thread sanitizer, which counts calls, is to see neither's begin. After a
-   switch the thread may be another one, so `current` isn't looked at again. */
+/* Only this function and `run` switch stacks; the thread sanitizer, which counts calls, is to see neither's begin.
+   After a switch the thread may be another one, so `current` isn't looked at again. */
 #define SWITCHES __attribute__((noinline, no_sanitize_thread))
 
 SWITCHES int64_t vsm_host_read(int file, char *to, uint64_t most) {
@@ -237,7 +237,8 @@ static void put_words(vsm *bench, const vsm_settings *settings) {
 
 /* Runs the program up to its first read. */
 static int start(vsm *bench) {
-  char *stack = mmap(NULL, STACK, PROT_READ | PROT_WRITE, MAP_PRIVATE | MAP_ANONYMOUS | MAP_NORESERVE | MAP_STACK, -1, 0);
+  int flags = MAP_PRIVATE | MAP_ANONYMOUS | MAP_NORESERVE | MAP_STACK;
+  char *stack = mmap(NULL, STACK, PROT_READ | PROT_WRITE, flags, -1, 0);
   if (stack == MAP_FAILED) return VSM_NO_MEMORY;
   bench->stack = stack;
   if (mprotect(stack, GUARD, PROT_NONE) || getcontext(&bench->program)) return bench->is_over = 1, VSM_NO_MEMORY;

@@ -13,8 +13,8 @@
    brings along, of which memory is taken only for what is used.
    Fork: the child has a copy of each bench, and both go on by themselves. A bench on which another thread was within a
    call is of no use in the child.
-   Signals: none is caught, blocked or raised, and the caller's mask holds during a call. A handler must make no call, and
-   must not leave one by longjmp.
+   Signals: none is caught, blocked or raised, and the caller's mask holds during a call. A handler must make no call,
+   and must not leave one by longjmp.
    A bench that is closed must not be used by a copy of its handle: that is undefined. */
 #ifndef VSM_H
 #define VSM_H
@@ -68,21 +68,22 @@ typedef struct vsm_settings {
 /* Opens a bench with these settings, or for NULL with the defaults. With any code except VSM_OK *bench is NULL. */
 int vsm_open(const vsm_settings *settings, vsm **bench);
 
-/* Asks one statement of one or more lines, whose last line feed may be missing, and gives its whole answer without the
-   number of its line and without the last line feed: "RC=0 A=00006000 L=00000010", or the many lines of a MAP. The text is
-   valid until the next call on this bench. */
+/* Asks one statement of one or more lines, whose last line feed may be missing, and gives its whole answer without
+   the number of its line and without the last line feed: "RC=0 A=00006000 L=00000010", or the many lines of a MAP.
+   The text is valid until the next call on this bench. */
 int vsm_ask(vsm *bench, const char *statement, const char **answer);
 
-/* Writes bytes of the script: any number of lines, or parts of lines. Each statement is answered as soon as the line feed
-   of its last line is written. For no bytes `text` may be NULL. */
+/* Writes bytes of the script: any number of lines, or parts of lines. Each statement is answered as soon as the line
+   feed of its last line is written. For no bytes `text` may be NULL. */
 int vsm_write(vsm *bench, const char *text, size_t length);
 
-/* Gives answers that have not been read, as the program prints them: as many bytes as fit, and their number, which is 0 if
-   all have been read. With NULL and 0 it gives the number of bytes that are left. What vsm_ask gave isn't given again. */
+/* Gives answers that have not been read, as the program prints them: as many bytes as fit, and their number, which is
+   0 if all have been read. With NULL and 0 it gives the number of bytes that are left. What vsm_ask gave isn't given
+   again. */
 int vsm_read(vsm *bench, char *room, size_t size, size_t *length);
 
-/* Ends the script: a last line without a line feed and an open statement are answered. The status is the program's: 0, or 4
-   if an answer was FAULT, REFUSED or ABEND. Answers can still be read. */
+/* Ends the script: a last line without a line feed and an open statement are answered. The status is the program's:
+   0, or 4 if an answer was FAULT, REFUSED or ABEND. Answers can still be read. */
 int vsm_end(vsm *bench, int *status);
 
 /* The number of whole lines that were written, which after vsm_ask of one line is that line's number. */

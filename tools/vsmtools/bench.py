@@ -260,8 +260,8 @@ class Partner:
 def in_library(options: Sequence[str]) -> Optional[library.Bench]:
     """A bench of the library; None if no library is found, or if these are options that vsm itself has to judge."""
     path, numbers = library.find(), dict(zip(options[::2], options[1::2]))
-    is_plain = set(numbers) <= set(BENCH_OPTIONS) and all(re.fullmatch("[1-9][0-9]{0,8}", it) for it in numbers.values())
-    if not path or not is_plain or len(options) != 2 * len(numbers):
+    if not path or len(options) != 2 * len(numbers) or not set(numbers) <= set(BENCH_OPTIONS) \
+            or not all(re.fullmatch("[1-9][0-9]{0,8}", it) for it in numbers.values()):
         return None
     try:
         return library.Bench(path=path, **{name[2:]: int(number) for name, number in numbers.items()})
@@ -272,8 +272,8 @@ def in_library(options: Sequence[str]) -> Optional[library.Bench]:
 
 
 class Session:
-    """A bench that answers statement by statement: the library's if no program is named and one is found, else a program
-    over pipes. Threads that share it wait for each other."""
+    """A bench that answers statement by statement: the library's if no program is named and one is found, else a
+    program over pipes. Threads that share it wait for each other."""
 
     def __init__(self, program: Optional[str] = None, options: Sequence[str] = (), seconds: float = SECONDS) -> None:
         self._lock = threading.Lock()

@@ -39,7 +39,8 @@ class BenchError(Fault):
 
 
 class Settings(Structure):
-    _fields_ = [("size", c_size_t), ("low", c_uint32), ("high", c_uint32), ("residence", c_uint32), ("history", c_uint32)]
+    _fields_ = [("size", c_size_t), ("low", c_uint32), ("high", c_uint32), ("residence", c_uint32),
+                ("history", c_uint32)]
 
 
 CALLS = {"vsm_open": [POINTER(Settings), POINTER(c_void_p)], "vsm_ask": [c_void_p, c_char_p, POINTER(c_char_p)],
@@ -50,8 +51,8 @@ RESULTS = {"vsm_close": None, "vsm_lines": c_uint32, "vsm_strerror": c_char_p, "
 
 
 def find() -> Optional[str]:
-    """The path of the library: the environment's VSM_LIBRARY, the one beside the tools, the one that tools/c/build made,
-    or a release's; its name if the system finds it; else None."""
+    """The path of the library: the environment's VSM_LIBRARY, the one beside the tools, the one that tools/c/build
+    made, or a release's; its name if the system finds it; else None."""
     named = os.environ.get("VSM_LIBRARY")
     if named:
         return named
@@ -87,7 +88,8 @@ class Bench:
 
     A number is as vsm's option has it; 0 stands for its default. Each call that is refused is a BenchError."""
 
-    def __init__(self, low: int = 0, high: int = 0, residence: int = 0, history: int = 0, path: Optional[str] = None) -> None:
+    def __init__(self, low: int = 0, high: int = 0, residence: int = 0, history: int = 0,
+                 path: Optional[str] = None) -> None:
         self._bench, self._lock = c_void_p(None), threading.Lock()
         path = path or find()
         if not path:
@@ -111,8 +113,8 @@ class Bench:
         return self._library.vsm_lines(self._bench)
 
     def ask(self, statement: Union[str, bytes]) -> Answer:
-        """Asks one statement of one or more lines, whose last line feed may be missing. Before it no comments, since the
-        answer has the number of the first of these lines."""
+        """Asks one statement of one or more lines, whose last line feed may be missing. Before it no comments, since
+        the answer has the number of the first of these lines."""
         data, answer = data_of(statement), c_char_p()
         with self._lock:
             first = self.lines + 1
