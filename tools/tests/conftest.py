@@ -4,6 +4,8 @@ from __future__ import annotations
 import os
 import subprocess
 import sys
+from importlib.machinery import SourceFileLoader
+from importlib.util import module_from_spec, spec_from_loader
 from pathlib import Path
 from typing import Any, Callable
 
@@ -19,6 +21,7 @@ Done = subprocess.CompletedProcess
 
 def pytest_addoption(parser: pytest.Parser) -> None:
     parser.addoption("--vsm", help="the program vsm (default: the built one of this repository)")
+    parser.addoption("--damaged", type=int, default=60, metavar="N", help="damaged files for each tool")
 
 
 @pytest.fixture(scope="session")
@@ -39,6 +42,14 @@ def run() -> Callable[..., Done]:
             more["stdout"] = subprocess.PIPE
         return subprocess.run(command, input=given, stderr=subprocess.PIPE, timeout=SECONDS, **more)
     return call
+
+
+def loaded(path: Path) -> Any:
+    """A program as a module."""
+    loader = SourceFileLoader(path.name.replace("-", "_"), str(path))
+    module = sys.modules[loader.name] = module_from_spec(spec_from_loader(loader.name, loader))  # type: ignore
+    loader.exec_module(module)
+    return module
 
 
 def one_line(done: Done, tool: str) -> str:

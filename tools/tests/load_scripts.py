@@ -1,21 +1,12 @@
-#!/usr/bin/env python3
-"""Generated scripts whose maps vsm-load has to bring back.
-
-Usage: tools/tests/load_scripts.py PROGRAM KIND FIRST LAST     tries the seeds from FIRST up to LAST; KIND is one of
-KINDS. It lists each map that doesn't come back, by its number.
-"""
+"""Generated scripts whose maps vsm-load has to bring back, by kind and number."""
 from __future__ import annotations
 
-import os
 import random
-import sys
 from typing import Callable, Optional
 
-sys.dont_write_bytecode = True
-sys.path.insert(0, os.path.dirname(os.path.dirname(os.path.realpath(__file__))))
-from vsmtools import bench, loading, maps  # noqa: E402
-from vsmtools.command import Fault  # noqa: E402
-from vsmtools.judge import MOST_POOLS  # noqa: E402
+from vsmtools import bench, loading, maps
+from vsmtools.command import Fault
+from vsmtools.judge import MOST_POOLS
 
 WIDE = ["--low", "640", "--high", "256", "--history", "16"]
 SMALL = ["--low", "16", "--high", "8", "--history", "16"]
@@ -207,20 +198,3 @@ def map_of(program: str, kind: str, seed: int) -> list[str]:
     """The map after a generated script."""
     write, options = KINDS[kind]
     return list(bench.run(program, options, (write(seed) + " MAP\n").encode()).answers[-1].rest)
-
-
-def main(words: list[str]) -> int:
-    """Tries generated scripts from one seed up to another, and lists which maps don't come back."""
-    program, kind, first, last = words[0], words[1], int(words[2]), int(words[3])
-    count = 0
-    for seed in range(first, last):
-        wrong = told(program, KINDS[kind][1], map_of(program, kind, seed))
-        if wrong is not None:
-            count += 1
-            print("%s %d: %s" % (kind, seed, wrong), flush=True)
-    print("%d of %d maps of kind %s don't come back" % (count, last - first, kind))
-    return int(count > 0)
-
-
-if __name__ == "__main__":
-    sys.exit(main(sys.argv[1:]))

@@ -1,8 +1,6 @@
 """vsm-load: maps there and back, maps that are wrong, maps for which it finds no script, and what is no map."""
 from __future__ import annotations
 
-import importlib.machinery
-import importlib.util
 import random
 import re
 import time
@@ -11,7 +9,7 @@ from typing import Callable, Iterable
 
 import pytest
 import stored
-from conftest import TOP, one_line
+from conftest import TOP, loaded, one_line
 from load_scripts import KINDS, map_of, told
 
 from vsmtools import bench, maps
@@ -50,8 +48,7 @@ def test_maps_of_rows_examples_and_conformance_come_back(vsm: str) -> None:
     assert made > 110
 
 
-@pytest.mark.parametrize("name, line",
-                         [("storage-map", 5), ("storage-map", 7), ("cell-pools", 31), ("first-steps", 8)])
+@pytest.mark.parametrize("name, line", [("storage-map", 5), ("storage-map", 7), ("cell-pools", 31), ("first-steps", 8)])
 def test_maps_of_examples_by_the_tool(run: Callable, vsm: str, name: str, line: int) -> None:
     done = bench.run(vsm, [], (TOP / "examples" / (name + ".vsm")).read_bytes())
     loaded = run(TOOL, "--vsm", vsm, "--map", line, given=done.output)
@@ -60,18 +57,8 @@ def test_maps_of_examples_by_the_tool(run: Callable, vsm: str, name: str, line: 
     assert storage_of(map_behind(vsm, [], loaded.stdout.decode())) == storage_of(wanted[:-1])
 
 
-def walks():
-    """The generated scripts of tests/walks."""
-    loader = importlib.machinery.SourceFileLoader("walks", str(TOP / "tests" / "walks"))
-    spec = importlib.util.spec_from_loader("walks", loader)
-    assert spec
-    module = importlib.util.module_from_spec(spec)
-    loader.exec_module(module)
-    return module
-
-
 def test_maps_of_walks_come_back(vsm: str) -> None:
-    module, made = walks(), 0
+    module, made = loaded(TOP / "tests" / "walks"), 0
     for seed in range(SEEDS):
         script: list[str] = []
         for number, statement in enumerate(module.statements(random.Random(seed)), 1):
@@ -291,16 +278,3 @@ def test_maps_of_the_example_that_are_wrong(run: Callable, vsm: str, old: str, n
     text = one_line(done, TOOL)
     assert done.returncode == 8 and done.stdout == b"" and told in text
     assert text.startswith("standard input:%d:" % line), text
-
-
-def test_changed_maps_come_back_or_are_refused(vsm: str) -> None:
-    """A map with a digit changed is refused in one line, or is one that its script makes."""
-    chance = random.Random(5)
-    for text in (CELLS.split("0000011 MAP\n")[1].split("0000012")[0], LAST):
-        for _ in range(150):
-            lines = text.splitlines()
-            k = chance.choice([k for k, line in enumerate(lines) if not line.startswith(("  R", " PAGES", " HISTORY"))])
-            at = chance.choice([at for at, char in enumerate(lines[k]) if char.isdigit()])
-            lines[k] = lines[k][:at] + chance.choice("0123456789") + lines[k][at + 1:]
-            wrong = told(vsm, [], lines)
-            assert wrong is None or re.match(r"(the )?map:\d+(:1)?: ", wrong), wrong

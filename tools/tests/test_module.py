@@ -2,20 +2,14 @@
 from __future__ import annotations
 
 import subprocess
-import sys
-from importlib.machinery import SourceFileLoader
-from importlib.util import module_from_spec, spec_from_loader
 from pathlib import Path
 from types import SimpleNamespace
 
-from conftest import TOP
+from conftest import TOP, loaded
 
 
 def test_the_clang_that_keeps_files_works_in_a_folder_with_a_blank(tmp_path: Path) -> None:
-    loader = SourceFileLoader("page_module", str(TOP / "page" / "module"))
-    module = module_from_spec(spec_from_loader(loader.name, loader))  # type: ignore[arg-type]
-    sys.modules[loader.name] = module
-    loader.exec_module(module)
+    module = loaded(TOP / "page" / "module")
     room = tmp_path / "a folder's blank, ü"
     kept, clang, source = room / "kept", room / "toolchain" / "bin" / "clang", room / "a module"
     for folder in (kept, clang.parent):

@@ -1,7 +1,6 @@
 """vsm-paste: sources to scripts, line by line, and what is told of them."""
 from __future__ import annotations
 
-import random
 import re
 import time
 from pathlib import Path
@@ -127,8 +126,7 @@ def test_a_fragment_without_what_it_lacks(run: Callable, vsm: str) -> None:
 def test_what_is_worked_out(run: Callable, vsm: str, source: str, expected: str) -> None:
     script, _, status = paste(run, source + "\n")
     assert status == 0 and " ".join(script[-1].split("  ")[0].split()) == expected, script
-    assert not any(answer.is_refused
-                   for answer in bench.run(vsm, [], "\n".join(script + [""]).encode()).answers)
+    assert not any(answer.is_refused for answer in bench.run(vsm, [], "\n".join(script + [""]).encode()).answers)
 
 
 @pytest.mark.parametrize("source, line, why", [
@@ -367,8 +365,7 @@ def test_a_remark_that_reaches_column_72(run: Callable) -> None:
     script, notes, status = paste(run, source + "\n GETMAIN R,LV=16\n GETMAIN R,LV=24\n")
     assert status == 4 and [line for line in script if not line.startswith("*")] == [" GETMAIN R,LV=8",
                                                                                      " GETMAIN R,LV=24"]
-    assert any(note.startswith("standard input:1:72: a character in column 72 says that line 2")
-               for note in notes)
+    assert any(note.startswith("standard input:1:72: a character in column 72 says that line 2") for note in notes)
 
 
 SOURCE = " LA 0,8\n GETMAIN R,LV=(0)\n* remark\n"
@@ -403,32 +400,6 @@ def test_characters_that_vsm_counts_as_several(run: Callable, vsm: str) -> None:
         done = run(TOOL, given=data)
         assert done.returncode == 0 and done.stdout.isascii()
         assert bench.run(vsm, [], done.stdout).answers[0].line == 2
-
-
-def changed(chance: random.Random, lines: list[str]) -> list[str]:
-    """The lines with some characters, lines and columns 72 changed."""
-    lines = list(lines)
-    for _ in range(chance.randrange(1, 10)):
-        at = chance.randrange(len(lines))
-        column = chance.randrange(len(lines[at]) + 1)
-        lines[at] = chance.choice((
-            lines[at][:column], lines[at].ljust(71) + "X", lines[at][:column] + chance.choice(lines)[column:],
-            lines[at][:column] + chance.choice("'(),= *+-/R09LX&.") + lines[at][column + chance.randrange(2):]))[:72]
-    return [line.rstrip() for line in lines]
-
-
-def test_changed_sources_keep_their_lines(vsm: str) -> None:
-    chance = random.Random(3)
-    sources = [[line[:72] for line in path.read_text().splitlines()]
-               for path in sorted(SOURCES.glob("*.asm"))]
-    for _ in range(300):
-        lines = changed(chance, chance.choice(sources))
-        it = Paste(lines, {}, {})
-        script = it.paste()
-        assert len(script) == len(lines) and all(len(line) <= 72 for line in script)
-        if chance.randrange(5) == 0:
-            done = bench.run(vsm, [], "".join(line + "\n" for line in script).encode())
-            assert [answer.line - 1 for answer in done.answers] == sorted(it.written)
 
 
 LONG = {

@@ -155,8 +155,7 @@ def test_a_map_that_is_none_names_its_line() -> None:
     for at in range(len(whole)):
         with pytest.raises(Fault) as fault:
             maps.parse_map(whole[:at], "m", 7)
-        assert "cut short" in str(fault.value) and str(fault.value).startswith("m:%d:1: "
-                                                                               % (7 + at - (at > 0)))
+        assert "cut short" in str(fault.value) and str(fault.value).startswith("m:%d:1: " % (7 + at - (at > 0)))
         with pytest.raises(Fault) as fault:
             maps.parse_map(whole[:at] + ["what"] + whole[at:], "m", 7)
         assert str(fault.value).startswith("m:%d:1: no line of a map" % (7 + at))
@@ -182,8 +181,7 @@ def test_a_session_answers_as_a_run_does(vsm: str) -> None:
     with bench.Session(vsm) as session:
         got = [session.say([line.decode() for line in script[it.first - 1:it.last]]) for it in asked]
     expected = bench.run(vsm, [], path.read_bytes()).answers[:len(asked)]
-    assert [(answer.text, answer.rest) for answer in got] == [(answer.text, answer.rest)
-                                                              for answer in expected]
+    assert [(answer.text, answer.rest) for answer in got] == [(answer.text, answer.rest) for answer in expected]
     assert len(asked) > 10
 
 

@@ -58,9 +58,7 @@ def program(tmp_path: Path) -> Path:
 
 
 def view(*words: object, given: bytes = b"") -> subprocess.CompletedProcess[bytes]:
-    return subprocess.run(
-        [sys.executable, str(TOOL), *map(str, words)], input=given, capture_output=True, timeout=120
-    )
+    return subprocess.run([sys.executable, str(TOOL), *map(str, words)], input=given, capture_output=True, timeout=120)
 
 
 def data_of(page: bytes) -> dict[str, object]:
@@ -91,13 +89,8 @@ def fault(program: Path, *words: object, given: bytes = b"") -> tuple[int, str]:
 
 def test_maps_stand_round_each_statement(program: Path) -> None:
     data = made(program, b"* a comment\n A\n\n B\n")
-    assert output_of(data) == [
-        "0000002 MAP",
-        "0000003 FAULT OPERATION",
-        "0000005 MAP",
-        "0000006 FAULT OPERATION",
-        "0000007 MAP",
-    ]
+    assert output_of(data) == ["0000002 MAP", "0000003 FAULT OPERATION", "0000005 MAP", "0000006 FAULT OPERATION",
+                               "0000007 MAP"]
     assert (data["name"], data["options"], data["skipped"]) == ("script.vsm", [], 0)
 
 
@@ -113,24 +106,13 @@ def test_a_map_of_the_script_is_a_statement(program: Path) -> None:
 def test_a_script_may_end_within_a_statement(program: Path) -> None:
     for script in (b" A\n within", b" A\n within\n"):
         assert [line[8:] for line in output_of(made(program, script))] == [
-            "MAP",
-            "FAULT OPERATION",
-            "MAP",
-            "FAULT CONTINUATION",
-        ]
+            "MAP", "FAULT OPERATION", "MAP", "FAULT CONTINUATION"]
 
 
 def test_a_part(program: Path) -> None:
     data = made(program, b" A\n B\n C\n D\n", "--first", 2, "--last", 3)
     assert data["skipped"] == 1
-    assert [line[8:] for line in output_of(data)] == [
-        "FAULT OPERATION",
-        "MAP",
-        "FAULT OPERATION",
-        "MAP",
-        "FAULT OPERATION",
-        "MAP",
-    ]
+    assert [line[8:] for line in output_of(data)] == ["FAULT OPERATION", "MAP"] * 3
     assert data["script"] == " A\n B\n C\n D"
 
 
@@ -161,23 +143,13 @@ def test_standard_input(program: Path) -> None:
 
 def test_files_that_cannot_be_read(program: Path, tmp_path: Path) -> None:
     assert fault(program, tmp_path / "nowhere") == (
-        8,
-        f"vsm-view: {tmp_path}/nowhere: can't be read: No such file or directory",
-    )
+        8, f"vsm-view: {tmp_path}/nowhere: can't be read: No such file or directory")
     assert fault(program, tmp_path) == (8, f"vsm-view: {tmp_path}: can't be read: Is a directory")
 
 
 def test_words(program: Path) -> None:
-    for words in (
-        (),
-        ("--first", "0", "a"),
-        ("--first", "x", "a"),
-        ("--last", "1048577", "a"),
-        ("--first", "4", "--last", "3", "a"),
-        ("--other", "a"),
-        ("a", "b"),
-        ("--first",),
-    ):
+    for words in ((), ("--first", "0", "a"), ("--first", "x", "a"), ("--last", "1048577", "a"),
+                  ("--first", "4", "--last", "3", "a"), ("--other", "a"), ("a", "b"), ("--first",)):
         assert fault(program, *words)[0] == 16, words
 
 
@@ -189,12 +161,8 @@ def test_help() -> None:
 def test_programs_that_are_not_vsm(tmp_path: Path, program: Path) -> None:
     script = tmp_path / "a.vsm"
     script.write_bytes(b" A\n")
-    texts = {
-        "nothing": "",
-        "noise": "print('hello')",
-        "failing": "import sys; sys.exit('no')",
-        "killed": "import os; os.kill(os.getpid(), 9)",
-    }
+    texts = {"nothing": "", "noise": "print('hello')", "failing": "import sys; sys.exit('no')",
+             "killed": "import os; os.kill(os.getpid(), 9)"}
     for name, text in texts.items():
         other = tmp_path / name
         other.write_text(f"#!{sys.executable}\n{text}\n")
@@ -237,16 +205,7 @@ def told_texts() -> list[str]:
 def test_messages_of_the_document() -> None:
     rows = build.messages(build.MESSAGES.read_text(encoding="utf-8"))
     texts = told_texts()
-    for text in (
-        "RC=4",
-        "ABEND SB78",
-        "ABEND SB05",
-        "ABEND S878",
-        "REFUSED MEMORY",
-        "FAULT LEFTOUT",
-        "KEPT=5",
-        "MAP",
-    ):
+    for text in ("RC=4", "ABEND SB78", "ABEND SB05", "ABEND S878", "REFUSED MEMORY", "FAULT LEFTOUT", "KEPT=5", "MAP"):
         assert text in texts, text
     assert all(row["meaning"] and "`" not in str(row) and "](" not in str(row) for row in rows)
 

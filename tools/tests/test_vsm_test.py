@@ -224,8 +224,7 @@ def test_each_script_of_the_suite_goes_round(suite_scripts: list[expectations.Sc
     for script in whole:
         exercise = expectations.read_script(script.name, expectations.hidden(script))
         wanted = [[line.text for line in it.expected] for it in script.tested]
-        given = [Answer(it.extent.first, text[0], tuple(text[1:]))
-                 for it, text in zip(exercise.tested, wanted)]
+        given = [Answer(it.extent.first, text[0], tuple(text[1:])) for it, text in zip(exercise.tested, wanted)]
         assert expectations.filled_in(exercise, given) == script.data
 
 
@@ -355,8 +354,7 @@ def test_a_program_that_is_missing(tool: Tool, put: Put, tmp_path: Path, text: b
     ("kill -9 $$", "fake was ended by signal 9"),
     ("sleep 61 & sleep 61", "fake didn't end within 1 seconds"),
 ])
-def test_a_program_that_does_wrong(tool: Tool, put: Put, fake: Fake,
-                                   text: str, told: str) -> None:
+def test_a_program_that_does_wrong(tool: Tool, put: Put, fake: Fake, text: str, told: str) -> None:
     put("right.vsm", OBTAIN, RIGHT)
     for words in ([], ["--write"]):
         done = tool("--seconds", 1, *words, "right.vsm", program=fake(text))
@@ -396,18 +394,19 @@ def left_of(command: str) -> list[str]:
 
 def test_nothing_is_left_behind(put: Put, fake: Fake, tmp_path: Path) -> None:
     put("right.vsm", OBTAIN, RIGHT)
-    waiting = fake("sleep 62.5 & sleep 62.5")
+    sleep = "sleep 62.%d" % os.getpid()     # other runs of this trial may be under way
+    waiting = fake("%s & %s" % (sleep, sleep))
     for stop in (None, signal.SIGTERM, signal.SIGINT):
         seconds = "1" if stop is None else "60"
         command = [sys.executable, str(TOOL), "--program", waiting, "--seconds", seconds, "right.vsm"]
         child = subprocess.Popen(command, cwd=tmp_path, stdout=subprocess.DEVNULL, stderr=subprocess.DEVNULL)
         until = time.monotonic() + 20
-        while stop and not left_of("sleep 62.5") and time.monotonic() < until:
+        while stop and not left_of(sleep) and time.monotonic() < until:
             time.sleep(0.05)
         if stop:
             child.send_signal(stop)
         assert child.wait(20) == (130 if stop else 1)
-        assert left_of("sleep 62.5") == []
+        assert left_of(sleep) == []
 
 
 @pytest.mark.parametrize("words", ["right.vsm", "--junit /dev/full right.vsm", "--hide right.vsm", "--help"])

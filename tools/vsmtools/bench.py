@@ -18,7 +18,7 @@ from typing import IO, Optional, Sequence, Union
 from . import library
 from .answers import Answer, answers
 from .command import WORDS, Fault, reason
-from .lines import is_continued, statements
+from .lines import is_continued, statements, text_of
 
 TOOLS = os.path.dirname(os.path.dirname(os.path.realpath(__file__)))
 TOP = os.path.dirname(TOOLS)
@@ -199,13 +199,13 @@ class Partner:
             self.errors.close()
             raise
 
-    def ask(self, statement: str) -> Answer:
+    def ask(self, statement: bytes) -> Answer:
         """Writes the lines of one statement, and waits for its answer."""
         first = self.line + 1
-        self.line += statement.count("\n")
+        self.line += statement.count(b"\n")
         try:
             assert self.child.stdin is not None
-            self.child.stdin.write(statement.encode("utf-8", "surrogateescape"))
+            self.child.stdin.write(statement)
         except (OSError, ValueError):
             raise self.end() from None
         end = time.monotonic() + self.seconds
@@ -290,11 +290,11 @@ class Session:
     def say(self, lines: Sequence[str]) -> Answer:
         """The answer to the lines of one statement."""
         check_is_one(lines)
-        text = "".join(line + "\n" for line in lines)
+        text = text_of(lines)
         with self._lock:
             if self._partner is None:
                 raise Fault("the session is closed")
-            if "\0" in text and isinstance(self._partner, library.Bench):   # it can't be asked as a C string
+            if b"\0" in text and isinstance(self._partner, library.Bench):   # it can't be asked as a C string
                 self._partner.write(text)
                 return answers(self._partner.read())[0]
             return self._partner.ask(text)

@@ -26,6 +26,12 @@ def split_lines(script: bytes) -> list[bytes]:
     return [line[:-1] if line.endswith(b"\r") else line for line in lines] + ([last] if last else [])
 
 
+def text_of(lines: Sequence[str]) -> bytes:
+    """A script of lines, of which split_lines gives these again."""
+    text = "".join(line + ("\r\n" if line.endswith("\r") else "\n") for line in lines)
+    return text.encode("utf-8", "surrogateescape")
+
+
 def is_continued(line: bytes) -> bool:
     """Whether a statement's line says in column 72 that the next one belongs to it."""
     return line[LAST_COLUMN:LAST_COLUMN + 1] not in (b"", b" ")

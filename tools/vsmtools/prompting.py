@@ -11,7 +11,7 @@ from typing import Callable, Optional, Sequence
 
 from .bench import TOOLS, Answer, Session, check_is_one, find_explain, run_anyhow
 from .command import Fault, one_line, read_input, write_file
-from .lines import LAST_COLUMN, fold, is_continued, is_passed_over, statements, unquoted
+from .lines import LAST_COLUMN, fold, is_continued, is_passed_over, split_lines, statements, text_of, unquoted
 from .maps import Map, parse_map
 from .words import FORMS
 
@@ -60,10 +60,6 @@ def operand_text(text: str) -> str:
     if found[2].upper() in ("MAP", "ENDTASK"):   # all behind these is remarks
         return text[:found.end(2)]
     return text[:next((at for at, char in unquoted(text, found.end()) if char == " "), len(text))]
-
-
-def text_of(lines: Sequence[str]) -> bytes:
-    return "".join(line + "\n" for line in lines).encode("utf-8", "surrogateescape")
 
 
 def is_open(text: str) -> bool:
@@ -242,8 +238,7 @@ class Prompt:
 
     def load(self, name: str, data: bytes, stop: Optional[int]) -> None:
         """Carries out the statements of a file that begin before a line, and keeps the others for later."""
-        lines = data.decode("utf-8", "surrogateescape").split("\n")
-        lines = [line.rstrip("\r") for line in (lines if lines[-1] else lines[:-1])]
+        lines = [line.decode("utf-8", "surrogateescape") for line in split_lines(data)]
         longest = max(map(len, lines), default=0)
         if longest > 65536:
             raise Fault("a line has more than 65,536 characters", name,
@@ -437,7 +432,7 @@ class Prompt:
     def why(self, words: list[str]) -> None:
         if len(words) > 1 or words and not (words[0].isdecimal() and len(words[0]) < 8):
             raise Fault("it's .why, or .why LINE")
-        found = statements(text_of(self.bench.log).splitlines())
+        found = statements(split_lines(text_of(self.bench.log)))
         if not words and not found:
             raise Fault("there is no statement yet")
         self.explain("why", words or [str(found[-1].first)])
