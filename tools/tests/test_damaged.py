@@ -18,11 +18,13 @@ from vsmtools.command import Fault, guarded
 
 SCRIPTS = [path.read_bytes() for glob in ("conformance/*/*.vsm", "examples/*.vsm") for path in sorted(TOP.glob(glob))]
 SOURCES = [path.read_bytes() for path in sorted(TOP.glob("tools/tests/sources/*.asm"))]
-MAPS = [b" TASK 1 P" + text for path in sorted(TOP.glob("examples/*.out"))
-        for text in path.read_bytes().split(b" TASK 1 P")[1:]]
+MAPS = [it for path in sorted(TOP.glob("examples/*.out")) for it in re.findall(rb"(?m)(?:^ .*\n)+", path.read_bytes())]
 PUT = b"0 1 8 9 A F X - ' ( ) = , + * / & . L' X' *> *! ? \0 \t \r \xff \xc3\xa4 4294967296 MAP SP= \n".split(b" ")
 TYPED = [b"", b"", b"", b".back until ", b".until ", b".step ", b".read ", b".log ", b".?", b".restart ", b". "]
 SECONDS = 10     # of a processor
+# Of each tool one that it once took wrongly.
+FOUND = {"vsm-load": next(re.sub(rb"HDR '.*'", b"HDR '\xc8'", it) for it in MAPS if b"HDR '" in it),
+         "vsm-prompt": b" BACK 0\r\r\n MAP\r\n", "vsm-view": b" BACK 0\r\r\n"}
 
 
 def damaged(chance: random.Random, files: list[bytes]) -> bytes:
@@ -118,6 +120,6 @@ def check_view(tool: Tool, data: bytes) -> None:
 def test_damaged_files(name: str, check, files: list[bytes], times: int, vsm: str, tmp_path: Path, request) -> None:
     tool, chance = Tool(name, vsm, tmp_path / "damaged.vsm"), random.Random(7)
     for k in range(times * request.config.getoption("--damaged")):
-        tool.path.write_bytes(damaged(chance, files))
+        tool.path.write_bytes(FOUND[name] if k == 0 and name in FOUND else damaged(chance, files))
         print("file", k, tool.path.read_bytes())     # shown if it fails
         check(tool, tool.path.read_bytes())
