@@ -9,8 +9,9 @@ program=$out/$crate
 unproved=$program-unproved
 rt=${RT:-rt}
 
+# One line, also of a path that has a line feed.
 say() {
-  echo "$name: $1" >&2
+  echo "$name: ${1//[[:cntrl:]]/?}" >&2
 }
 
 refuse() {
