@@ -17,6 +17,15 @@ export function make(name, values = {}, ...inner) {
   return it;
 }
 
+/** Puts nodes in an element in place of what's there; those that are there already stay. */
+export function put(element, nodes) {
+  const wanted = new Set(nodes);
+  for (const it of [...element.childNodes]) if (!wanted.has(it)) it.remove();
+  nodes.forEach((it, k) => {
+    if (element.childNodes[k] !== it) element.insertBefore(it, element.childNodes[k] ?? null);
+  });
+}
+
 /** A part of the page with a heading. */
 export const panel = (name, ...inner) =>
   make('section', {class: 'panel', 'aria-label': name}, make('h2', {}, name), ...inner);

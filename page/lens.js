@@ -1,5 +1,5 @@
 // The chosen page, near by: 8 rows of 64 doublewords, and its parts as a list.
-import { colourOf, hex, make, tag } from './elements.js';
+import { colourOf, hex, make, put, tag } from './elements.js';
 import { drawingOf, UNIT } from './drawing.js';
 import { dumpOf } from './dump.js';
 import { PAGE } from './map.js';
@@ -17,11 +17,13 @@ function listOf(page) {
 export function lensPart(view) {
   const element = make('section', { class: 'lens', 'aria-label': 'The chosen page', hidden: true });
 
+  const list = make('ol', { tabindex: 0, 'aria-label': 'Parts of the page' });
+  let names = new Map(), items = new Map(); // by address; by all that they show
+
   function named(part) {
-    const names = view.moment.state.names.filter(it => it[1] === hex(part.from)).map(it => it[0]);
     return {
       kind: part.pool ? `${KINDS[part.kind]} of ${part.pool.name}` : KINDS[part.kind],
-      names: names.join(' ')
+      names: names.get(hex(part.from)) ?? ''
     };
   }
   /** By which line a part was obtained, and a way there. */
@@ -32,11 +34,21 @@ export function lensPart(view) {
     return make('button', { type: 'button', class: 'by', onclick: () => view.go(step) }, text);
   }
   function itemOf(part) {
-    const { kind, names } = named(part);
+    const { kind, names: here } = named(part);
     return make(
       'li', {}, hex(part.from), make('span', { class: 'length' }, String(part.to - part.from)), kind,
-      names && make('b', {}, ` ${names}`), byLine(part)
+      here && make('b', {}, ` ${here}`), byLine(part)
     );
+  }
+  /** The items of a page's parts; those that look as before are taken again. */
+  function itemsOf(page) {
+    const known = items;
+    items = new Map();
+    return listOf(page).map(part => {
+      const look = [part.from, part.to, part.kind, part.pool?.name, part.k, names.get(hex(part.from))].join();
+      items.set(look, known.get(look) ?? itemOf(part));
+      return items.get(look);
+    });
   }
   function readOut(page, svg, point, event) {
     const box = svg.getBoundingClientRect();
@@ -45,26 +57,27 @@ export function lensPart(view) {
     const place = page.page * PAGE + UNIT * (WIDE * row + inside(event.clientX - box.left, box.width, WIDE));
     const part = page.cells.find(it => place >= it.from && place < it.to) ??
       page.parts.find(it => place >= it.from && place < it.to);
-    const { kind, names } = named(part);
+    const { kind, names: here } = named(part);
     point.textContent =
-      `${hex(place)}: ${kind}, ${part.to - part.from} bytes from ${hex(part.from)}${names && `, ${names}`}`;
+      `${hex(place)}: ${kind}, ${part.to - part.from} bytes from ${hex(part.from)}${here && `, ${here}`}`;
   }
   function draw() {
     const page = view.moment.pages.get(view.chosen);
     element.hidden = !page;
     if (!page) return;
+    names = new Map();
+    for (const [name, word] of view.moment.state.names)
+      names.set(word, names.has(word) ? `${names.get(word)} ${name}` : name);
     const svg = drawingOf(page, view.moment.granted, WIDE, SCALE);
     const point = make('p', { class: 'point muted' }, 'Point at a doubleword.');
     svg.onpointermove = event => readOut(page, svg, point, event);
     element.style = colourOf(view.run, page.subpool.number);
-    element.replaceChildren(
-      make(
-        'h2', {}, `Page ${hex(page.page * PAGE)}`,
-        make('span', { class: 'muted' }, '8 rows of 64 doublewords'), tag(view.run, page.subpool)
-      ),
-      svg, point, make('ol', { tabindex: 0, 'aria-label': 'Parts of the page' }, ...listOf(page).map(itemOf)),
-      ...dumpOf(view.moment, page)
+    const head = make(
+      'h2', {}, `Page ${hex(page.page * PAGE)}`, make('span', { class: 'muted' }, '8 rows of 64 doublewords'),
+      tag(view.run, page.subpool)
     );
+    put(list, itemsOf(page));
+    put(element, [head, svg, point, list, ...dumpOf(view.moment, page)]);
   }
   return { element, draw };
 }

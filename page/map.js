@@ -18,8 +18,8 @@ async function textOf(data) {
 }
 
 /** Where each answer begins (a map's lines begin with a blank, and belong to the answer before them), and
-    what comes up in any map: the numbers of subpools, and the pages that are assigned. It's one pass over
-    the text. */
+    what comes up in any map: the numbers of subpools, and the pages that are assigned, in runs. It's one pass
+    over the text. */
 function survey(text) {
   const answers = [], numbers = new Set(), extents = new Set();
   for (let at = 0; at < text.length; at = text.indexOf('\n', at) + 1 || text.length) {
@@ -27,19 +27,19 @@ function survey(text) {
     else if (text.startsWith('SU', at + 1)) numbers.add(text.slice(at + 9, text.indexOf(' ', at + 9)));
     else if (text.startsWith('E', at + 2)) extents.add(text.slice(at + 9, at + 26));
   }
-  return { answers, numbers: [...numbers].map(Number).sort(ascending), pages: pagesOfExtents(extents) };
+  const areas = [...extents].map(it => it.split(' ').map(word => parseInt(word, 16)));
+  return { answers, numbers: [...numbers].map(Number).sort((a, b) => a - b), runs: runsOf(areas) };
 }
 
-const ascending = (a, b) => a - b;
-
-/** The numbers of the pages of extents, each once, ascending. */
-function pagesOfExtents(extents) {
-  const pages = new Set();
-  for (const it of extents) {
-    const [first, length] = it.split(' ').map(word => parseInt(word, 16));
-    for (let page = Math.floor(first / PAGE); page * PAGE < first + length; page++) pages.add(page);
+/** Areas as runs of pages, from and to, ascending; each page is in one. */
+export function runsOf(areas) {
+  const runs = [];
+  for (const [first, length] of areas.toSorted((a, b) => a[0] - b[0])) {
+    const from = Math.floor(first / PAGE), to = Math.ceil((first + length) / PAGE), last = runs.at(-1);
+    if (last && from <= last[1]) last[1] = Math.max(last[1], to);
+    else runs.push([from, to]);
   }
-  return [...pages].sort(ascending);
+  return runs;
 }
 
 const areaIn = words => [parseInt(words[1], 16), parseInt(words[2], 16)];
@@ -103,16 +103,17 @@ function parseMap(text, at) {
 /** A run: the statements that were answered, and the state before and behind each that has maps. */
 export class Run {
   constructor(data, text) {
-    const { answers, numbers, pages } = survey(text);
+    const { answers, numbers, runs } = survey(text);
     this.text = text;
     this.name = data.name;
     this.options = data.options;
     this.lines = data.script.split('\n');
     this.numbers = numbers;
-    this.pages = pages;
+    this.runs = runs;
     this.skipped = data.skipped;
     this.bytes = data.bytes ?? [];
     this.question = data.question ?? '';
+    this.program = data.program ?? '';
     this.steps = Math.floor((answers.length - data.skipped) / 2);
     if (this.steps < 0 || answers.length === data.skipped) throw new Sentence('What vsm printed has no map.');
     this.readAnswers(answers);
@@ -143,11 +144,6 @@ export class Run {
   /** The statement of a step; that of step 1 is the first one with maps. */
   statement(step) {
     return this.statements[this.skipped + step - 1];
-  }
-
-  /** The replies of all statements up to a step's, also of those before the first map. */
-  repliesTo(step) {
-    return this.statements.slice(0, this.skipped + step).map(it => it.reply);
   }
 
   /** The state behind a step's statement; behind step 0 that before the first. */

@@ -1,21 +1,44 @@
 // What is shown at a step: the states before and behind its statement, and what follows from the replies up
 // to it.
-import { PAGE } from './map.js';
-import { areaOf, areasByPage, getsOf, isKept, standing } from './replies.js';
-import { pagesOf } from './storage.js';
+import { Changes } from './changes.js';
+import { areaOf, Grants, isKept, standing, stepsOf } from './replies.js';
+import { Pages } from './storage.js';
+
+const MOST_SIDES = 3; // that are kept of a run: one step on or back works out one more
+
+/** What of a run is worked out once: what its replies do and grant, and its last sides. */
+function pastOf(run) {
+  const replies = run.past ? [] : run.statements.map(it => it.reply);
+  return run.past ??= { changes: stepsOf(replies), grants: new Grants(replies), sides: new Map() };
+}
 
 function sideOf(run, step) {
-  const state = run.stateAt(step), replies = run.repliesTo(step);
-  const { stand, again, kept } = standing(replies, state.limit);
-  const pages = pagesOf(state, areasByPage(replies, stand, state.pools), getsOf(replies, stand));
-  return { state, replies, stand, again, kept, pages, bytes: run.bytesAt(step) };
+  const { sides } = pastOf(run), side = sides.get(step) ?? madeSide(run, step);
+  sides.delete(step);
+  sides.set(step, side);
+  if (sides.size > MOST_SIDES) sides.delete(sides.keys().next().value); // looked at longest ago
+  return side;
+}
+
+function madeSide(run, step) {
+  const { changes, grants } = pastOf(run);
+  const state = run.stateAt(step), count = run.skipped + step;
+  const { stand, again, kept } = standing(changes, state.limit, count);
+  const stands = new Uint8Array(count);
+  for (const k of stand) stands[k] = 1;
+  let cells = null;
+  const gets = () => cells ??= grants.cells(stand);
+  const pages = new Pages(state, (page, extents) => grants.piecesAt(page, k => stands[k], extents), gets);
+  return { state, stand, stands, again, kept, pages, bytes: run.bytesAt(step) };
 }
 
 /** The steps whose statements were kept and don't stand: undone, whether they can be made again or not. */
-function undoneOf(run, { replies, stand }) {
-  const stands = new Set(stand);
-  return new Set(replies.flatMap((reply, k) => isKept(reply) && !stands.has(k) ? [k - run.skipped + 1] : []));
-}
+const undoneOf = (run, { stands }) => ({
+  has(step) {
+    const k = run.skipped + step - 1;
+    return k < stands.length && !stands[k] && isKept(run.statements[k].reply);
+  }
+});
 
 /** What the statement of a step was granted, from byte to byte; a cell is as long as its pool says. */
 function grantedAt(run, step, state) {
@@ -27,24 +50,14 @@ function grantedAt(run, step, state) {
   return { from: area.from, to: area.from + (area.length || (pool?.size ?? 8)) };
 }
 
-/** The pages that differ between two sides: in their parts, or in bytes that were stored. */
-function changedPages(now, before) {
-  const numbers = [...new Set([...now.pages.keys(), ...before.pages.keys()])];
-  const rows = [...new Set([...now.bytes.keys(), ...before.bytes.keys()])];
-  return new Set([
-    ...numbers.filter(it => now.pages.get(it)?.key !== before.pages.get(it)?.key),
-    ...rows.filter(it => now.bytes.get(it) !== before.bytes.get(it)).map(it => Math.floor(it / PAGE))
-  ]);
-}
-
 /** The moment behind a step's statement. Where nothing changed is asked for (`still`), none is granted and
     none changed. */
 export function momentOf(run, step, still) {
   const now = sideOf(run, step), before = step && !still ? sideOf(run, step - 1) : now;
   return {
-    step, state: now.state, pages: now.pages, before: before.state, pagesBefore: before.pages,
-    bytes: now.bytes, bytesBefore: before.bytes, changed: changedPages(now, before),
-    undone: undoneOf(run, now), again: now.again.length, kept: now.kept,
+    step, state: now.state, pages: now.pages, before: before.state, bytes: now.bytes, bytesBefore: before.bytes,
+    changed: new Changes(pastOf(run).grants, now, before), undone: undoneOf(run, now),
+    again: now.again.length, kept: now.kept,
     granted: step && !still ? grantedAt(run, step, now.state) : null,
   };
 }

@@ -4,27 +4,31 @@ import assert from 'node:assert';
 import test from 'node:test';
 import { meaningOf } from './meanings.js';
 import { withoutRemarks } from './remarks.js';
-import { areasByPage, getsOf, kindOf, standing } from './replies.js';
+import { runsOf } from './map.js';
+import { momentOf } from './moment.js';
+import { Grants, kindOf, standing, stepsOf } from './replies.js';
 import { wrapped } from './script.js';
-import { pagesOf } from './storage.js';
+import { Pages } from './storage.js';
 
 const subpool = (extents, free) => ({ number: 1, owner: 1, sharers: [], extents, free });
 const partsAt = (pages, page) => pages.get(page).parts.map(it => [it.from, it.to, it.kind, it.k]);
+const stands = (replies, limit) => standing(stepsOf(replies), limit);
+const piecesAt = (replies, page, extents = []) => new Grants(replies).piecesAt(page, () => true, extents);
 
 test('a step back takes the last ones, a step on gives them back', () => {
   const replies = ['RC=0 A=00006000 L=00000008', 'RC=4', 'KEPT=0', 'KEPT=2'];
-  assert.deepEqual(standing(replies.slice(0, 3), 9), { stand: [], again: [1, 0], kept: 0 });
-  assert.deepEqual(standing(replies, 1024), { stand: [0, 1], again: [], kept: 2 });
-  assert.deepEqual(standing(replies.slice(0, 2), 1), { stand: [0, 1], again: [], kept: 1 });
+  assert.deepEqual(stands(replies.slice(0, 3), 9), { stand: [], again: [1, 0], kept: 0 });
+  assert.deepEqual(stands(replies, 1024), { stand: [0, 1], again: [], kept: 2 });
+  assert.deepEqual(stands(replies.slice(0, 2), 1), { stand: [0, 1], again: [], kept: 1 });
 });
 
 test('a statement that is kept ends what was undone, and one that is refused does not', () => {
-  assert.deepEqual(standing(['OK', 'KEPT=0', 'ABEND S0C4'], 9).again, [0]);
-  assert.deepEqual(standing(['OK', 'KEPT=0', 'T=2'], 9), { stand: [2], again: [], kept: 1 });
+  assert.deepEqual(stands(['OK', 'KEPT=0', 'ABEND S0C4'], 9).again, [0]);
+  assert.deepEqual(stands(['OK', 'KEPT=0', 'T=2'], 9), { stand: [2], again: [], kept: 1 });
 });
 
 test('a kept answer that is not known makes another count than the map has', () => {
-  assert.equal(standing(['RC=0', 'STORED'], 9).kept, 1);
+  assert.equal(stands(['RC=0', 'STORED'], 9).kept, 1);
 });
 
 test('the kinds of replies', () => {
@@ -35,7 +39,7 @@ test('the kinds of replies', () => {
 test('areas that touch are parted, and each has its statement', () => {
   const replies = ['RC=0 A=00006000 L=00000010', 'RC=0 A=00006010 L=00000008'];
   const state = { subpools: [subpool([[0x6000, 0x1000]], [[0x6018, 0xFE8]])], pools: [] };
-  const pages = pagesOf(state, areasByPage(replies, [0, 1], []), new Map());
+  const pages = new Pages(state, page => piecesAt(replies, page), () => new Map());
   assert.deepEqual(partsAt(pages, 6), [
     [0x6000, 0x6010, 'taken', 0], [0x6010, 0x6018, 'taken', 1], [0x6018, 0x7000, 'free', undefined]
   ]);
@@ -43,27 +47,77 @@ test('areas that touch are parted, and each has its statement', () => {
 
 test('what is left of an area keeps its statement, on both sides of what came into it', () => {
   const replies = ['RC=0 A=00006000 L=00000018', 'RC=0', 'RC=0 A=00006008 L=00000008'];
-  const areas = areasByPage(replies, [0, 1, 2], []).get(6);
-  assert.deepEqual(areas.map(it => [it.from, it.to, it.k]), [[0x6000, 0x6008, 0], [0x6010, 0x6018, 0], [0x6008, 0x6010, 2]]);
+  const areas = piecesAt(replies, 6).map(it => [it.from, it.to, it.k]);
+  assert.deepEqual(areas, [[0x6008, 0x6010, 2], [0x6000, 0x6008, 0], [0x6010, 0x6018, 0]]);
 });
 
 test('no line runs through an extent that a GET made', () => {
   const replies = ['RC=0 A=00006000 L=00000008', 'RC=0', 'RC=0 A=00006000'];
-  const areas = areasByPage(replies, [0, 1, 2], [{ extents: [[0x6000, 0x10]] }]).get(6);
-  assert.deepEqual(areas, [{ from: 0x6000, to: 0x6010, k: undefined }]);
-  assert.deepEqual([...getsOf(replies, [0, 1, 2])], [[0x6000, 2]]);
+  assert.deepEqual(piecesAt(replies, 6, [[0x6000, 0x10]]), [{ from: 0x6000, to: 0x6010, k: undefined }]);
+  assert.deepEqual([...new Grants(replies).cells([0, 1, 2])], [[0x6000, 2]]);
 });
 
 test('an area over two pages is in both', () => {
-  const areas = areasByPage(['RC=0 A=00006FF8 L=00000010'], [0], []);
-  assert.deepEqual([6, 7].map(it => areas.get(it).map(one => one.to - one.from)), [[8], [8]]);
+  const replies = ['RC=0 A=00006FF8 L=00000010', 'RC=0 A=00010000 L=00400000', 'RC=0 A=00012000 L=00000008'];
+  assert.deepEqual([6, 7].map(it => piecesAt(replies, it).map(one => one.to - one.from)), [[8], [8]]);
+  assert.deepEqual([0x12, 0x40F, 0x410].map(it => piecesAt(replies, it).map(one => one.k)), [[2, 1], [1], []]);
+});
+
+test('areas are runs of pages, each page once', () => {
+  assert.deepEqual(runsOf([[0x9000, 0x1000], [0x6000, 0x1001], [0x7000, 0x1000], [0x8000, 0x10]]), [[6, 10]]);
+  assert.deepEqual(runsOf([[0x9000, 0x1000], [0x6000, 0x2000]]), [[6, 8], [9, 10]]);
+});
+
+/** A run of states and replies by chance, each state perhaps that before it: what is shown of a page follows from
+    both. */
+function runByChance(seed) {
+  const chance = most => (seed = (seed * 1103515245 + 12345) % 2147483648, Math.floor(seed / 65536) % most);
+  const some = (count, act) => Array.from({ length: count }, (_, k) => act(k)).filter(() => chance(2));
+  const states = [], replies = [];
+  for (let step = 0; step < 30; step++) {
+    const subpools = some(3, k => {
+      const first = 0x6000 + 0x3000 * k, free = some(4, at => [first + 0x400 * at, 8 + 8 * chance(9)]);
+      return { ...subpool([[first, 0x1000 * (1 + chance(3))]], free), owner: 1 + chance(2), number: k };
+    });
+    const pools = some(2, k => {
+      const first = 0x6000 + 0x3000 * k, free = some(5, at => first + 16 * at);
+      return { name: `P${k}`, size: 8, primary: 600, secondary: 9, extents: [[first, 0x1300]], free };
+    });
+    states.push(step && chance(2) ? states.at(-1) : { limit: 9, subpools, pools });
+    const place = (6 + chance(9)).toString(16) + chance(10);
+    const texts = [`RC=0 A=000${place}00 L=0000${chance(3)}100`, `RC=0 A=000060${chance(4)}0`, `KEPT=${chance(5)}`];
+    replies.push(texts[chance(3)]);
+  }
+  const statements = replies.map(reply => ({ reply }));
+  return {
+    steps: states.length - 1, statements, skipped: 0, statement: step => statements[step - 1],
+      stateAt: step => states[step],
+    bytesAt: () => new Map()
+  };
+}
+
+test('a page differs just if its parts do, and what is taken over from the step before is so', () => {
+  const seen = it => it && [it.key, it.parts, it.cells.map(({ pool, ...cell }) => cell)];
+  for (let seed = 1; seed <= 40; seed++) {
+    const run = runByChance(seed), fresh = step => momentOf({ ...run, past: null }, step, true).pages;
+    for (let step = 1; step <= run.steps; step++) {
+      const { changed, pages } = momentOf(run, step), [now, before] = [fresh(step), fresh(step - 1)];
+      for (let page = 5; page < 16; page++) {
+        assert.equal(changed.has(page), now.get(page)?.key !== before.get(page)?.key,
+          `seed ${seed}, step ${step}, page ${page}`);
+        assert.deepEqual(seen(pages.get(page)), seen(now.get(page)), `seed ${seed}, step ${step}, page ${page}`);
+      }
+    }
+  }
 });
 
 test('a meaning is of the operation, and not of remarks, operands or a name', () => {
   const released = 'The area, or the whole subpool, was released.';
-  for (const statement of [' STORAGE RELEASE,LENGTH=8,ADDR=A,SP=1   then DETACH 2', 'DETACH  FREEMAIN RU,LV=8,A=DETACH'])
+  for (const statement of [' STORAGE RELEASE,LENGTH=8,ADDR=A,SP=1   then DETACH 2',
+    'DETACH  FREEMAIN RU,LV=8,A=DETACH'])
     assert.equal(meaningOf('RC=0', statement).meaning, released);
-  assert.match(meaningOf('RC=0 A=00006000 L=00000008', ' STORAGE OBTAIN,LENGTH=8,ADDR=A  CPOOL BUILD').meaning, /^The area was/);
+  assert.match(meaningOf('RC=0 A=00006000 L=00000008', ' STORAGE OBTAIN,LENGTH=8,ADDR=A  CPOOL BUILD').meaning,
+    /^The area was/);
   assert.doesNotMatch(meaningOf('RC=0 A=00006000 L=00000008', ' STORAGE OBTAIN,LENGTH=8').meaning, /cell pool/);
   assert.match(meaningOf('RC=4', ' CPOOL GET,C,CPID=CP').meaning, /no cell is free/i);
 });
@@ -75,11 +129,13 @@ test('what is advised can be followed', () => {
 
 test('remarks go, and operands stay', () => {
   const shown = {
-    ' CPOOL GET,C,CPID=CP   none is free: 4': ' CPOOL GET,C,CPID=CP', ' MAP   half of it': ' MAP', ' ENDTASK  and ends': ' ENDTASK',
+    ' CPOOL GET,C,CPID=CP   none is free: 4': ' CPOOL GET,C,CPID=CP', ' MAP   half of it': ' MAP',
+      ' ENDTASK  and ends': ' ENDTASK',
     "A  POKE P,X'C1 C2'  as text": "A  POKE P,X'C1 C2'", ' RUN 2': ' RUN 2', ' MAP': ' MAP', ' BACK 1  no': ' BACK 1'
   };
   for (const [line, text] of Object.entries(shown)) assert.deepEqual(withoutRemarks([line]), [text]);
-  const lines = [' STORAGE OBTAIN,   the form'.padEnd(71) + 'X', '               LENGTH=8  it is'.padEnd(71) + 'X', 'more remarks'];
+  const lines = [' STORAGE OBTAIN,   the form'.padEnd(71) + 'X', '               LENGTH=8  it is'.padEnd(71) + 'X',
+    'more remarks'];
   assert.deepEqual(withoutRemarks(lines), [' STORAGE OBTAIN,', '               LENGTH=8', '']);
 });
 

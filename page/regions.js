@@ -1,8 +1,8 @@
 // The two regions: a row for each page that is assigned at any time of the run, so that rows keep their
 // places. In the teacher's mode that would tell what comes: there only the pages of the moment have rows.
-import { colourOf, count, grouped, hex, make, tag } from './elements.js';
+import { colourOf, count, grouped, hex, make, put, tag } from './elements.js';
 import { drawingOf } from './drawing.js';
-import { PAGE } from './map.js';
+import { PAGE, runsOf } from './map.js';
 
 const LOW = 0x6000, HIGH = 0x8000000;
 const MOST_ROWS = 400; // of a region; of more, those round the chosen page are shown
@@ -20,6 +20,22 @@ function labelOf(number, page, changed) {
     ? `subpool ${page.subpool.number} of task ${page.subpool.owner}, ${count(free, 'byte')} free`
     : 'not assigned';
   return `page ${hex(number * PAGE)}, ${whose}${changed ? ', changed' : ''}`;
+}
+
+/** The pages of runs from one up to another. */
+const clipped = (runs, first, end) =>
+  runs.map(it => [Math.max(it[0], first), Math.min(it[1], end)]).filter(it => it[0] < it[1]);
+const countIn = runs => runs.reduce((sum, it) => sum + it[1] - it[0], 0);
+
+/** The numbers of pages, from one place among those of runs up to another. */
+function pagesIn(runs, from, to) {
+  const found = [];
+  let at = 0;
+  for (const [first, end] of runs) {
+    for (let page = first + Math.max(0, from - at); page < end && at + page - first < to; page++) found.push(page);
+    at += end - first;
+  }
+  return found;
 }
 
 export function regionsPart(view) {
@@ -52,24 +68,23 @@ export function regionsPart(view) {
     rows.set(number, { look, row });
     return row;
   }
-  /** The numbers of all pages that may have rows. */
-  function numbers() {
-    if (!view.teaching) return run.pages;
-    const { pages, pagesBefore } = view.moment;
-    return [...new Set([...pages.keys(), ...pagesBefore.keys()])].sort((a, b) => a - b);
+  /** All pages that may have rows, in runs. */
+  function runs() {
+    if (!view.teaching) return run.runs;
+    const { state, before } = view.moment;
+    return runsOf([...state.subpools, ...before.subpools].flatMap(it => it.extents));
   }
-  /** Which of a region's pages have rows: all, or as many as can be drawn round the chosen one. */
+  /** From which to which of a region's pages have rows: all, or as many as can be drawn round the chosen one. */
   function windowOf(pages) {
-    if (pages.length <= MOST_ROWS) return [0, pages.length];
-    const at = Math.max(0, pages.findIndex(it => it >= view.chosen));
-    const first = Math.max(0, Math.min(pages.length - MOST_ROWS, at - MOST_ROWS / 2));
+    const most = countIn(pages);
+    if (most <= MOST_ROWS) return [0, most];
+    const at = countIn(clipped(pages, 0, view.chosen));
+    const first = Math.max(0, Math.min(most - MOST_ROWS, at - MOST_ROWS / 2));
     return [first, first + MOST_ROWS];
   }
-  function regionOf(name, first, size, assigned) {
-    const pages = numbers().filter(it => it >= first && it < first + size);
-    const unassigned = view.teaching ? 'not assigned' : 'never assigned';
-    const [from, to] = windowOf(pages);
-    const list = [];
+  function listOf(first, end) {
+    const pages = clipped(runs(), first, end), unassigned = view.teaching ? 'not assigned' : 'never assigned';
+    const [from, to] = windowOf(pages), most = countIn(pages), list = [];
     const gap = (pages, what) =>
       pages > 0 && list.push(make('div', { class: 'gap' }, `${count(pages, 'page')} ${what}`));
     const jump = (pages, where, to) => pages > 0 &&
@@ -77,20 +92,22 @@ export function regionsPart(view) {
         'button', { type: 'button', class: 'gap jump', onclick: () => view.choose(to) },
         `${count(pages, 'page')} more ${where}`
       ));
-    jump(from, 'below these addresses', pages[from - 1]);
-    let next = from ? pages[from] : first;
-    for (const page of pages.slice(from, to)) {
+    jump(from, 'below these addresses', pagesIn(pages, from - 1, from)[0]);
+    const shown = pagesIn(pages, from, to);
+    let next = from ? shown[0] : first;
+    for (const page of shown) {
       gap(page - next, unassigned);
       list.push(rowOf(page));
       next = page + 1;
     }
-    if (to < pages.length) jump(pages.length - to, 'above these addresses', pages[to]);
-    else gap(first + size - next, unassigned);
-    return make(
-      'section', { class: 'region', 'aria-label': name },
-      make('h2', {}, name, make('span', {}, `${grouped(assigned)} of ${count(size, 'page')} assigned`)),
-      ...list
-    );
+    if (to < most) jump(most - to, 'above these addresses', pagesIn(pages, to, to + 1)[0]);
+    else gap(end - next, unassigned);
+    return list;
+  }
+  /** Draws a region in its section: rows that look as before stay where they are. */
+  function drawRegion(section, first, size, assigned) {
+    section.firstChild.lastChild.textContent = `${grouped(assigned)} of ${count(size, 'page')} assigned`;
+    put(section, [section.firstChild, ...listOf(first, first + size)]);
   }
   /** Scrolls to the chosen row, where the regions are scrolled by themselves and it's out of sight. */
   function reveal() {
@@ -100,13 +117,14 @@ export function regionsPart(view) {
     if (top < box.top) element.scrollTop -= box.top - top + row.offsetHeight;
     else if (bottom > box.bottom) element.scrollTop += bottom - box.bottom + row.offsetHeight;
   }
+  const sections = ['Above the 16 MB line', 'Below the 16 MB line'].map(
+    name => make('section', { class: 'region', 'aria-label': name }, make('h2', {}, name, make('span', {})))
+  );
+  element.append(...sections);
   function draw() {
-    const { state } = view.moment, { scrollTop } = element;
-    element.replaceChildren(
-      regionOf('Above the 16 MB line', HIGH / PAGE, state.highOf, state.high),
-      regionOf('Below the 16 MB line', LOW / PAGE, state.lowOf, state.low)
-    );
-    element.scrollTop = scrollTop;
+    const { state } = view.moment;
+    drawRegion(sections[0], HIGH / PAGE, state.highOf, state.high);
+    drawRegion(sections[1], LOW / PAGE, state.lowOf, state.low);
     reveal();
   }
   /** To the page so many rows further, where a row has the focus. */

@@ -1,6 +1,9 @@
 // What follows from the replies: which statements stand, and what each of them obtained.
 import { PAGE } from './map.js';
 
+const KEPT = -2, NOTHING = -1;
+const NEAR = 16, CHUNK = 256; // pages: longer areas than these are looked up by as many
+
 export const isKept = reply => /^(RC=|T=|OK)/.test(reply);
 
 /** How a reply is shown: as kept, as a step back or forward, as answered 4, as refused, or as nothing of
@@ -12,22 +15,27 @@ export function kindOf(reply) {
   return isKept(reply) ? 'kept' : 'shown';
 }
 
-/** Which statements stand behind these replies, and which can be made again. A kept one pushes; a step
+/** What each reply does to the history: one change more is kept, so many are kept then, or nothing. */
+export const stepsOf = replies => Int32Array.from(
+  replies, it => isKept(it) ? KEPT : it.startsWith('KEPT=') ? +it.slice(5) : NOTHING
+);
+
+/** Which of the first `count` statements stand then, and which can be made again. A kept one pushes; a step
     tells how many changes are kept then, and pops or pushes back as many. */
-export function standing(replies, limit) {
+export function standing(steps, limit, count = steps.length) {
   const stand = [], again = [];
   let kept = 0;
-  replies.forEach((reply, k) => {
-    if (isKept(reply)) {
+  for (let k = 0; k < count; k++) {
+    const now = steps[k];
+    if (now === KEPT) {
       stand.push(k);
       again.length = 0;
       kept = Math.min(kept + 1, limit);
-    } else if (reply.startsWith('KEPT=')) {
-      const now = +reply.slice(5);
-      for (; kept > now; kept--) again.push(stand.pop());
-      for (; kept < now; kept++) stand.push(again.pop());
+    } else if (now !== NOTHING) {
+      for (; kept > now && stand.length; kept--) again.push(stand.pop());
+      for (; kept < now && again.length; kept++) stand.push(again.pop());
     }
-  });
+  }
   return { stand, again, kept };
 }
 
@@ -37,30 +45,47 @@ export function areaOf(reply) {
   return found && { from: parseInt(found[1], 16), length: found[2] ? parseInt(found[2], 16) : 0 };
 }
 
-/** The areas that these standing statements obtained and the extents of cell pools, by page in pieces: from,
-    to, and the statement (none for an extent). An area comes where all was free, so nothing that stood there
-    before is left of it. */
-export function areasByPage(replies, stand, pools) {
-  const byPage = new Map();
-  function add(from, length, k) {
-    for (let begin = from - from % PAGE; begin < from + length; begin += PAGE) {
-      const area = { from: Math.max(from, begin), to: Math.min(from + length, begin + PAGE), k };
-      const others = (byPage.get(begin / PAGE) ?? []).flatMap(
-        it => [{ ...it, to: Math.min(it.to, area.from) }, { ...it, from: Math.max(it.from, area.to) }]
-      );
-      byPage.set(begin / PAGE, [...others.filter(it => it.from < it.to), area]);
-    }
+/** What the replies of a run grant, and which of them may reach a page. */
+export class Grants {
+  constructor(replies) {
+    Object.assign(this, { areas: replies.map(areaOf), near: new Map(), far: new Map() });
+    this.areas.forEach((area, k) => {
+      if (!area?.length) return;
+      const isNear = area.length <= NEAR * PAGE, unit = isNear ? PAGE : CHUNK * PAGE;
+      const places = isNear ? this.near : this.far;
+      for (let at = Math.floor(area.from / unit); at * unit < area.from + area.length; at++) {
+        if (!places.has(at)) places.set(at, []);
+        places.get(at).push(k);
+      }
+    });
   }
-  for (const k of stand) {
-    const area = areaOf(replies[k]);
-    if (area?.length) add(area.from, area.length, k);
-  }
-  for (const pool of pools) for (const [first, length] of pool.extents) add(first, length);
-  return byPage;
-}
 
-/** By address, which of the standing statements handed out the cell there. */
-export const getsOf = (replies, stand) => new Map(stand.flatMap(k => {
-  const area = areaOf(replies[k]);
-  return area && !area.length ? [[area.from, k]] : [];
-}));
+  /** By address, which of these standing statements handed out the cell there. */
+  cells(stand) {
+    return new Map(stand.flatMap(k => this.areas[k]?.length === 0 ? [[this.areas[k].from, k]] : []));
+  }
+
+  /** The areas in a page that standing statements obtained, and extents of cell pools, in pieces: from, to, and
+      the statement (none for an extent). An area comes where all was free, so nothing that was there before is
+      left of it: the last one is looked at first. */
+  piecesAt(page, isStanding, extents) {
+    const pieces = [];
+    let open = [[page * PAGE, (page + 1) * PAGE]];
+    function take(start, length, k) {
+      const rest = [];
+      for (const [first, end] of open) {
+        const from = Math.max(first, start), to = Math.min(end, start + length);
+        if (from < to) pieces.push({ from, to, k });
+        rest.push(...from < to ? [[first, from], [to, end]] : [[first, end]]);
+      }
+      open = rest.filter(([first, end]) => first < end);
+    }
+    for (const [first, length] of extents) take(first, length);
+    const near = this.near.get(page) ?? [], far = this.far.get(Math.floor(page / CHUNK)) ?? [];
+    for (let at = near.length - 1, beyond = far.length - 1; open.length && (at >= 0 || beyond >= 0);) {
+      const k = (near[at] ?? -1) > (far[beyond] ?? -1) ? near[at--] : far[beyond--];
+      if (isStanding(k)) take(this.areas[k].from, this.areas[k].length, k);
+    }
+    return pieces;
+  }
+}

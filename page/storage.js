@@ -1,12 +1,27 @@
-// The assigned pages of a state: whose each is, its parts from byte to byte, and its cells.
+// The assigned pages of a state: whose each is, its parts from byte to byte, and its cells. Each is worked out
+// when it's asked for: a region may have 262,144.
 import { PAGE } from './map.js';
+
+const byAddress = (a, b) => a.first - b.first;
+const endOf = ([first, length]) => first + length;
+
+/** How many of ascending things hold in front. */
+export function countOf(list, holds) {
+  let low = 0, high = list.length;
+  while (low < high) {
+    const mid = (low + high) >> 1;
+    if (holds(list[mid])) low = mid + 1;
+    else high = mid;
+  }
+  return low;
+}
 
 /** The parts of a page, in order: free ones as the subpool's free areas say, the others taken, cut where
     areas are parted, each with the statement that obtained it. */
-function partsOf(begin, free, areas) {
-  const parts = [], edges = areas.flatMap(it => [it.from, it.to]).sort((a, b) => a - b);
+function partsOf(begin, free, pieces) {
+  const parts = [], edges = pieces.flatMap(it => [it.from, it.to]).sort((a, b) => a - b);
   const push = (from, to) =>
-    parts.push({ from, to, kind: 'taken', k: areas.find(it => it.from <= from && from < it.to)?.k });
+    parts.push({ from, to, kind: 'taken', k: pieces.find(it => it.from <= from && from < it.to)?.k });
   const taken = (from, to) => {
     for (const edge of edges) {
       if (edge <= from || edge >= to) continue;
@@ -26,61 +41,68 @@ function partsOf(begin, free, areas) {
   return parts;
 }
 
-/** The pages of a subpool; its free areas ascend as its pages do. */
-function* pagesOfSubpool(subpool, areas) {
-  let k = 0;
-  for (const [first, length] of subpool.extents) {
-    for (let begin = first; begin < first + length; begin += PAGE) {
-      while (k < subpool.free.length && subpool.free[k][0] + subpool.free[k][1] <= begin) k++;
-      let end = k;
-      while (end < subpool.free.length && subpool.free[end][0] < begin + PAGE) end++;
-      const page = begin / PAGE, parts = partsOf(begin, subpool.free.slice(k, end), areas.get(page) ?? []);
-      yield {
-        page,
-        subpool,
-        parts,
-        cells: [],
-        key: `${subpool.number} ${subpool.owner} ${parts.map(it => it.kind[0] + it.from)}`
-      };
-    }
-  }
+/** The cells of a pool's extent that reach a page, cut there, each with whether it's free, and the statement that
+    got it. */
+function cellsOf({ first, pool, count, free }, begin, gets) {
+  const from = Math.max(0, Math.floor((begin - first) / pool.size));
+  const to = Math.min(count, Math.ceil((begin + PAGE - first) / pool.size));
+  return Array.from({ length: Math.max(0, to - from) }, (_, k) => {
+    const at = first + (from + k) * pool.size;
+    return {
+      from: Math.max(begin, at),
+      to: Math.min(begin + PAGE, at + pool.size),
+      ...free.has(at) ? { kind: 'freecell' } : { kind: 'cell', k: gets.get(at) },
+      pool,
+      whole: pool.size
+    };
+  });
 }
 
-/** The cells of a cell pool, each with whether it's free, and the statement that got it; a cell may lie in two
-    pages. */
-export function cellsOf(pool, gets) {
-  const free = new Set(pool.free);
-  return pool.extents.flatMap(
-    ([first], extent) => Array.from(
-      { length: extent ? pool.secondary : pool.primary },
-      (_, k) => ({
-        from: first + k * pool.size,
-        to: first + (k + 1) * pool.size,
-        ...free.has(first + k * pool.size)
-          ? { kind: 'freecell' }
-          : { kind: 'cell', k: gets.get(first + k * pool.size) },
-        pool
-      })
-    )
-  );
-}
-
-/** The assigned pages by number; `key` is other where anything in a page is. */
-export function pagesOf(state, areas, gets) {
-  const pages = new Map();
-  for (const subpool of state.subpools)
-    for (const it of pagesOfSubpool(subpool, areas)) pages.set(it.page, it);
-  for (const pool of state.pools) for (const cell of cellsOf(pool, gets)) {
-    for (let page = Math.floor(cell.from / PAGE); page * PAGE < cell.to; page++) {
-      const it = pages.get(page);
-      it.cells.push({
-        ...cell,
-        from: Math.max(cell.from, page * PAGE),
-        to: Math.min(cell.to, (page + 1) * PAGE),
-        whole: cell.to - cell.from
-      });
-      it.key += cell.kind + cell.from;
-    }
+/** `piecesAt(page, extents)` answers which statement obtained which piece of a page, and `gets()` which one handed
+    out the cell at an address. */
+export class Pages {
+  constructor(state, piecesAt, gets) {
+    Object.assign(this, { piecesAt, gets, made: new Map() });
+    this.extents = state.subpools.flatMap(
+      subpool => subpool.extents.map(it => ({ first: it[0], end: endOf(it), subpool }))
+    ).sort(byAddress);
+    this.cells = state.pools.flatMap(pool => {
+      const free = new Set(pool.free);
+      return pool.extents.map((it, k) => (
+        { first: it[0], end: endOf(it), pool, free, count: k ? pool.secondary : pool.primary }
+      ));
+    }).sort(byAddress);
   }
-  return pages;
+
+  /** The lowest assigned page. */
+  get lowest() {
+    return this.extents.length ? this.extents[0].first / PAGE : undefined;
+  }
+
+  subpoolAt(page) {
+    const found = this.extents[countOf(this.extents, it => it.first <= page * PAGE) - 1];
+    return found && page * PAGE < found.end ? found.subpool : undefined;
+  }
+
+  has(page) {
+    return this.subpoolAt(page) !== undefined;
+  }
+
+  /** A page, or nothing where it isn't assigned; `key` is other where anything in it is. */
+  get(page) {
+    if (!this.made.has(page)) this.made.set(page, this.pageOf(page));
+    return this.made.get(page);
+  }
+
+  pageOf(page) {
+    const subpool = this.subpoolAt(page), begin = page * PAGE, end = begin + PAGE;
+    if (!subpool) return undefined;
+    const among = (list, firstOf, lastOf) =>
+      list.slice(countOf(list, it => lastOf(it) <= begin), countOf(list, it => firstOf(it) < end));
+    const free = among(subpool.free, it => it[0], endOf), within = among(this.cells, it => it.first, it => it.end);
+    const parts = partsOf(begin, free, this.piecesAt(page, within.map(it => [it.first, it.end - it.first])));
+    const cells = within.flatMap(it => cellsOf(it, begin, this.gets()));
+    const told = [...parts.map(it => it.kind[0] + it.from), ...cells.map(it => it.kind + it.from)];
+    return { page, subpool, parts, cells, key: `${subpool.number} ${subpool.owner} ${told}` };
+  }
 }

@@ -2,31 +2,40 @@
 import { count, grouped, make, panel, tag } from './elements.js';
 import { PAGE } from './map.js';
 
+export const MOST_SUBPOOLS = 400; // of more, those of one task are shown
 const sum = areas => areas.reduce((total, [, length]) => total + length, 0);
 
 /** Pages, taken and free bytes of a subpool; or nothing where there's none. */
 const sizesOf = subpool =>
   subpool ? [sum(subpool.extents) / PAGE, sum(subpool.extents) - sum(subpool.free), sum(subpool.free)] : [];
 
-function subpoolRow(view, subpool, shared) {
-  const isSame = it => it.number === subpool.number && it.owner === subpool.owner;
-  const was = sizesOf(view.moment.before.subpools.find(isSame));
+function subpoolRow(view, subpool, was, shared) {
   return make('tr', {}, make('td', { class: 'text' }, tag(view.run, subpool)),
     ...sizesOf(subpool).map((it, k) => make('td', { class: was[k] === it ? null : 'changed' }, grouped(it))),
     shared ? make('td', { class: 'text sharers' }, subpool.sharers.map(it => `T${it}`).join(' ')) : null);
+}
+
+/** The rows of the subpools: of very many only those that the shown task sees, and those that changed. */
+function subpoolRows(view, shared) {
+  const { state, before } = view.moment, { number } = view.task;
+  const known = new Map(before.subpools.map(it => [`${it.number} ${it.owner}`, it]));
+  const wasOf = it => sizesOf(known.get(`${it.number} ${it.owner}`));
+  const isShown = it => state.subpools.length <= MOST_SUBPOOLS || it.owner === number || it.sharers.includes(number) ||
+    String(wasOf(it)) !== String(sizesOf(it));
+  return state.subpools.filter(isShown).map(it => subpoolRow(view, it, wasOf(it), shared));
 }
 
 export function subpoolsPart(view) {
   const element = make('div', {});
   function draw() {
     const { subpools } = view.moment.state;
-    const shared = subpools.some(it => it.sharers.length);
+    const shared = subpools.some(it => it.sharers.length), rows = subpoolRows(view, shared);
     const heads = ['subpool', 'pages', 'taken', 'free', ...shared ? ['sharers'] : []];
     const head =
       make('tr', {}, ...heads.map((it, k) => make('th', { scope: 'col', class: k % 4 ? null : 'text' }, it)));
-    element.replaceChildren(
-      panel('Subpools', make('table', {}, head, ...subpools.map(it => subpoolRow(view, it, shared))))
-    );
+    const more = subpools.length - rows.length;
+    const others = more ? make('p', { class: 'muted' }, `${count(more, 'subpool')} more: choose their task.`) : null;
+    element.replaceChildren(panel('Subpools', make('table', {}, head, ...rows), others));
   }
   return { element, draw };
 }

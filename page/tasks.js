@@ -1,20 +1,30 @@
 // The tasks as a tree, each with the subpools that it owns and shares, and the registers of one of them.
-import { make, panel, tag } from './elements.js';
+import { count, make, panel, tag } from './elements.js';
+import { MOST_SUBPOOLS } from './tables.js';
 
-function branchOf(view, parent) {
+/** The subpools that each task owns and shares, by its number. */
+function seenBy({ subpools }) {
+  const seen = new Map();
+  const of = task => seen.get(task) ?? seen.set(task, { owned: [], shared: [] }).get(task);
+  for (const it of subpools) {
+    of(it.owner).owned.push(it);
+    for (const task of it.sharers) of(task).shared.push(it);
+  }
+  return of;
+}
+
+function branchOf(view, parent, seen) {
   const { state } = view.moment, children = state.tasks.filter(it => it.parent === parent);
   return children.length
-    ? make('ul', {}, ...children.map(it => make('li', {}, taskOf(view, it), branchOf(view, it.number))))
+    ? make('ul', {}, ...children.map(it => make('li', {}, taskOf(view, it, seen), branchOf(view, it.number, seen))))
     : null;
 }
 
 /** Whether a task is new, or has begun or ceased to share or own a subpool, or makes the requests now. */
-function isChanged({ before }, task, owned, shared) {
+function isChanged({ before }, task, { now, earlier }) {
   const was = before.tasks.find(it => it.number === task.number);
-  const sees = (subpools, number) =>
-    subpools.filter(it => it.owner === number || it.sharers.includes(number)).map(it => it.number).join();
-  return !was || task.current && !was.current ||
-    sees([...owned, ...shared], task.number) !== sees(before.subpools, task.number);
+  const numbers = ({ owned, shared }) => [...owned, ...shared].map(it => it.number).sort((a, b) => a - b).join();
+  return !was || task.current && !was.current || numbers(now(task.number)) !== numbers(earlier(task.number));
 }
 
 /** Tasks that the statement ended, which the tree has no more. */
@@ -25,11 +35,16 @@ function endedOf({ state, before }) {
     : null;
 }
 
-function taskOf(view, task) {
-  const { run, moment: { state } } = view;
-  const owned = state.subpools.filter(it => it.owner === task.number);
-  const shared = state.subpools.filter(it => it.sharers.includes(task.number));
-  const changed = isChanged(view.moment, task, owned, shared);
+/** The subpools of a task; of very many only how many they are, but of the shown one. */
+function tagsOf(view, task, { owned, shared }) {
+  if (view.moment.state.subpools.length > MOST_SUBPOOLS && task.number !== view.task.number)
+    return [make('span', { class: 'muted' }, `${count(owned.length, 'subpool')}, ${shared.length} shared`)];
+  return [...owned.map(it => tag(view.run, it, { own: true })),
+    ...shared.map(it => tag(view.run, it, { shared: true }))];
+}
+
+function taskOf(view, task, seen) {
+  const changed = isChanged(view.moment, task, seen);
   return make(
     'div', { class: ['task', task.current && 'current', changed && 'changed'].filter(Boolean).join(' ') },
     changed ? make('span', { class: 'requests' }, '•') : null,
@@ -44,15 +59,17 @@ function taskOf(view, task) {
       `Task ${task.number}`
     ),
     task.current ? make('span', { class: 'requests' }, 'makes the requests') : null,
-    ...owned.map(it => tag(run, it, { own: true })), ...shared.map(it => tag(run, it, { shared: true }))
+    ...tagsOf(view, task, seen.now(task.number))
   );
 }
 
 export function tasksPart(view) {
   const element = make('div', {});
-  const draw = () => element.replaceChildren(
-    panel('Tasks and their subpools', make('div', { class: 'tree' }, branchOf(view, 0)), endedOf(view.moment))
-  );
+  function draw() {
+    const seen = { now: seenBy(view.moment.state), earlier: seenBy(view.moment.before) };
+    const tree = make('div', { class: 'tree' }, branchOf(view, 0, seen));
+    element.replaceChildren(panel('Tasks and their subpools', tree, endedOf(view.moment)));
+  }
   const focus = number => element.querySelector(`[data-task="${number}"]`)?.focus();
   return { element, draw, focus };
 }

@@ -67,7 +67,8 @@ class View {
     const rest = make('div', { class: 'side', role: 'group', 'aria-label': name });
     rest.append(...side.map(it => it.element));
     const columns = make('div', { class: 'columns' }, this.script.element, storage, rest);
-    const stage = make('div', { class: 'stage' }, head.element, columns);
+    const foot = this.run.program ? make('footer', { class: 'muted' }, this.run.program) : null;
+    const stage = make('div', { class: 'stage' }, head.element, columns, foot);
     this.parts = [head, this.script, said, this.regions, lens, ...side];
     this.container.classList.add('run');
     this.container.replaceChildren(stage, this.live, this.dialog, this.asking);
@@ -147,8 +148,7 @@ class View {
     const { granted, pages, changed } = this.moment;
     if (granted) this.chosen = Math.floor(granted.from / PAGE);
     else if (!pages.has(this.chosen) || !changed.has(this.chosen)) {
-      const other = [...pages.keys()].find(it => changed.has(it));
-      this.chosen = other ?? (pages.has(this.chosen) ? this.chosen : [...pages.keys()][0] ?? LOWEST);
+      this.chosen = changed.first ?? (pages.has(this.chosen) ? this.chosen : pages.lowest ?? LOWEST);
     }
   }
 
@@ -229,9 +229,10 @@ class View {
 
 /** Shows a run in an element, in place of what is there, and answers the view, whose close() ends it; null
     where there is a sentence in its place. `data` has `name`, `options` (words), `script` (text),
-    `skipped` (how many answers come before the first map), perhaps `question` (the lesson's) and `bytes` (see
-    Run), and what vsm printed for the script with maps put in: `text`, or `output`, gzip'd and in base64. Options: `address` keeps the statement in the page's
-    address; `teacher` begins in the teacher's mode; `moved` is called with the view whenever it's drawn. */
+    `skipped` (how many answers come before the first map), perhaps `question` (the lesson's), `bytes` (see Run)
+    and `program` (which one it was), and what vsm printed for the script with maps put in: `text`, or `output`,
+    gzip'd and in base64. Options: `address` keeps the statement in the page's address; `teacher` begins in the
+    teacher's mode; `moved` is called with the view whenever it's drawn. */
 export async function showRun(container, data, options = {}) {
   try {
     const lack = lackOf();
