@@ -19,7 +19,8 @@ function answersWithMaps(output) {
 function frontOf(output) {
   if (output.length <= MOST_TEXT) return output;
   const front = output.slice(0, output.lastIndexOf('\n', MOST_TEXT) + 1);
-  return `${front}.. and ${(output.length - front.length).toLocaleString('en')} characters more: Save output has all of them.\n`;
+  const more = (output.length - front.length).toLocaleString('en');
+  return `${front}.. and ${more} characters more: Save output has all of them.\n`;
 }
 
 function itemOf({ line, reply, map }, lines) {
@@ -31,7 +32,8 @@ function itemOf({ line, reply, map }, lines) {
     shown.focus({ preventScroll: true });
   };
   answer.append(ask);
-  return make('li', {}, make('span', { class: 'muted' }, String(line)), make('code', { class: 'statement' }, withoutRemarks([lines[line - 1] ?? ''])[0].trim()), answer);
+  return make('li', {}, make('span', { class: 'muted' }, String(line)),
+    make('code', { class: 'statement' }, withoutRemarks([lines[line - 1] ?? ''])[0].trim()), answer);
 }
 
 /** The list of the statements, and a button for those that don't stand there yet. */
@@ -51,5 +53,6 @@ function askedList(output, script) {
 /** Shows a run's output in an element. */
 export function showOutput(container, { output, script }, isTeaching) {
   if (isTeaching && output) container.replaceChildren(...askedList(output, script));
-  else container.replaceChildren(make('pre', { class: 'text', tabindex: 0, 'aria-label': 'Output' }, frontOf(output) || 'No output.'));
+  else container.replaceChildren(make('pre', { class: 'text', tabindex: 0, 'aria-label': 'Output' },
+    frontOf(output) || 'No output.'));
 }

@@ -2,7 +2,7 @@
 // statement marked.
 import { make } from './elements.js';
 
-const LINE = 20, ABOVE = 10; // pixels of a line and above the first one, as in bench.css
+const ABOVE = 10; // pixels above the first line, as in bench.css
 
 /** `edited` is called at each edit, and `chosen` with the line whose reply is clicked. */
 export function editorOf(parts, edited, chosen) {
@@ -12,22 +12,24 @@ export function editorOf(parts, edited, chosen) {
     for (let at = area.value.indexOf('\n'); at >= 0; at = area.value.indexOf('\n', at + 1)) count++;
     return count;
   };
+  const lineHeight = () => parseFloat(getComputedStyle(area).lineHeight);
   let count = 1, told = new Map(), present = [0, 0];
 
   /** Draws what stands beside the lines that can be seen, and no others. */
   function drawBeside() {
-    const first = Math.floor(area.scrollTop / LINE), seen = Math.ceil(area.clientHeight / LINE) + 1;
+    const line = lineHeight();
+    const first = Math.floor(area.scrollTop / line), seen = Math.ceil(area.clientHeight / line) + 1;
     const shown = Array.from({ length: Math.max(0, Math.min(seen, count - first)) }, (_, k) => first + k + 1);
     numbers.replaceChildren(...shown.map(it => make('div', {}, String(it))));
     replies.replaceChildren(...shown.map(it => {
       const { reply = ' ', kind = '' } = told.get(it) ?? {};
       return make('div', { class: kind, title: reply, onclick: () => told.has(it) && chosen(it) }, reply);
     }));
-    for (const it of [numbers, replies]) it.style.transform = `translateY(${first * LINE - area.scrollTop}px)`;
+    for (const it of [numbers, replies]) it.style.transform = `translateY(${first * line - area.scrollTop}px)`;
     const [from, to] = present;
     now.hidden = !from || to > count;
-    now.style.top = `${ABOVE + (from - 1) * LINE - area.scrollTop}px`;
-    now.style.height = `${(to - from + 1) * LINE}px`;
+    now.style.top = `${ABOVE + (from - 1) * line - area.scrollTop}px`;
+    now.style.height = `${(to - from + 1) * line}px`;
   }
   function drawCaret() {
     const before = area.value.slice(0, area.selectionStart), line = before.split('\n').length;
@@ -63,7 +65,7 @@ export function editorOf(parts, edited, chosen) {
       const isMoved = from !== present[0];
       told = byLine;
       present = [from, to];
-      const top = (from - 1) * LINE, bottom = to * LINE + 2 * ABOVE;
+      const line = lineHeight(), top = (from - 1) * line, bottom = to * line + 2 * ABOVE;
       if (from && isMoved && (top < area.scrollTop || bottom > area.scrollTop + area.clientHeight))
         area.scrollTop = Math.max(0, top - area.clientHeight / 3);
       drawBeside();

@@ -12,12 +12,14 @@ export function placeIn(text, at) {
 /** What is wrong with a text as a script of this page, in words; or null. */
 export function faultOfScript(text) {
   const other = /[^\0-\xff]/u.exec(text);
-  if (other) return `${placeIn(text, other.index)}: “${other[0]}” isn’t one byte, so it can’t stand in a script`;
+  if (other)
+    return `${placeIn(text, other.index)}: “${other[0]}” isn’t one byte, so it can’t stand in a script`;
   let lines = 0;
   for (let at = 0; at < text.length; lines++) at = text.indexOf('\n', at) + 1 || text.length;
-  if (lines > MOST_LINES) return `the script has ${lines.toLocaleString('en')} lines, and this page takes ${MOST_LINES.toLocaleString('en')}: the program vsm itself runs it`;
-  if (text.length > MOST_BYTES) return `the script has ${text.length.toLocaleString('en')} bytes, and this page takes ${MOST_BYTES.toLocaleString('en')}: the program vsm itself runs it`;
-  return null;
+  const tooMany = (has, most, what) => has <= most ? null
+    : `the script has ${has.toLocaleString('en')} ${what}, and this page takes ${most.toLocaleString('en')}: ` +
+      'the program vsm itself runs it';
+  return tooMany(lines, MOST_LINES, 'lines') ?? tooMany(text.length, MOST_BYTES, 'bytes');
 }
 
 /** The options in the comments before a script's first statement, as in `*! --residence 31`, by their names. */
@@ -25,7 +27,8 @@ export function optionsIn(text) {
   const found = {};
   for (const line of text.split('\n')) {
     if (!line.startsWith('*') && line.slice(0, 71).trim()) break;
-    if (line.startsWith('*! ')) for (const [, name, value] of line.matchAll(/--([a-z]+)[ =]+(\S+)/g)) found[name] = value;
+    if (line.startsWith('*! ')) for (const [, name,
+      value] of line.matchAll(/--([a-z]+)[ =]+(\S+)/g)) found[name] = value;
   }
   return found;
 }

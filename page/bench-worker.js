@@ -57,7 +57,9 @@ function pictureOf(words, script, plain, answers) {
     const bytes = rows.length ? bytesSeen(answersOf(ranWith(peeksOf(rows)).output), rows) : [];
     return { output, bytes };
   } catch (fault) {
-    return { why: fault instanceof TooMuch ? `with a map at each statement ${reasonOf(fault)} (vsm-view makes pages of parts)` : reasonOf(fault) };
+    const why = reasonOf(fault);
+    if (!(fault instanceof TooMuch)) return { why };
+    return { why: `with a map at each statement ${why} (vsm-view makes pages of parts)` };
   }
 }
 
@@ -67,7 +69,8 @@ onmessage = ({ data: { wasm, words, script } }) => {
     const plain = ranOver(words, script, 'script');
     const answers = answersOf(plain.output);
     postMessage({ kind: 'ran', ...plain, count: answers.length });
-    if (plain.status === 0 || plain.status === 4) postMessage({ kind: 'picture', ...pictureOf(words, script, plain, answers) });
+    if (plain.status === 0 || plain.status === 4)
+      postMessage({ kind: 'picture', ...pictureOf(words, script, plain, answers) });
     postMessage({ kind: 'end' });
   } catch (fault) {
     postMessage({ kind: 'fault', why: reasonOf(fault) });

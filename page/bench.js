@@ -16,13 +16,20 @@ const SAVING = 300; // milliseconds from an edit until it's kept
 const OWN = 'script.vsm';
 const byId = id => document.getElementById(id);
 const megabytes = bytes => `${(bytes / 1e6).toFixed(1)} MB`;
-const inSeconds = milliseconds => milliseconds < 1000 ? `${Math.round(milliseconds)} ms` : `${(milliseconds / 1000).toFixed(1)} s`;
+const inSeconds = milliseconds =>
+  milliseconds < 1000 ? `${Math.round(milliseconds)} ms` : `${(milliseconds / 1000).toFixed(1)} s`;
 
 /** What this browser lacks, as a sentence; or null. */
 function lackOfBrowser() {
-  const lacks = [typeof WebAssembly === 'undefined' && 'WebAssembly', typeof Worker === 'undefined' && 'workers', typeof DecompressionStream === 'undefined' && 'DecompressionStream',
-    typeof CompressionStream === 'undefined' && 'CompressionStream', !CSS.supports('color', 'light-dark(red, red)') && 'light-dark()'].filter(Boolean);
-  return lacks.length ? `This page is a bench for z/OS virtual storage, but this browser lacks ${lacks.join(' and ')}: Chrome 123, Firefox 120 and Safari 17.5 have what it needs.` : null;
+  const lacks = [
+    typeof WebAssembly === 'undefined' && 'WebAssembly', typeof Worker === 'undefined' && 'workers',
+    typeof DecompressionStream === 'undefined' && 'DecompressionStream',
+    typeof CompressionStream === 'undefined' && 'CompressionStream',
+    !CSS.supports('color', 'light-dark(red, red)') && 'light-dark()'
+  ].filter(Boolean);
+  if (!lacks.length) return null;
+  return `This page is a bench for z/OS virtual storage, but this browser lacks ${lacks.join(' and ')}: ` +
+    'Chrome 123, Firefox 120 and Safari 17.5 have what it needs.';
 }
 
 class Bench {
@@ -48,8 +55,11 @@ class Bench {
   }
 
   listen() {
-    const clicks = { open: () => byId('file').click(), 'save-script': () => this.saveScript(), 'save-output': () => this.saveOutput(), 'save-page': () => this.savePage(), copy: () => this.copyLink(),
-      teacher: () => this.teach(!this.isTeaching), help: () => this.help(), stop: () => this.stop(), fold: () => this.fold(true), unfold: () => this.fold(false) };
+    const clicks = {
+      open: () => byId('file').click(), 'save-script': () => this.saveScript(), 'save-output': () => this.saveOutput(),
+      'save-page': () => this.savePage(), copy: () => this.copyLink(), teacher: () => this.teach(!this.isTeaching),
+      help: () => this.help(), stop: () => this.stop(), fold: () => this.fold(true), unfold: () => this.fold(false)
+    };
     for (const [id, act] of Object.entries(clicks)) byId(id).addEventListener('click', act);
     byId('form').addEventListener('submit', event => {
       event.preventDefault();
@@ -94,7 +104,8 @@ class Bench {
 
   /** Takes a script with its options, and runs it. One that is kept nowhere isn't replaced without asking. */
   load({ script, options, name, teacher }, id = null) {
-    if (this.isLost() && !confirm('The script in the editor is kept nowhere. Is it to be replaced?')) return this.listScripts();
+    if (this.isLost() && !confirm('The script in the editor is kept nowhere. Is it to be replaced?'))
+      return this.listScripts();
     const isLesson = id === null && this.examples.get(name)?.script === script;
     this.id = id;
     this.name = !name || !isLesson && this.examples.has(name) ? OWN : name;
@@ -123,8 +134,10 @@ class Bench {
 
   /** Lists one's own scripts and the lessons, and chooses the one that the editor has. */
   listScripts() {
-    const own = keptScripts().map(it => new Option(`${it.name}: ${it.script.trim().split('\n')[0].slice(0, 40)}`, `own ${it.id}`));
-    const lessons = [...this.examples.values()].map(it => new Option(it.title ? `${it.name}: ${it.title}` : it.name, it.name));
+    const front = text => text.trim().split('\n')[0].slice(0, 40);
+    const own = keptScripts().map(it => new Option(`${it.name}: ${front(it.script)}`, `own ${it.id}`));
+    const titled = it => it.title ? `${it.name}: ${it.title}` : it.name;
+    const lessons = [...this.examples.values()].map(it => new Option(titled(it), it.name));
     const groups = [['Your own', own], ['Lessons', lessons]].filter(it => it[1].length);
     const now = new Option(this.id === null ? this.name : `${this.name} (your own)`, '');
     byId('examples').replaceChildren(now, ...groups.map(([label, inner]) => make('optgroup', { label }, ...inner)));
@@ -165,7 +178,8 @@ class Bench {
     this.isUnkept = id !== null && !isKept && !fits;
     window.onbeforeunload = this.isUnkept ? event => event.preventDefault() : null;
     const where = [isKept && 'in this browser', fits && 'in the address'].filter(Boolean).join(' and ');
-    byId('kept').textContent = (where ? `Kept ${where}` : 'Not kept') + (fits || link === null ? '.' : '; the script is too long for the address.');
+    const tail = fits || link === null ? '.' : '; the script is too long for the address.';
+    byId('kept').textContent = (where ? `Kept ${where}` : 'Not kept') + tail;
     byId('kept').classList.toggle('bad', this.isUnkept);
     return { link, fits };
   }
@@ -219,7 +233,9 @@ class Bench {
       else this.note('This link can’t be followed', make('p', {}, `${found.name || OWN}, ${fault}.`));
       return !fault;
     } catch {
-      this.note('This link can’t be read', make('p', {}, 'The address holds something that isn’t a script of this bench, or is too long, perhaps since it was cut short. What this browser has kept is shown in its place.'));
+      this.note('This link can’t be read', make('p', {}, 'The address holds something that isn’t a script of ' +
+        'this bench, or is too long, perhaps since it was cut short. What this browser has kept is shown in its ' +
+        'place.'));
       return false;
     }
   }
@@ -406,14 +422,27 @@ class Bench {
   }
 
   help() {
-    const { commit, kit, program, module, bytes } = this.data.identity, asked = make('pre', { tabindex: 0, 'aria-label': 'The program’s own help' });
-    const rows = { Commit: commit, Kit: kit, 'Program (SHA-256)': program, 'Module (SHA-256)': module, 'Module, bytes': bytes.toLocaleString('en') };
-    this.note('The bench', make('p', {}, 'Ctrl+Enter runs the script. A statement begins behind a blank, and a character in the tinted column, the 72nd, continues it on the next line. Each character is one byte. In the picture ', make('kbd', {}, '?'), ' tells the keys.'),
-      make('p', {}, 'Nothing is loaded, and nothing is sent: the page has no access to the network. Script and options are kept in this browser and in the address.'),
+    const { commit, kit, program, module, bytes } = this.data.identity;
+    const asked = make('pre', { tabindex: 0, 'aria-label': 'The program’s own help' });
+    const rows = {
+      Commit: commit, Kit: kit, 'Program (SHA-256)': program, 'Module (SHA-256)': module,
+      'Module, bytes': bytes.toLocaleString('en')
+    };
+    const first = make(
+      'p', {}, 'Ctrl+Enter runs the script. A statement begins behind a blank, and a character in the tinted column, ' +
+        'the 72nd, continues it on the next line. Each character is one byte. In the picture ', make('kbd', {}, '?'),
+      ' tells the keys.'
+    );
+    this.note(
+      'The bench', first,
+      make('p', {}, 'Nothing is loaded, and nothing is sent: the page has no access to the network. Script and ' +
+        'options are kept in this browser and in the address.'),
       make('h3', {}, 'What runs here'),
-      make('p', {}, 'The functions of this page’s program are those of vsm that were proved at this commit by this kit. To run in a browser they were compiled to WebAssembly; that step, and the browser, are trusted.'),
+      make('p', {}, 'The functions of this page’s program are those of vsm that were proved at this commit by this ' +
+        'kit. To run in a browser they were compiled to WebAssembly; that step, and the browser, are trusted.'),
       make('dl', {}, ...Object.entries(rows).flatMap(([name, value]) => [make('dt', {}, name), make('dd', {}, value)])),
-      make('h3', {}, 'What the program says of itself'), asked);
+      make('h3', {}, 'What the program says of itself'), asked
+    );
     const runner = runnerOf(this.data.worker, this.wasm, ({ kind, output, why }) => {
       if (kind === 'progress') return;
       runner.stop();
@@ -425,8 +454,10 @@ class Bench {
   async copyLink() {
     const { link, fits } = await this.keepNow();
     if (!fits) {
-      const length = link ? `It would have ${link.length.toLocaleString('en')} characters, and a link has ${MOST_LINK.toLocaleString('en')} at most. ` : '';
-      return this.note('The script is too long for a link', make('p', {}, `${length}Save the script as a file in its place.`));
+      const [has, most] = [link?.length ?? 0, MOST_LINK].map(it => it.toLocaleString('en'));
+      const length = link ? `It would have ${has} characters, and a link has ${most} at most. ` : '';
+      return this.note('The script is too long for a link',
+        make('p', {}, `${length}Save the script as a file in its place.`));
     }
     try {
       await navigator.clipboard.writeText(location.href);
@@ -472,9 +503,11 @@ class Bench {
   async savePage() {
     const { mapped, name } = this.result;
     if (!mapped) return this.note('There’s no picture to be saved', make('p', {}, 'Run the script first.'));
-    const told = { ...this.dataOf(this.result), output: base64Of(await gzipped(mapped)) };
+    const output = base64Of(await gzipped(mapped));
+    const told = { ...this.dataOf(this.result), output, program: this.data.identity.line };
     const title = make('title', {}, `${name} · vsm`).outerHTML;
-    const page = this.data.page.replace('<title></title>', () => title).replace('id="data">', () => `id="data">${JSON.stringify(told).replaceAll('<', '\\u003c')}`);
+    const data = `id="data">${JSON.stringify(told).replaceAll('<', '\\u003c')}`;
+    const page = this.data.page.replace('<title></title>', () => title).replace('id="data">', () => data);
     this.save('.html', page, 'text/html');
   }
 }

@@ -10,6 +10,7 @@ from __future__ import annotations
 
 import base64
 import gzip
+import hashlib
 import json
 import sys
 from pathlib import Path
@@ -22,15 +23,19 @@ sys.dont_write_bytecode = True
 from build import BuildFault, build_page, joined_script, lessons  # noqa: E402
 from vsmtools.lines import options_for  # noqa: E402
 
-SHORT = 12  # characters of a commit in the page's last line
+SHORT = 12  # characters of a commit in the page's foot
 
 
 def identity_of(module: Path) -> dict[str, str | int]:
-    """What page/module wrote beside the module, and the line of it that the page shows."""
+    """What page/module wrote beside the module, and the line of it that the page shows; whether the module is the one
+    that it wrote this of is known by its sum."""
     said = json.loads(module.with_suffix(".json").read_text(encoding="utf-8"))
+    found = hashlib.sha256(module.read_bytes()).hexdigest()
     commit = said["commit"].partition(" ")
-    line = f"The program vsm, proved at commit {commit[0][:SHORT]}{commit[1]}{commit[2]} with {said['kit']}."
-    return {**said, "bytes": module.stat().st_size, "line": line}
+    line = f"The program vsm, proved at commit {commit[0][:SHORT]}{commit[1]}{commit[2]} with {said['kit']}"
+    if found != said["module"]:
+        line = "A program that isn't known to be proved"
+    return {**said, "bytes": module.stat().st_size, "line": f"{line}. The SHA-256 of its module is {found}."}
 
 
 def option_words(script: Path) -> list[str]:
@@ -50,7 +55,8 @@ def example(script: Path) -> dict[str, object]:
 def examples() -> list[dict[str, object]]:
     """The lessons in their order, and then what else is there."""
     files = {script.name: script for script in sorted((TOP / "examples").glob("*.vsm"))}
-    return [example(files[name]) for name in [*lessons(), *(it for it in files if it not in lessons())] if name in files]
+    names = [*lessons(), *(it for it in files if it not in lessons())]
+    return [example(files[name]) for name in names if name in files]
 
 
 def bench_page(module: Path) -> str:

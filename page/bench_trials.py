@@ -4,9 +4,9 @@
 Usage: page/bench_trials.py [MODULE.wasm]
     these alone; by default of dist/vsm.wasm. The last line is 'N passed, M failed'.
 
-In node the module has to give each row of tests/rows, script of conformance and example, byte for byte, with its status and
-what it says on standard error; scripts come whole, as a file, and byte by byte. In the browser the bench has
-to give the same for each example, and to do what docs/BENCH-IN-A-BROWSER.md says.
+In node the module has to give each row of tests/rows, script of conformance and example, byte for byte, with
+its status and what it says on standard error; scripts come whole, as a file, and byte by byte. In the browser
+the bench has to give the same for each example, and to do what docs/BENCH-IN-A-BROWSER.md says.
 """
 from __future__ import annotations
 
@@ -15,6 +15,7 @@ import hashlib
 import json
 import os
 import select
+import shutil
 import subprocess
 import sys
 import tempfile
@@ -52,6 +53,7 @@ class Node:
     """The module in one process of node, which runs one job after the other."""
 
     def __init__(self, module: Path, folder: Path) -> None:
+        self.module, self.folder = module, folder
         program = installed("nodejs", ("node", "nodejs"))
         script = folder / "serve.mjs"
         script.write_text(joined_script("module-serve.js"), encoding="utf-8")
@@ -147,7 +149,8 @@ def examples() -> list[tuple[Path, bytes, bytes, int]]:
 def try_examples(node: Node, trials: Trials) -> None:
     for path, script, output, status in examples():
         told = node.run(bench.option_words(path), script, {})
-        trials.want(f"the module at example {path.name}", (told["output"], told["errors"], told["status"]) == (output, b"", status), told)
+        trials.want(f"the module at example {path.name}",
+            (told["output"], told["errors"], told["status"]) == (output, b"", status), told)
 
 
 class BenchPage:
@@ -157,7 +160,10 @@ class BenchPage:
         self.browser, self.address = browser, path.as_uri()
 
     def open(self, link: str = "", ready: str = "") -> None:
-        done = "document.getElementById('result')?.getAttribute('aria-busy') === 'false' && document.getElementById('status').textContent"
+        done = (
+            "document.getElementById('result')?.getAttribute('aria-busy') === 'false' && "
+            "document.getElementById('status').textContent"
+        )
         self.browser.open(self.address + link, ready or done)
         self.browser.settle()
 
@@ -173,7 +179,8 @@ class BenchPage:
 
     def put(self, element: str, value: str, event: str = "input") -> None:
         """Gives a field a value, as if that had been typed."""
-        self.js(f"(it => {{ it.value = {json.dumps(value)}; it.dispatchEvent(new Event('{event}', {{ bubbles: true }})); }})(document.getElementById('{element}'))")
+        told = f"it.value = {json.dumps(value)}; it.dispatchEvent(new Event('{event}', {{ bubbles: true }}));"
+        self.js(f"(it => {{ {told} }})(document.getElementById('{element}'))")
 
     def wait(self, expression: str, seconds: float = SECONDS) -> bool:
         end = time.monotonic() + seconds
@@ -212,14 +219,28 @@ def try_opening(page: BenchPage, trials: Trials) -> None:
     identity = json.loads(page.js("document.getElementById('data').textContent"))["identity"]
     shown = page.text("identity")
     trials.want("the page says commit and kit", identity["commit"][:12] in shown and identity["kit"] in shown, shown)
-    trials.want("each control has a role and a name", not [it for it in page.browser.controls() if not all(it)], page.browser.controls())
-    for name in ("low", "script", "run", "stop", "open", "copy", "teacher", "help", "examples", "save-script", "tab-output"):
+    trials.want("each control has a role and a name", not [it for it in page.browser.controls() if not all(it)],
+        page.browser.controls())
+    for name in ("low", "script", "run", "stop", "open", "copy", "teacher", "help", "examples", "save-script",
+        "tab-output"):
         trials.want(f"there is the control {name}", page.js(f"Boolean(document.getElementById('{name}'))"))
 
 
 # Texts, and frames of controls, whose contrast is too small.
 FRAMED = ".mine :is(button, select, input):enabled:not([role=tab], .chief)"
 PALE = probed(f"pale(document.getElementById('bench'), '{FRAMED}')")
+
+
+def try_foot(page: BenchPage, node: Node, trials: Trials) -> None:
+    """The foot says whether the module is of a proved program: the one that page/module wrote of, by its sum."""
+    found = hashlib.sha256(node.module.read_bytes()).hexdigest()
+    proved = page.text("identity").startswith("The program vsm, proved at commit ")
+    trials.want("the foot has the module's sum", proved and found in page.text("identity"), page.text("identity"))
+    other = node.folder / "other.wasm"
+    other.write_bytes(node.module.read_bytes() + b"\0")
+    shutil.copy(node.module.with_suffix(".json"), other.with_suffix(".json"))
+    line = bench.identity_of(other)["line"]
+    trials.want("of another module it says no such thing", str(line).startswith("A program that isn't known"), line)
 
 
 def try_looks(page: BenchPage, trials: Trials) -> None:
@@ -234,7 +255,9 @@ def try_looks(page: BenchPage, trials: Trials) -> None:
             time.sleep(0.4)
             found = page.js(PALE)
             trials.want(f"the contrast {what}, {scheme}", not found, found)
-        trials.want("the help tells the program's own", page.wait("document.querySelector('#note pre').textContent.includes('--residence <MODE>')", 10))
+            trials.equal(f"letters that don't follow the browser's, {what}", page.js(probed("letters()")), [])
+        trials.want("the help tells the program's own",
+            page.wait("document.querySelector('#note pre').textContent.includes('--residence <MODE>')", 10))
         page.js("document.getElementById('note').close()")
         page.run(b" MAP\n", low="x")
         found = page.js(PALE)
@@ -244,7 +267,9 @@ def try_looks(page: BenchPage, trials: Trials) -> None:
     for width in (420, 900, 1440):
         page.browser.size(width, 900)
         page.browser.settle()
-        trials.want(f"{width} pixels hold the page's width", page.js("document.documentElement.scrollWidth <= innerWidth"), page.js("document.documentElement.scrollWidth"))
+        trials.want(f"{width} pixels hold the page's width",
+            page.js("document.documentElement.scrollWidth <= innerWidth"),
+            page.js("document.documentElement.scrollWidth"))
 
 
 def try_each_example(page: BenchPage, trials: Trials) -> None:
@@ -252,11 +277,14 @@ def try_each_example(page: BenchPage, trials: Trials) -> None:
         name = path.name
         page.put("examples", name, "change")
         page.ended()
-        trials.want(f"the page gives example {name}", (page.output(), page.status(), page.text("errors")) == (output, status, ""), page.text("status"))
+        trials.want(f"the page gives example {name}",
+            (page.output(), page.status(), page.text("errors")) == (output, status, ""), page.text("status"))
         last = [line[8:].decode() for line in output.split(b"\n") if line and line[:1] != b" "][-1]
         shown = page.wait(f"document.querySelector('#picture .said strong')?.textContent === {json.dumps(last)}", 10)
         trials.want(f"the picture of example {name} shows the last reply", shown, last)
-    trials.want("no request leaves the page", not [it for it in page.browser.requests() if not it.startswith((page.address, "blob:null/"))], page.browser.requests())
+    trials.want("no request leaves the page",
+        not [it for it in page.browser.requests() if not it.startswith((page.address, "blob:null/"))],
+        page.browser.requests())
     trials.want("nothing is said on the console", not page.browser.messages(), page.browser.messages())
 
 
@@ -274,23 +302,28 @@ def try_odd_scripts(page: BenchPage, node: Node, trials: Trials) -> None:
     for what, script in ODD_SCRIPTS.items():
         page.run(script)
         told = node.run([], script, {})
-        trials.want(f"a script {what}", (page.output(), page.status()) == (told["output"], told["status"]), page.text("status"))
+        trials.want(f"a script {what}", (page.output(), page.status()) == (told["output"], told["status"]),
+            page.text("status"))
     trials.want("odd scripts say nothing on the console", not page.browser.messages(), page.browser.messages())
 
 
 def try_command_line(page: BenchPage, node: Node, trials: Trials) -> None:
-    wrong = [("low", "6", "Low K is a number from 4 to 16360, a multiple of 4."), ("low", "x", "Low K"), ("low", "-4", "Low K"),
+    wrong = [("low", "6", "Low K is a number from 4 to 16360, a multiple of 4."), ("low", "x", "Low K"),
+        ("low", "-4", "Low K"),
              ("high", "65", "High K is a number from 4 to 1572864, a multiple of 4."), ("high", "4294967296", "High K"),
              ("history", "0", "History is a number from 1 to 65536.")]
     for name, value, why in wrong:
         page.run(b" MAP\n", **{name: value})
         said = [page.text(it) for it in ("errors", "wrong", "status")]
-        trials.want(f"the option {name} {value} is refused with a sentence", said[0].startswith(why) and said[1:] == [said[0], "No run"], said)
-        trials.equal("its field is marked", page.js("[...document.querySelectorAll('[aria-invalid=true]')].map(it => it.id)"), [name])
+        trials.want(f"the option {name} {value} is refused with a sentence",
+            said[0].startswith(why) and said[1:] == [said[0], "No run"], said)
+        trials.equal("its field is marked",
+            page.js("[...document.querySelectorAll('[aria-invalid=true]')].map(it => it.id)"), [name])
         trials.want("vsm refuses it too", node.run([f"--{name}={value}"], b" MAP\n", {})["status"] == 16)
     for name, value in (("low", "+16"), ("low", "16360"), ("high", "1572864"), ("history", "65536")):
         page.run(b" BACK 0\n", **{name: value})
-        trials.want(f"the option {name} {value} is taken", page.output() == b"0000001 KEPT=0\n", (page.text("errors"), page.text("status")))
+        trials.want(f"the option {name} {value} is taken", page.output() == b"0000001 KEPT=0\n",
+            (page.text("errors"), page.text("status")))
     page.run(b" STORAGE OBTAIN,LENGTH=8\n", low="8", high="8", residence="31", history="3")
     told = node.run("--low 8 --high 8 --residence 31 --history 3".split(), b" STORAGE OBTAIN,LENGTH=8\n", {})
     trials.want("all options together", (page.output(), page.text("errors")) == (told["output"], ""), page.output())
@@ -304,7 +337,8 @@ def try_keys(page: BenchPage, trials: Trials) -> None:
     trials.want("Ctrl+Enter runs the script", page.output() == b"0000001 KEPT=0\n", page.output())
     page.js("document.getElementById('tab-picture').click(); document.getElementById('tab-picture').focus()")
     page.browser.key("ArrowRight")
-    trials.want("an arrow turns to the other tab", page.js("!document.getElementById('output').hidden && document.activeElement.id === 'tab-output'"))
+    trials.want("an arrow turns to the other tab",
+        page.js("!document.getElementById('output').hidden && document.activeElement.id === 'tab-output'"))
     page.browser.key("ArrowLeft")
     page.click("fold")
     trials.want("the editor can be hidden", page.js("document.getElementById('form').offsetParent === null"))
@@ -332,8 +366,10 @@ def try_stop(page: BenchPage, trials: Trials) -> None:
     page.put("low", "16000")
     page.put("script", long_script().decode())
     page.click("run")
-    trials.want("a run tells how far it is", page.wait("/\\d%/.test(document.getElementById('far').textContent)"), page.text("far"))
-    trials.want("Stop can be pressed while it runs", page.js("!document.getElementById('stop').disabled && !document.getElementById('progress').hidden"))
+    trials.want("a run tells how far it is", page.wait("/\\d%/.test(document.getElementById('far').textContent)"),
+        page.text("far"))
+    trials.want("Stop can be pressed while it runs",
+        page.js("!document.getElementById('stop').disabled && !document.getElementById('progress').hidden"))
     page.click("stop")
     trials.want("Stop ends a run", page.ended(2) and page.text("status").startswith("Stopped"), page.text("status"))
     end = time.monotonic() + WORKER_SECONDS
@@ -356,17 +392,23 @@ def try_link(page: BenchPage, trials: Trials) -> None:
     trials.want("a link brings script and options back", held == [script.decode("latin-1"), "8", "", "31", "7"], held)
     packed = zlib.compress(b"\n" * 1_000_000, 9, -zlib.MAX_WBITS)
     page.open("#script=" + base64.urlsafe_b64encode(packed).decode().rstrip("="))
-    trials.want("a link's script of a million lines is refused in words", page.js("document.getElementById('note').open") and "1,000,000 lines" in page.text("note"), page.text("note"))
+    trials.want("a link's script of a million lines is refused in words",
+        page.js("document.getElementById('note').open") and "1,000,000 lines" in page.text("note"), page.text("note"))
     bomb = zlib.compress(b"\n" * 100_000_000, 9, -zlib.MAX_WBITS)
     start = time.monotonic()
     page.open("#script=" + base64.urlsafe_b64encode(bomb).decode().rstrip("="))
-    trials.want("a link that is too long isn't unpacked", page.js("document.getElementById('note').open") and time.monotonic() - start < 20, time.monotonic() - start)
-    page.open("#script=" + base64.urlsafe_b64encode(zlib.compress(b"\n" * 20_000_000, 9, -zlib.MAX_WBITS)).decode().rstrip("="))
-    trials.want("one that unpacks to too much is refused in words", page.js("document.getElementById('note').open") and "lines" in page.text("note"), page.text("note"))
+    trials.want("a link that is too long isn't unpacked",
+        page.js("document.getElementById('note').open") and time.monotonic() - start < 20, time.monotonic() - start)
+    page.open("#script="
+        + base64.urlsafe_b64encode(zlib.compress(b"\n" * 20_000_000, 9, -zlib.MAX_WBITS)).decode().rstrip("="))
+    trials.want("one that unpacks to too much is refused in words",
+        page.js("document.getElementById('note').open") and "lines" in page.text("note"), page.text("note"))
     page.open("#script=" + "A" * 40)
-    trials.want("a link that can't be read is said", page.js("document.getElementById('note').open") and "can’t be read" in page.text("note"), page.text("note"))
+    trials.want("a link that can't be read is said",
+        page.js("document.getElementById('note').open") and "can’t be read" in page.text("note"), page.text("note"))
     page.open("#script=%FF%00!")
-    trials.want("so is one of other characters", page.js("document.getElementById('note').open") and page.text("status") != "", page.text("note"))
+    trials.want("so is one of other characters",
+        page.js("document.getElementById('note').open") and page.text("status") != "", page.text("note"))
 
 
 def try_keeping(page: BenchPage, trials: Trials) -> None:
@@ -381,30 +423,39 @@ def try_keeping(page: BenchPage, trials: Trials) -> None:
     page.put("examples", "overlay.vsm", "change")
     page.ended()
     page.open()
-    trials.want("choosing a lesson loses no script of one's own", page.js("document.getElementById('script').value").startswith("* kept"))
-    page.js("localStorage.setItem('nilbozad.own', JSON.stringify([{ script: ' BACK 0', id: 'other window' }, ...JSON.parse(localStorage.getItem('nilbozad.own'))]))")
+    trials.want("choosing a lesson loses no script of one's own",
+        page.js("document.getElementById('script').value").startswith("* kept"))
+    other = "{ script: ' BACK 0', id: 'other window' }, ...JSON.parse(localStorage.getItem('nilbozad.own'))"
+    page.js(f"localStorage.setItem('nilbozad.own', JSON.stringify([{other}]))")
     page.put("script", "* kept\n BACK 0\n* more")
     page.wait("JSON.parse(localStorage.getItem('nilbozad.own'))[0].script.endsWith('more')")
-    trials.equal("nor does another window", page.js("JSON.parse(localStorage.getItem('nilbozad.own')).map(it => it.script)"), ["* kept\n BACK 0\n* more", " BACK 0"])
-    page.open("#script=" + base64.urlsafe_b64encode(zlib.compress(b" MAP  theirs", 9, -zlib.MAX_WBITS)).decode().rstrip("="))
+    trials.equal("nor does another window",
+        page.js("JSON.parse(localStorage.getItem('nilbozad.own')).map(it => it.script)"),
+        ["* kept\n BACK 0\n* more", " BACK 0"])
+    page.open("#script="
+        + base64.urlsafe_b64encode(zlib.compress(b" MAP  theirs", 9, -zlib.MAX_WBITS)).decode().rstrip("="))
     trials.equal("a link is followed", page.js("document.getElementById('script').value"), " MAP  theirs")
     page.open()
     trials.want("nor does a link", page.js("document.getElementById('script').value").endswith("more"))
     page.js("localStorage.setItem('nilbozad.own', '[{\"script\":7}, null]')")
     page.open()
-    trials.want("where what was kept is no script the first example stands there", page.js("document.getElementById('examples').value") == "first-steps.vsm")
+    trials.want("where what was kept is no script the first example stands there",
+        page.js("document.getElementById('examples').value") == "first-steps.vsm")
 
 
 def try_limits(page: BenchPage, trials: Trials) -> None:
     page.run(b"".join(b"* %x\n" % (n * n * 0x9e3779b97f4a7c15 % (1 << 89)) for n in range(3000)))
-    trials.want("that a script is too long for the address is said", page.wait("document.getElementById('kept').textContent.includes('too long')", 10), page.text("kept"))
+    trials.want("that a script is too long for the address is said",
+        page.wait("document.getElementById('kept').textContent.includes('too long')", 10), page.text("kept"))
     trials.want("and the address holds none of it", page.js("location.hash.length") < 2)
     page.click("copy")
-    trials.want("Copy link says it too", page.wait("document.getElementById('note').open", 10) and "too long" in page.text("note"), page.text("note"))
+    trials.want("Copy link says it too",
+        page.wait("document.getElementById('note').open", 10) and "too long" in page.text("note"), page.text("note"))
     page.js("document.getElementById('note').close()")
     page.put("script", " BACK 0\n* 12 €\n")
     page.click("run")
-    trials.want("a character that isn't a byte is refused with its place", "line 2, column 6" in page.text("errors"), page.text("errors"))
+    trials.want("a character that isn't a byte is refused with its place", "line 2, column 6" in page.text("errors"),
+        page.text("errors"))
     page.put("script", " BACK 0\n")
     page.click("run")
     page.ended()
@@ -412,7 +463,8 @@ def try_limits(page: BenchPage, trials: Trials) -> None:
 
 
 OPENED = {"crlf.vsm": b" MAP\r\n BACK 0\r\n", "high.vsm": b"* \xe4\x80\n BACK 0", "low.vsm": b"*! --low 32\n MAP\n"}
-REFUSED = {"return.vsm": (b" MAP\n BACK\r 0\n", "line 2, column 6"), "last.vsm": (b" MAP\r", "line 1, column 5"), "many.vsm": (b"\n" * 1_000_000, "1,000,000 lines")}
+REFUSED = {"return.vsm": (b" MAP\n BACK\r 0\n", "line 2, column 6"), "last.vsm": (b" MAP\r", "line 1, column 5"),
+    "many.vsm": (b"\n" * 1_000_000, "1,000,000 lines")}
 
 
 def try_files(page: BenchPage, folder: Path, trials: Trials) -> None:
@@ -434,7 +486,8 @@ def try_files(page: BenchPage, folder: Path, trials: Trials) -> None:
     for name, data in OPENED.items():
         opened(name, data)
         wanted = data.decode("latin-1").replace("\r\n", "\n")
-        trials.want(f"the file {name} is opened", page.wait(f"document.getElementById('script').value === {json.dumps(wanted)}", 20))
+        trials.want(f"the file {name} is opened",
+            page.wait(f"document.getElementById('script').value === {json.dumps(wanted)}", 20))
         trials.want("and its name told", name in page.js("document.getElementById('examples').selectedOptions[0].text"))
         page.ended()
     trials.equal("options of its first comment are taken", page.js("document.getElementById('low').value"), "32")
@@ -453,9 +506,11 @@ def try_beside(page: BenchPage, trials: Trials) -> None:
     replies = page.js("[...document.querySelectorAll('#replies > div')].slice(0, 10).map(it => it.textContent)")
     wanted = [line[8:].decode() for line in (TOP / "examples" / "overlay.out").read_bytes().split(b"\n") if line]
     trials.equal("the replies beside the editor", replies, wanted)
-    cut = page.js("[...document.querySelectorAll('#replies > div')].filter(it => it.scrollWidth > it.clientWidth).length")
+    wider = "it => it.scrollWidth > it.clientWidth"
+    cut = page.js(f"[...document.querySelectorAll('#replies > div')].filter({wider}).length")
     trials.equal("replies that are cut", cut, 0)
-    trials.want("72 columns are in sight", page.js("document.getElementById('script').scrollWidth <= document.getElementById('script').clientWidth"))
+    trials.want("72 columns are in sight",
+        page.js("document.getElementById('script').scrollWidth <= document.getElementById('script').clientWidth"))
     trials.want("there's one script", not page.js("document.querySelector('#picture .script').checkVisibility()"))
     page.js("document.querySelectorAll('#replies > div')[3].click()")
     page.browser.settle()
@@ -463,14 +518,17 @@ def try_beside(page: BenchPage, trials: Trials) -> None:
     trials.equal("its line is marked", page.js("document.getElementById('now').style.top"), "70px")
     text = (TOP / "examples" / "overlay.vsm").read_text()
     page.put("script", text.replace("PEEK SECOND,4 ", "PEEK SECOND,8 ", 1))
-    trials.want("an edit marks the run as old", page.js("document.getElementById('result').classList.contains('old')") and "Edited" in page.text("status"), page.text("status"))
+    trials.want("an edit marks the run as old",
+        page.js("document.getElementById('result').classList.contains('old')") and "Edited" in page.text("status"),
+        page.text("status"))
     replies = page.js("[...document.querySelectorAll('#replies > div')].slice(0, 10).map(it => it.textContent.trim())")
     trials.equal("replies stay before the edit, and none after it", replies, [*wanted[:4], *[""] * 6])
     page.put("script", text)
     trials.want("an edit that is taken back doesn't", "Exit status" in page.text("status"), page.text("status"))
     page.click("run")
     page.ended()
-    trials.want("a run keeps the place", page.wait("document.querySelector('.where')?.textContent.startsWith('4 of 10')", 10), shown_step(page))
+    trials.want("a run keeps the place",
+        page.wait("document.querySelector('.where')?.textContent.startsWith('4 of 10')", 10), shown_step(page))
     order = page.js("[...document.querySelectorAll('#examples optgroup[label=Lessons] option')].map(it => it.value)")
     trials.equal("the lessons come in their order", order, list(bench.lessons()))
 
@@ -482,25 +540,32 @@ def try_teacher(page: BenchPage, trials: Trials) -> None:
     page.wait("document.querySelector('#output .asked')")
     page.wait("document.querySelector('#picture .question')", 20)
     seen = page.js("document.body.innerText + document.getElementById('output').textContent")
-    trials.want("nothing tells an answer: no status, editor, remark or comment", not any(it in seen for it in ("Exit status", "none is free", "there is none", "handed out")), seen)
+    trials.want("nothing tells an answer: no status, editor, remark or comment",
+        not any(it in seen for it in ("Exit status", "none is free", "there is none", "handed out")), seen)
     trials.want("the lesson's question is asked", "Which address does a GET give" in seen, seen)
-    hidden = page.js("[document.getElementById('output').textContent, document.getElementById('picture').textContent].filter(it => /RC=0|ABEND/.test(it)).length")
+    texts = "['output', 'picture'].map(it => document.getElementById(it).textContent)"
+    hidden = page.js(f"{texts}.filter(it => /RC=0|ABEND/.test(it)).length")
     trials.want("in the teacher's mode no answer is shown", hidden == 0, hidden)
     count = page.js("document.querySelectorAll('#output .answer button').length")
     page.js("document.querySelector('#output .answer button').click()")
-    trials.want("an answer comes when it's asked for, and no other", page.js("document.querySelector('#output .answer').textContent") == "RC=0 A=00006000 L=00000048"
+    trials.want("an answer comes when it's asked for, and no other",
+        page.js("document.querySelector('#output .answer').textContent") == "RC=0 A=00006000 L=00000048"
                and page.js("document.querySelectorAll('#output .answer button').length") == count - 1)
     page.put("examples", "first-steps.vsm", "change")
     page.ended()
-    trials.want("the next run hides its answers too", page.js("document.querySelectorAll('#output .answer button').length") == 9)
+    trials.want("the next run hides its answers too",
+        page.js("document.querySelectorAll('#output .answer button').length") == 9)
     page.js("document.activeElement.blur()")
     page.browser.key("t")
-    trials.want("the view's key asks first", page.js("document.getElementById('teacher').getAttribute('aria-checked')") == "true")
+    trials.want("the view's key asks first",
+        page.js("document.getElementById('teacher').getAttribute('aria-checked')") == "true")
     page.js("document.querySelector('#picture dialog .all').click()")
-    trials.want("the view's key switches it off", page.wait("document.getElementById('teacher').getAttribute('aria-checked') === 'false'", 5))
+    trials.want("the view's key switches it off",
+        page.wait("document.getElementById('teacher').getAttribute('aria-checked') === 'false'", 5))
     page.click("teacher")
     page.click("teacher")
-    trials.want("switched off, all is shown", page.wait("document.querySelector('#output .text')?.textContent.includes('RC=0')", 10))
+    trials.want("switched off, all is shown",
+        page.wait("document.querySelector('#output .text')?.textContent.includes('RC=0')", 10))
 
 
 def try_saving(page: BenchPage, folder: Path, trials: Trials) -> None:
@@ -509,7 +574,8 @@ def try_saving(page: BenchPage, folder: Path, trials: Trials) -> None:
     name = path.name
     page.put("examples", name, "change")
     page.ended()
-    for button, ending, wanted in (("save-script", ".vsm", script), ("save-output", ".out", output), ("save-page", ".html", None)):
+    for button, ending, wanted in (("save-script", ".vsm", script), ("save-output", ".out", output),
+        ("save-page", ".html", None)):
         page.click(button)
         saved = (folder / name).with_suffix(ending)
         end = time.monotonic() + 20
@@ -518,14 +584,18 @@ def try_saving(page: BenchPage, folder: Path, trials: Trials) -> None:
         time.sleep(0.2)
         got = saved.read_bytes() if saved.exists() else b""
         trials.want(f"{button} saves a file", got == wanted if wanted is not None else b"<title>" in got, got[:80])
+    identity = page.text("identity")
     page.browser.open(saved.as_uri(), "document.querySelector('.said strong')")
-    trials.want("the saved page is a page of its own", page.js("document.title") == f"{name} · vsm" and not page.browser.messages(), page.browser.messages())
+    trials.equal("the saved page's foot", page.js("document.querySelector('footer').textContent"), identity)
+    trials.want("the saved page is a page of its own",
+        page.js("document.title") == f"{name} · vsm" and not page.browser.messages(), page.browser.messages())
 
 
 def try_lacks(page: BenchPage, trials: Trials) -> None:
     """A browser without what is needed says so."""
     for lack in LACKS:
-        script = page.browser.call("Page.addScriptToEvaluateOnNewDocument", source=f"delete globalThis.{lack}")["identifier"]
+        script = page.browser.call("Page.addScriptToEvaluateOnNewDocument",
+            source=f"delete globalThis.{lack}")["identifier"]
         page.open(ready="document.querySelector('#bench .sentence[role=alert]')")
         said = page.text("bench")
         trials.want(f"without {lack} there's a sentence", lack.lower()[:6] in said.lower() and said.endswith("."), said)
@@ -547,7 +617,7 @@ def try_lacks(page: BenchPage, trials: Trials) -> None:
 
 
 def try_no_network(page: BenchPage, trials: Trials) -> None:
-    """The policy refuses what a script of the page would ask for; that is said on the console, so it's looked at last."""
+    """The policy refuses what a script of the page would ask for; that is said on the console, so it's tried last."""
     page.open()
     refused = page.js("""new Promise(done => {
       addEventListener('securitypolicyviolation', event => done(event.effectiveDirective));
@@ -563,17 +633,20 @@ def try_no_network(page: BenchPage, trials: Trials) -> None:
       setTimeout(() => done('nothing'), 500);
     })""")
     trials.want("and a form that is sent", refused == "form-action", refused)
-    page.js("(it => { it.textContent = 'window.isRun = true'; document.body.append(it); })(document.createElement('script'))")
+    added = "it.textContent = 'window.isRun = true'; document.body.append(it);"
+    page.js(f"(it => {{ {added} }})(document.createElement('script'))")
     trials.want("and a script that isn't the page's", not page.js("window.isRun"))
 
 
 def try_page(page: BenchPage, node: Node, folder: Path, trials: Trials) -> None:
     parts: list[Callable[[], None]] = [
-        lambda: try_opening(page, trials), lambda: try_looks(page, trials), lambda: try_each_example(page, trials),
-        lambda: try_odd_scripts(page, node, trials), lambda: try_command_line(page, node, trials), lambda: try_keys(page, trials),
-        lambda: try_stop(page, trials), lambda: try_link(page, trials), lambda: try_keeping(page, trials),
-        lambda: try_limits(page, trials), lambda: try_files(page, folder, trials), lambda: try_beside(page, trials), lambda: try_teacher(page, trials),
-        lambda: try_saving(page, folder, trials), lambda: try_lacks(page, trials), lambda: try_no_network(page, trials)]
+        lambda: try_opening(page, trials), lambda: try_foot(page, node, trials), lambda: try_looks(page, trials),
+        lambda: try_each_example(page, trials), lambda: try_odd_scripts(page, node, trials),
+        lambda: try_command_line(page, node, trials), lambda: try_keys(page, trials), lambda: try_stop(page, trials),
+        lambda: try_link(page, trials), lambda: try_keeping(page, trials), lambda: try_limits(page, trials),
+        lambda: try_files(page, folder, trials), lambda: try_beside(page, trials), lambda: try_teacher(page, trials),
+        lambda: try_saving(page, folder, trials), lambda: try_lacks(page, trials),
+        lambda: try_no_network(page, trials)]
     for part in parts:
         try:
             part()
@@ -604,8 +677,10 @@ def try_all(trials: Trials, browser: Browser, program: str) -> None:
         trials.want("the module is there: page/module makes it", False)
         return
     said = json.loads(MODULE.with_suffix(".json").read_text(encoding="utf-8"))
-    trials.equal("the module is of the program", said["program"], hashlib.sha256(Path(program).read_bytes()).hexdigest())
-    trials.equal("the module is the one that page/module made", hashlib.sha256(MODULE.read_bytes()).hexdigest(), said["module"])
+    trials.equal("the module is of the program", said["program"],
+        hashlib.sha256(Path(program).read_bytes()).hexdigest())
+    trials.equal("the module is the one that page/module made", hashlib.sha256(MODULE.read_bytes()).hexdigest(),
+        said["module"])
     try:
         try_module(MODULE, browser, trials)
     except BuildFault as fault:

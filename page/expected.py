@@ -61,7 +61,8 @@ class Page:
         if any(at == step for at, _, _ in self.data.get("bytes", [])):
             return True
         maps = self.answers[self.skipped :: 2]
-        before, after = ([line for line in maps[min(at, len(maps) - 1)].rest if " HISTORY " not in line] for at in (step - 1, step))
+        rests = [maps[min(at, len(maps) - 1)].rest for at in (step - 1, step)]
+        before, after = ([line for line in rest if " HISTORY " not in line] for rest in rests)
         return before != after
 
     def answers_to(self, step: int) -> list[Answer]:

@@ -25,7 +25,8 @@ const TEXTS = [
 
 /** Whether keys of one character act: who speaks to the browser may want none. */
 const lettersSwitch = view => make(
-  'label', {}, make('input', { type: 'checkbox', checked: true, onchange: event => { view.hasLetters = event.target.checked; } }),
+  'label', {},
+  make('input', { type: 'checkbox', checked: true, onchange: event => { view.hasLetters = event.target.checked; } }),
   ' Keys of one character (T ? [ ]) act'
 );
 
@@ -37,7 +38,8 @@ export function helpDialog(view) {
   );
   return make(
     'dialog', { 'aria-labelledby': title.id }, title, make('dl', {}, ...keys),
-    make('p', {}, lettersSwitch(view)), ...TEXTS.map(it => make('p', {}, it)), make('form', { method: 'dialog' }, make('button', {}, 'Close'))
+    make('p', {}, lettersSwitch(view)), ...TEXTS.map(it => make('p', {}, it)),
+    make('form', { method: 'dialog' }, make('button', {}, 'Close'))
   );
 }
 

@@ -160,6 +160,7 @@ u128 __multi3(u128 left, u128 right) {
   u64 low = (p & mask) * (q & mask), one = (p & mask) * (q >> 32), other = (p >> 32) * (q & mask);
   u64 middle = (low >> 32) + (one & mask) + (other & mask);
   product.half.low = (low & mask) | middle << 32;
-  product.half.high = (p >> 32) * (q >> 32) + (one >> 32) + (other >> 32) + (middle >> 32) + a.half.high * q + p * b.half.high;
+  product.half.high = (p >> 32) * (q >> 32) + (one >> 32) + (other >> 32) + (middle >> 32) + a.half.high * q +
+                      p * b.half.high;
   return product.whole;
 }

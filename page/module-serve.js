@@ -30,7 +30,8 @@ function done({ words, script, files, slowly }) {
     },
   };
   const status = runProgram(program, words.map(it => Buffer.from(it, 'base64')), streams);
-  return { status, output: Buffer.concat(written[1]).toString('base64'), errors: Buffer.concat(written[2]).toString('base64'), read: at[0] };
+  return { status, output: Buffer.concat(written[1]).toString('base64'),
+    errors: Buffer.concat(written[2]).toString('base64'), read: at[0] };
 }
 
 for await (const line of readline.createInterface({ input: process.stdin })) {

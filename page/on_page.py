@@ -80,7 +80,8 @@ def try_storage(trials: Trials, page: Page, step: int, drawn: dict[str, Any]) ->
     trials.equal(f"step {step}: the lines between cells", by_page(strips, "ofcells"), cells)
     trials.want(
         f"step {step}: what is granted has one outline in a page, of an area in two rows' ends two",
-        all(count == 1 for where, count in drawn["outlines"] if where) and all(count <= 2 for _, count in drawn["outlines"]),
+        all(count == 1 for where, count in drawn["outlines"] if where)
+        and all(count <= 2 for _, count in drawn["outlines"]),
         drawn["outlines"],
     )
     chosen = int(drawn["chosen"]) if drawn["chosen"] else -1
@@ -98,7 +99,8 @@ def try_storage(trials: Trials, page: Page, step: int, drawn: dict[str, Any]) ->
         wanted_by = [[at, page.line_of(granted[k])] for at, k in whose if k < len(granted)]
         trials.equal(f"step {step}: which lines obtained its parts", drawn["by"], wanted_by)
         areas = [part for part in edges[chosen] if part * UNIT % PAGE]
-        trials.want(f"step {step}: each part says its line", len(drawn["by"]) >= len(areas) - len(cells[chosen]) or state.cell_pools)
+        trials.want(f"step {step}: each part says its line",
+            len(drawn["by"]) >= len(areas) - len(cells[chosen]) or state.cell_pools)
         trials.equal(f"step {step}: the bytes of the chosen page", drawn["dump"], stored_in(page, step, chosen))
         wide = cell_edges(state, chosen, ROWS)
         trials.equal(f"step {step}: its lines between cells", places(lens["ofcells"], WIDE), wide)
@@ -220,7 +222,8 @@ def try_play_and_help(trials: Trials, browser: Browser, page: Page) -> None:
     press(browser, "dialog input")
     browser.key("Escape", windowsVirtualKeyCode=27)
     browser.key("t")
-    trials.equal("keys of one character can be switched off", attribute_of(browser, ".teacher", "aria-checked"), "false")
+    trials.equal("keys of one character can be switched off", attribute_of(browser, ".teacher", "aria-checked"),
+        "false")
     browser.evaluate("document.querySelector('dialog').showModal()")
     press(browser, "dialog input")
     browser.key("Escape", windowsVirtualKeyCode=27)
@@ -330,6 +333,7 @@ def try_themes(trials: Trials, browser: Browser) -> None:
 
 def try_sizes(trials: Trials, browser: Browser) -> None:
     """Printed, and of several widths."""
+    trials.equal("letters that don't follow the browser's", browser.evaluate(probed("letters()")), [])
     browser.media("print")
     parts = [".buttons", ".time", ".script", ".teacher"]
     trials.equal("print: no controls", browser.evaluate(probed(f"visible({parts})")), [])
@@ -347,7 +351,8 @@ def try_sizes(trials: Trials, browser: Browser) -> None:
             at = step_of(browser)
             for key in ("Home", "PageDown", " "):
                 browser.key(key)
-                trials.equal(f"{width} wide: where the page is scrolled, the key '{key}' doesn't step", step_of(browser), at)
+                trials.equal(f"{width} wide: where the page is scrolled, the key '{key}' doesn't step",
+                    step_of(browser), at)
     browser.size(1440, 900)
 
 
@@ -375,6 +380,7 @@ def try_page(trials: Trials, browser: Browser, path: Path, keys: bool = True, lo
     trials.equal(
         "how many statements there are", int(attribute_of(browser, ".time input", "max")), page.steps
     )
+    trials.equal("the foot says which program it was", text_of(browser, "footer"), page.data.get("program"))
     browser.key("End")
     if page.steps:
         trials.equal("the last statement's reply", text_of(browser, ".said strong"), page.shown[-1].text)

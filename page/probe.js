@@ -30,7 +30,8 @@ const probe = {
       pages: Object.fromEntries(rows.map(row => [row.dataset.page, probe.drawing(row.querySelector('svg'))])),
       outlines: [...document.querySelectorAll('svg .granted:not(.below)')]
         .map(it => [it.closest('.page')?.dataset.page ?? null, it.getAttribute('d').split('M').length - 1]),
-      by: [...document.querySelectorAll('.lens li')].filter(it => it.querySelector('.by') && !it.textContent.includes('cell'))
+      by: [...document.querySelectorAll('.lens li')]
+        .filter(it => it.querySelector('.by') && !it.textContent.includes('cell'))
         .map(it => [parseInt(it.textContent.slice(0, 8), 16), +it.querySelector('.by').textContent.slice(8)]),
       dump: [...document.querySelectorAll('.dump tr')].filter(it => !it.textContent.startsWith('before'))
         .map(it => [parseInt(it.cells[0].textContent, 16), it.cells[1].textContent.replaceAll(' ', '')]),
@@ -178,6 +179,17 @@ const probe = {
 
   /** Which of these can be seen. */
   visible: parts => parts.filter(it => document.querySelector(it).checkVisibility()),
+
+  /** What has letters that stay as large as they are where the browser's own become twice as large. */
+  letters() {
+    const shown = [...document.body.querySelectorAll('*')]
+      .filter(it => it.checkVisibility() && (it.textContent.trim() || it.matches('textarea, input[inputmode]')));
+    const sizes = () => shown.map(it => parseFloat(getComputedStyle(it).fontSize)), before = sizes();
+    document.documentElement.style.fontSize = '200%';
+    const after = sizes();
+    document.documentElement.style.fontSize = '';
+    return [...new Set(shown.filter((_, k) => after[k] < 1.9 * before[k]).map(it => it.className || it.localName))];
+  },
 
   /** What has more than it shows, upright. */
   cut: () => [...document.querySelectorAll('.columns, .storage, .side, .said, .regions')]

@@ -55,7 +55,8 @@ export function saidPart(view) {
   function warning() {
     const { kept, state } = view.moment;
     return kept === state.kept ? [] : [make(
-      'p', { class: 'refused' }, `This page counts ${count(kept, 'kept change')} and vsm ${count(state.kept, 'kept change')}: ` +
+      'p', { class: 'refused' },
+        `This page counts ${count(kept, 'kept change')} and vsm ${count(state.kept, 'kept change')}: ` +
         'it doesn’t know all answers of this vsm, so what is undone, and which line obtained an area, may be wrong.'
     )];
   }

@@ -44,7 +44,8 @@ function ticksOf(run, told) {
     above the 16 MB line. */
 function curvesOf(run, told) {
   const svg = make('svg', {
-    class: 'ticks curves', preserveAspectRatio: 'none', viewBox: `0 0 ${Math.max(1, run.steps)} 1`, 'aria-hidden': 'true'
+    class: 'ticks curves', preserveAspectRatio: 'none', viewBox: `0 0 ${Math.max(1, run.steps)} 1`,
+      'aria-hidden': 'true'
   });
   const each = Math.max(1, Math.ceil(told / MOST_POINTS)), steps = [];
   for (let step = 0; step < told; step += each) steps.push(step);

@@ -3,6 +3,7 @@ from __future__ import annotations
 
 import base64
 import gzip
+import hashlib
 import random
 import re
 import subprocess
@@ -210,6 +211,10 @@ def try_all(trials: Trials, browser: Browser, program: str) -> None:
         pages = [made(program, script, folder / f"{script.stem}.html", *option_words(script)) for script in scripts]
         for page in pages:
             try_page(trials, browser, page)
+        made_by, told = hashlib.sha256(Path(program).read_bytes()).hexdigest(), Page.of(pages[0]).data["program"]
+        is_proved = subprocess.run([TOP / "prove", "--check", program]).returncode == 0 and "unproved" not in program
+        trials.want("the foot says by its sum whether the program is proved",
+                    made_by in told and told.startswith("Made by the proved program") == is_proved, told)
         try_odd(trials, browser, program, folder)
         try_damaged(trials, browser, pages[0], folder)
         try_lacks(trials, browser, pages[0])

@@ -10,12 +10,13 @@ import sys
 from pathlib import Path
 
 import pytest
+from conftest import TOP, loaded
 
-TOP = Path(__file__).resolve().parents[2]
 TOOL = TOP / "tools" / "vsm-view"
-sys.path[:0] = [str(TOP / "page"), str(TOP / "tools")]
+sys.path[:0] = [str(TOP / "page")]
 
 import build  # noqa: E402
+from vsmtools.command import Fault  # noqa: E402
 
 MAP = """ TASK 1 PARENT 0 CURRENT
   R0 00000000 00000000 00000000 00000000 00000000 00000000 00000000 00000000
@@ -92,6 +93,7 @@ def test_maps_stand_round_each_statement(program: Path) -> None:
     assert output_of(data) == ["0000002 MAP", "0000003 FAULT OPERATION", "0000005 MAP", "0000006 FAULT OPERATION",
                                "0000007 MAP"]
     assert (data["name"], data["options"], data["skipped"]) == ("script.vsm", [], 0)
+    assert "a program that isn't known to be proved. Its SHA-256 is " in str(data["program"])
 
 
 def test_the_comment_before_the_first_statement_has_no_map_before_it(program: Path) -> None:
@@ -194,6 +196,13 @@ def test_too_many_bytes(tmp_path: Path) -> None:
     script.write_bytes(b" A\n")
     status, line = fault(other, script)
     assert status == 8 and "400 MiB" in line and "--first and --last" in line
+
+
+def test_a_run_that_takes_too_long(monkeypatch: pytest.MonkeyPatch) -> None:
+    module = loaded(TOOL)
+    monkeypatch.setattr(module, "SECONDS", 1)
+    with pytest.raises(Fault, match="more than 1 seconds: show a part, by --first and --last"):
+        module.mapped_output("/bin/sh", ["-c", "sleep 60"], b" MAP\n")
 
 
 def told_texts() -> list[str]:
