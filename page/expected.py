@@ -65,6 +65,18 @@ class Page:
         before, after = ([line for line in rest if " HISTORY " not in line] for rest in rests)
         return before != after
 
+    def changed_tasks(self, step: int) -> list[int]:
+        """The tasks that are new, or make the requests from now on, or see other subpools than before."""
+
+        def seen(state: Map) -> dict[int, set[int]]:
+            return {task.number: {it.number for it in state.subpools if task.number in (it.owner, *it.sharers)}
+                    for task in state.tasks}
+
+        before, state = self.map_at(step - 1), self.map_at(step)
+        known, current = seen(before), {task.number for task in before.tasks if task.is_current}
+        return [task.number for task in state.tasks if known.get(task.number) != seen(state)[task.number]
+                or task.is_current and task.number not in current]
+
     def answers_to(self, step: int) -> list[Answer]:
         return self.answers[: self.skipped] + self.shown[:step]
 

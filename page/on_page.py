@@ -125,6 +125,8 @@ def try_history(trials: Trials, page: Page, step: int, drawn: dict[str, Any]) ->
     trials.equal(f"step {step}: the lines that are struck through", set(drawn["undone"]), struck)
     wanted = f"{state.kept} kept of at most {state.history}, {len(again)} undone"
     trials.equal(f"step {step}: the history", drawn["history"], wanted)
+    marked = page.changed_tasks(step) if step else []
+    trials.equal(f"step {step}: the tasks that are marked as changed", drawn["tasks"], marked)
 
 
 def without_groups(drawn: dict[str, Any]) -> dict[str, Any]:

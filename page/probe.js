@@ -27,6 +27,7 @@ const probe = {
       history: document.querySelector('.history').textContent,
       said: document.querySelector('.said strong')?.textContent,
       totals: document.querySelector('.bytes').textContent,
+      tasks: [...document.querySelectorAll('.task.changed button')].map(it => +it.dataset.task).sort((a, b) => a - b),
       pages: Object.fromEntries(rows.map(row => [row.dataset.page, probe.drawing(row.querySelector('svg'))])),
       outlines: [...document.querySelectorAll('svg .granted:not(.below)')]
         .map(it => [it.closest('.page')?.dataset.page ?? null, it.getAttribute('d').split('M').length - 1]),
