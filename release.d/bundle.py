@@ -35,7 +35,8 @@ COMMANDS = ("list", "why", "report", "who")
 LIBRARY = Path("crates") / "vsm" / "out"
 ARCHIVE, SHARED = "lib/libvsm.a", "lib/libvsm.so.1"
 WITH_LIBRARY = {"tools/c/vsm.h": "include/vsm.h", "tools/c/example.c": "share/doc/nilbozad/examples/example.c"}
-LINKS = {"lib/libvsm.so": "libvsm.so.1", "lib/python3/dist-packages/vsmtools": "../../../share/nilbozad/tools/vsmtools"}
+LINKS = {"lib/libvsm.so": "libvsm.so.1", **{f"lib/python3/dist-packages/{it}": f"../../../share/nilbozad/tools/{it}"
+                                            for it in ("vsm_bench.py", "vsmtools")}}
 PKG_CONFIG = """\
 prefix=${{pcfiledir}}/../..
 Name: vsm
@@ -57,6 +58,9 @@ Description: bench for the virtual storage of z/OS
 BEFORE_REMOVAL = """\
 #!/bin/sh
 set -e
+modules="$DPKG_ROOT/usr/lib/python3/dist-packages/__pycache__"
+rm -f "$modules"/vsm_bench.*.pyc
+rmdir "$modules" 2>/dev/null || true  # others may have files there
 find "$DPKG_ROOT/usr/share/nilbozad" -name __pycache__ -prune -exec rm -rf {} + || true
 """
 
@@ -285,7 +289,7 @@ def read_me(release: Release, libc: str) -> str:
     man -l share/man/man5/vsm-statements.5.gz               what can stand in a script
     man -l share/man/man7/vsm-messages.7.gz                 what is printed
     cc -Iinclude share/doc/nilbozad/examples/example.c lib/libvsm.a
-    PYTHONPATH=lib/python3/dist-packages python3 -c 'from vsmtools import bench; help(bench.Session)'
+    PYTHONPATH=lib/python3/dist-packages python3 -c 'import vsm_bench; help(vsm_bench)'
 
 Copied to /usr/local, bin/, include/, lib/ and share/ are found by the shell, by cc, by pkg-config (vsm), by man and by
 completions; ldconfig then makes the shared library known. vsm, vsm-explain and the library need x86-64 Linux and glibc

@@ -12,8 +12,8 @@ PLACES = {"share/nilbozad/": "nilbozad/", "lib/libvsm.so.1": "nilbozad/tools/lib
           "share/doc/nilbozad/PROVED": "nilbozad/PROVED",
           "share/doc/nilbozad/copyright": "{info}/licenses/copyright",
           "share/doc/nilbozad/licenses/": "{info}/licenses/licenses/"}
-STARTER = '''"""Nilbozad as pip installs it: each function here is a tool of the folder tools, which also has the package
-vsmtools (nilbozad.pth puts it on Python's path) and the library. bench.html is the bench as a page for a browser."""
+STARTER = '''"""Nilbozad as pip installs it: each function here is a tool of the folder tools, which also has the library and
+its modules vsm_bench and vsmtools (nilbozad.pth puts it on Python's path). bench.html is the bench for a browser."""
 import os
 import sys
 
@@ -33,7 +33,7 @@ License: MIT OR Apache-2.0
 Requires-Python: >=3.11
 
 `vsm SCRIPT` runs a script of storage macros, `vsm-explain --help` and the other commands explain, draw and test one;
-`vsmtools` is its package for Python. It needs Linux on x86-64 and glibc {libc} or newer.
+`vsm_bench` and `vsmtools` are its modules for Python. It needs Linux on x86-64 and glibc {libc} or newer.
 """
 
 

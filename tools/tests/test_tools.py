@@ -15,7 +15,7 @@ import stored
 from conftest import SECONDS, TOOLS, TOP, one_line
 
 import vsmtools
-from vsmtools import bench, library, lines, maps
+from vsmtools import bench, lines, maps
 from vsmtools.command import Fault
 
 ALL = ("vsm-load", "vsm-paste", "vsm-prompt")
@@ -107,6 +107,7 @@ def test_by_the_systems_python_and_another_name(tool: str, vsm: str, tmp_path: P
     """As a link of another folder, as installed, and by /usr/bin/python3."""
     installed = tmp_path / "share" / "nilbozad" / "tools"
     shutil.copytree(TOOLS / "vsmtools", installed / "vsmtools")
+    shutil.copy(TOOLS / "vsm_bench.py", installed)
     shutil.copy(TOOLS / tool, installed / tool)
     (tmp_path / "bin").mkdir()
     (tmp_path / "bin" / "vsm").symlink_to(vsm)
@@ -197,20 +198,6 @@ def test_a_session_takes_one_statement(vsm: str, asked: list[str]) -> None:
     with pytest.raises(Fault, match="the session is closed"):
         session.say([" BACK 0"])
     assert time.monotonic() - start < bench.SECONDS / 4
-
-
-def test_a_session_without_a_library(vsm: str, monkeypatch: pytest.MonkeyPatch, tmp_path: Path) -> None:
-    """It's the program's, and a library that is named has to be one."""
-    monkeypatch.setattr(library, "find", lambda: None)
-    monkeypatch.setattr(bench, "find_program", lambda: vsm)
-    with bench.Session(options=["--high", "96"]) as session:
-        assert isinstance(session._partner, bench.Partner)
-        assert session.say([" BACK 0"]) == (1, "KEPT=0", ())
-    with pytest.raises(Fault, match="no library libvsm.so.1 is found"):
-        library.Bench()
-    monkeypatch.setattr(library, "find", lambda: str(tmp_path))
-    with pytest.raises(Fault, match="isn't the library"):
-        bench.Session()
 
 
 def test_what_an_answer_has(vsm: str) -> None:

@@ -1,6 +1,5 @@
 """What the programs of this folder share.
 
-answers       the answers that vsm prints, as data
 assembler     assembler source: its statements and operands, and what its symbols stand for
 bench         finding and running vsm, and sessions that answer statement by statement
 command       the frame of a tool: its options, errors of one line, files that are read and written
@@ -8,7 +7,6 @@ contents      what registers and fields hold at a macro of a source, for vsm-pas
 expectations  scripts that say in comments what they're answered, for vsm-test
 family        the order in which vsm-load attaches the tasks of a map
 judge         whether the lines of a map agree, for vsm-load
-library       the library libvsm by ctypes: a bench in this process
 lines         which lines of a script make one statement, and how a statement is written over lines
 lists         list forms of macros, for vsm-paste
 loading       the script that makes the region of a map, for vsm-load

@@ -3,7 +3,6 @@ from __future__ import annotations
 
 import argparse
 import os
-import re
 import select
 import shutil
 import signal
@@ -15,8 +14,9 @@ import time
 from dataclasses import dataclass
 from typing import IO, Optional, Sequence, Union
 
-from . import library
-from .answers import Answer, answers
+import vsm_bench
+from vsm_bench import Answer, answers
+
 from .command import WORDS, Fault, reason
 from .lines import is_continued, statements, text_of
 
@@ -26,7 +26,7 @@ BUILT = os.path.join(TOP, "crates", "vsm", "out", "vsm")
 BUILT_EXPLAIN = os.path.join(TOP, "crates", "vsm_explain_program", "out", "vsm_explain_program")
 SECONDS = 120  # the longest that a run may take, and that an answer may be waited for
 MOST_OUTPUT = 256 << 20    # bytes that a program may print
-BENCH_OPTIONS = ("--low", "--high", "--residence", "--history")
+BENCH_OPTIONS = vsm_bench.OPTIONS
 
 
 class Overrun(Fault):
@@ -257,27 +257,13 @@ class Partner:
         self.errors.close()
 
 
-def in_library(options: Sequence[str]) -> Optional[library.Bench]:
-    """A bench of the library; None if no library is found, or if these are options that vsm itself has to judge."""
-    path, numbers = library.find(), dict(zip(options[::2], options[1::2]))
-    if not path or len(options) != 2 * len(numbers) or not set(numbers) <= set(BENCH_OPTIONS) \
-            or not all(re.fullmatch("[1-9][0-9]{0,8}", it) for it in numbers.values()):
-        return None
-    try:
-        return library.Bench(path=path, **{name[2:]: int(number) for name, number in numbers.items()})
-    except library.BenchError as fault:
-        if fault.code != library.Code.SETTING:
-            raise
-        return None
-
-
 class Session:
     """A bench that answers statement by statement: the library's if no program is named and one is found, else a
     program over pipes. Threads that share it wait for each other."""
 
     def __init__(self, program: Optional[str] = None, options: Sequence[str] = (), seconds: float = SECONDS) -> None:
         self._lock = threading.Lock()
-        self._partner: Union[library.Bench, Partner, None] = None if program else in_library(options)
+        self._partner: Union[vsm_bench.Bench, Partner, None] = None if program else vsm_bench.opened(options)
         if self._partner is None:
             self._partner = Partner(program or find_program(), options, seconds)
 
@@ -294,7 +280,7 @@ class Session:
         with self._lock:
             if self._partner is None:
                 raise Fault("the session is closed")
-            if b"\0" in text and isinstance(self._partner, library.Bench):   # it can't be asked as a C string
+            if b"\0" in text and isinstance(self._partner, vsm_bench.Bench):   # it can't be asked as a C string
                 self._partner.write(text)
                 return answers(self._partner.read())[0]
             return self._partner.ask(text)

@@ -1,20 +1,96 @@
-"""The library libvsm by ctypes: a bench in this process, by the calls of vsm.h."""
+"""The bench in Python: the answers that vsm prints, as data, and by ctypes the library libvsm, a bench in this process.
+
+    from vsm_bench import Bench
+
+    with Bench(high=96) as bench:
+        print(bench.ask(" STORAGE OBTAIN,LENGTH=8").address)
+"""
 from __future__ import annotations
 
 import ctypes
 import os
+import re
 import threading
 from ctypes import POINTER, Structure, byref, c_char_p, c_int, c_size_t, c_uint32, c_void_p, create_string_buffer
 from enum import IntEnum
 from functools import cache
-from typing import Optional, Union
+from typing import NamedTuple, Optional, Sequence, Union
 
-from .answers import Answer
-from .command import READ_OR_WRITE, WORDS, Fault
+from vsmtools.command import READ_OR_WRITE, WORDS, Fault
+from vsmtools.maps import Map, parse_map
 
-TOOLS = os.path.dirname(os.path.dirname(os.path.realpath(__file__)))
+TOOLS = os.path.dirname(os.path.realpath(__file__))
 TOP = os.path.dirname(TOOLS)
 NAME = "libvsm.so.1"
+OPTIONS = ("--low", "--high", "--residence", "--history")
+
+
+class Answer(NamedTuple):
+    """One answer: the number of its statement's first line, its text, and the lines of a map behind it.
+
+    What the text doesn't have is None."""
+    line: int
+    text: str
+    rest: tuple[str, ...] = ()
+
+    @property
+    def is_map(self) -> bool:
+        return self.text == "MAP"
+
+    @property
+    def is_refused(self) -> bool:
+        return self.text.startswith(("FAULT ", "REFUSED ", "ABEND "))
+
+    @property
+    def is_kept(self) -> bool:
+        """Whether the statement is one more change that can be undone."""
+        return self.text.startswith(("RC=", "T=")) or self.text == "OK"
+
+    @property
+    def kept(self) -> Optional[int]:
+        """How many changes are kept behind a step."""
+        return int(self.text[5:]) if self.text.startswith("KEPT=") else None
+
+    def _value(self, key: str) -> Optional[str]:
+        found = re.search(r"(?:^| )%s=(\w+)" % key, self.text)
+        return found[1] if found and not self.is_refused else None
+
+    def _number(self, key: str, base: int) -> Optional[int]:
+        value = self._value(key)
+        return None if value is None else int(value, base)
+
+    rc = property(lambda it: it._number("RC", 10), doc="The return code.")
+    address = property(lambda it: it._number("A", 16))
+    length = property(lambda it: it._number("L", 16))
+    task = property(lambda it: it._number("T", 10))
+
+    @property
+    def code(self) -> Optional[str]:
+        """What stands behind ABEND, FAULT or REFUSED, as S878 or OPERAND."""
+        return self.text.partition(" ")[2] if self.is_refused else None
+
+    @property
+    def data(self) -> Optional[bytes]:
+        """The bytes that PEEK shows."""
+        value = self._value("D")
+        return None if value is None else bytes.fromhex(value)
+
+    @property
+    def map(self) -> Optional[Map]:
+        return parse_map(self.rest) if self.is_map else None
+
+
+def answers(output: bytes) -> list[Answer]:
+    """The answers of an output in turn."""
+    found: list[tuple[int, str, list[str]]] = []
+    for number, line in enumerate(output.decode("ascii", "replace").split("\n"), 1):
+        if line.startswith(" ") and found:
+            found[-1][2].append(line)
+        elif line[:7].isdigit() and line[7:8] == " ":
+            found.append((int(line[:7]), line[8:], []))
+        elif line:
+            raise Fault("no answer of vsm: '%s'" % line[:60], "the output", number)
+    return [Answer(line, text, tuple(rest)) for line, text, rest in found]
 
 
 class Code(IntEnum):
@@ -158,3 +234,17 @@ class Bench:
     def __del__(self) -> None:
         if getattr(self, "_bench", None):
             self._library.vsm_close(byref(self._bench))
+
+
+def opened(options: Sequence[str]) -> Optional[Bench]:
+    """A bench of the library; None if no library is found, or if these are options that vsm itself has to judge."""
+    path, numbers = find(), dict(zip(options[::2], options[1::2]))
+    if not path or len(options) != 2 * len(numbers) or not set(numbers) <= set(OPTIONS) \
+            or not all(re.fullmatch("[1-9][0-9]{0,8}", it) for it in numbers.values()):
+        return None
+    try:
+        return Bench(path=path, **{name[2:]: int(number) for name, number in numbers.items()})
+    except BenchError as fault:
+        if fault.code != Code.SETTING:
+            raise
+        return None
