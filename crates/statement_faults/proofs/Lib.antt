@@ -1,3 +1,4 @@
+mod Columns
 pub mod Ends
 pub mod FieldBytes
 pub mod FieldOver

@@ -1,3 +1,4 @@
+pub mod Letters
 pub mod Operands
 pub mod Places
 pub mod Roles

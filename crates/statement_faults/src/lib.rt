@@ -5,6 +5,7 @@ pub mod carets;
 pub mod fields;
 pub mod gathered;
 pub mod hints;
+pub mod letters;
 mod laws;
 pub mod lines;
 pub mod operands;
