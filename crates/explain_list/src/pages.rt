@@ -146,7 +146,7 @@ fn add_line(words: &mut Words, form: ListingForm, script: &[u8], line: &SourceLi
     }
 }
 
-/// Appends what is wrong with a statement and what is expected, where the caret stands, which is on this line.
+/// Appends what is wrong with a statement and what is expected, the caret of which is on this line.
 fn add_caret(
     words: &mut Words,
     form: ListingForm,

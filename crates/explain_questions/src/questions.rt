@@ -58,7 +58,7 @@ pub enum Question<'a> {
     Report {
         line: Option<u32>,
     },
-    /// What is left behind each statement; or what the subpool has that a task sees at a number.
+    /// What is left after each statement; or what the subpool has that a task sees at a number.
     OverTime {
         subpool: Option<(u8, u8)>,
     },

@@ -64,7 +64,7 @@ abbrev pub IsFiguresOf : Storage → Figures → Type 0
 IsFiguresOf s (figures.Whole m) = IsMomentOf s m
 IsFiguresOf s (figures.Subpool seen row) = IsRowSeen s seen.1 ((state_of s).sight seen.0 seen.1) row
 
--- Behind an answer they are those of the storage, where it may have changed; else those before it. They stay of the
+-- After an answer they are those of the storage, if it may have changed, else those before it. They stay of the
 -- same subpool.
 pub record IsAsBefore (s : Storage) (before : Figures) (r : Response) (after : Figures) : Type 0 where
   pub changed : may_change r ≡ true → IsFiguresOf s after

@@ -225,8 +225,8 @@ fn may_change(response: &Response) -> bool
     }
 }
 
-/// The figures of a storage behind an answer: those before it, where it changed nothing.
-fn figures_behind(storage: &Storage, before: Figures, response: &Response) -> Figures
+/// The figures of a storage after an answer: those before it, if it changed nothing.
+fn figures_after(storage: &Storage, before: Figures, response: &Response) -> Figures
     ensures { IsAsBefore storage.now before response.now result }
 {
     if may_change(response) {
@@ -247,7 +247,7 @@ fn put_answer<W: Write>(
     let Some((line, response)) = told else {
         return before;
     };
-    let figures = figures_behind(bench.storage(), before, response);
+    let figures = figures_after(bench.storage(), before, response);
     put_figures(gathered, out, *line, &figures);
     figures
 }
@@ -264,7 +264,7 @@ fn put_end<W: Write>(gathered: &mut Gathered, out: &mut W, before: Figures, endi
     );
 }
 
-/// Takes a script and puts the rows of its lines, by the figures before the first. Gives those behind the last row.
+/// Takes a script and puts the rows of its lines, by the figures before the first. Gives those after the last row.
 fn put_lines<W: Write, P: Watch>(
     session: &mut Session,
     script: &[u8],

@@ -141,7 +141,7 @@ fn put_rows<W: Write>(gathered: &mut Gathered, writer: &mut W, storage: &Storage
     }
 }
 
-/// Puts the line of all subpools: sums alone, since areas of two subpools can't be joined.
+/// Puts the line of all subpools: only sums, since areas of two subpools can't be joined.
 fn put_total<W: Write>(gathered: &mut Gathered, writer: &mut W, moment: &Moment) {
     let totals = &moment.totals;
     gathered.put(writer, b"  TOTAL            ");
@@ -258,7 +258,7 @@ fn put_values<W: Write>(gathered: &mut Gathered, writer: &mut W, share: &Share) 
     put_next(gathered, writer, 8 * u64::from(share.largest));
 }
 
-/// Puts the row of the statement that begins on a line, with the figures behind it.
+/// Puts the row of the statement that begins on a line, with the figures after it.
 pub(crate) fn put_figures<W: Write>(
     gathered: &mut Gathered,
     writer: &mut W,

@@ -57,7 +57,7 @@ pub(crate) fn put_line<W: Write>(
     gathered.put(writer, b" | ");
 }
 
-/// Puts some words, and a number behind them.
+/// Puts some words, and a number after them.
 fn put_numbered<W: Write>(gathered: &mut Gathered, writer: &mut W, words: &[u8], number: u8) {
     gathered.put(writer, words);
     put_decimal(gathered, writer, u64::from(number));

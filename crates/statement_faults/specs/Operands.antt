@@ -26,7 +26,7 @@ pub record Starts (text : List ℕ) (end start : ℕ) : Type 0 where
   pub begins : IsStart text start
   pub last : (j : ℕ) → start ≤ j → j < end → is_end text j ≡ false
 
--- The operands up to an end, as they're read: an empty first one with the comma behind it, without which it's none.
+-- The operands up to an end, as they're read: an empty first one with the comma after it, without which it's none.
 abbrev pub front : List ℕ → ℕ → List ℕ
 front text j = take (max j 1) text
 

@@ -4,7 +4,7 @@ ghost use Rattle.std.specs.Prelude.{◌≡◌, ◌+◌, ◌^◌, ◌<◌, length
 ghost use Rattle.statement_faults.specs.Letters.{column_of, continues, goes_on, is_plain, least_second, letter_at};
 ghost use Rattle.statement_faults.specs.Letters.{letter_bytes, most_second, shown_at};
 
-/// The byte at a place of a line; 0 behind the last.
+/// The byte at a place of a line; 0 after the last.
 fn byte_at(line: &[u8], at: usize) -> u8
     ensures { result ≡ slice_index_or line.now at 0 }
 {
@@ -51,7 +51,7 @@ fn most_second(first: u8) -> u8
     }
 }
 
-/// Whether a letter can go on with a byte behind its second.
+/// Whether a letter can go on with a byte after its second.
 fn goes_on(byte: u8) -> bool
     ensures { result ≡ goes_on byte }
 {

@@ -36,7 +36,7 @@ fn separates(at: Nesting, byte: u8) -> bool
     byte == b',' && !at.quoted && at.depth == 0
 }
 
-/// The operands of a text up to a place where one ends: an empty first one with the comma behind it.
+/// The operands of a text up to a place where one ends: an empty first one with the comma after it.
 fn front_of(text: &[u8], i: usize) -> &[u8]
     requires { i < length text.now }
     ensures { result.now ≡ front text.now i }

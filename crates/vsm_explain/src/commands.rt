@@ -64,7 +64,7 @@ fn answer_words<O: Write, E: Write>(
     }
 }
 
-/// The path of the script that is asked of; `None` for standard input, which `-` stands for too.
+/// The path of the script that is asked of; `None` for standard input, which `-` names too.
 fn path_of<'a>(asking: &Asking<'a>) -> Option<&'a str> {
     match asking.file {
         Some("-") => None,

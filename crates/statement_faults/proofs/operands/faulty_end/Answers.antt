@@ -1,4 +1,4 @@
-use Rattle.std.proofs.Common.{◌≡◌, ◌≢◌, true, Err, refl, sym, ap, ◌∙◌, arith}
+use Rattle.std.proofs.Common.{◌≡◌, ◌≢◌, true, Err, refl, ap, ◌∙◌, arith}
 use Rattle.macro_statements.specs.Statements.{statement_with}
 use Rattle.statement_faults.specs.Operands.{front, is_counted, is_end}
 use Rattle.statement_faults.proofs.Ends.{nesting_more, below_more, whole_front, whole_counts}
