@@ -119,15 +119,7 @@ impl ListingPage {
             Some((caret, kind)) if caret.place.line == index => Some((caret, *kind)),
             _ => None,
         };
-        add_row(
-            &mut self.words,
-            form,
-            script,
-            line,
-            role,
-            row % ROWS,
-            fault,
-        );
+        add_row(&mut self.words, form, script, line, role, row % ROWS, fault);
     }
 
     /// Takes a last line without a line feed.

@@ -13,8 +13,8 @@ use operand_texts::Name;
 use operand_texts::numbers::number_of;
 use operand_texts::words::{is_name, upper_name};
 use vsm_bench::settings_asked;
-use vsm_model::geometry::LAST_SUBPOOL;
 use vsm_model::Settings;
+use vsm_model::geometry::LAST_SUBPOOL;
 
 /// The greatest number of a line.
 const LAST_LINE: u32 = 1_048_576;

@@ -71,7 +71,8 @@ impl<'a> WordRefusal<'a> {
     fn text(self) -> &'static str {
         match self {
             WordRefusal::LineOverTime => "--over-time goes over all lines, and takes no LINE",
-            WordRefusal::SubpoolAtOnce => "--subpool goes with --over-time: a report has each subpool",
+            WordRefusal::SubpoolAtOnce =>
+                "--subpool goes with --over-time: a report has each subpool",
             WordRefusal::NothingAsked =>
                 "who asks for an ADDRESS, or by --holds, --subpool, --register, --name or --log",
             WordRefusal::MoreAsked =>

@@ -113,12 +113,7 @@ fn put_side<W: Write>(
 }
 
 /// Puts the lines of a subpool: one for each side of the line on which it has pages, and one at least.
-fn put_row<W: Write>(
-    gathered: &mut Gathered,
-    writer: &mut W,
-    storage: &Storage,
-    subpool: Subpool,
-) {
+fn put_row<W: Write>(gathered: &mut Gathered, writer: &mut W, storage: &Storage, subpool: Subpool) {
     let row = row_of(storage, subpool);
     if row.low.pages > 0 || row.high.pages == 0 {
         put_side(gathered, writer, &row, b" BELOW", &row.low);

@@ -167,10 +167,7 @@ fn reported<'a>(
 }
 
 /// What `who` came to, which tells of no refusal.
-fn followed<'a>(
-    script: &[u8],
-    outcome: Result<(), WhoFault>,
-) -> Result<bool, CommandFault<'a>> {
+fn followed<'a>(script: &[u8], outcome: Result<(), WhoFault>) -> Result<bool, CommandFault<'a>> {
     match outcome {
         Ok(()) => Ok(false),
         Err(fault) => Err(who_fault(script, fault)),

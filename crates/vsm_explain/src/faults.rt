@@ -61,7 +61,10 @@ impl Display for CommandFault<'_> {
             CommandFault::Script(name, unread) => write!(f, "{}", UnreadText(name, unread)),
             CommandFault::Memory => f.write_str("there is no memory"),
             CommandFault::TooLong(Excess::Lines) => {
-                write!(f, "the script is too long: it has more than {MOST_LINES} lines")
+                write!(
+                    f,
+                    "the script is too long: it has more than {MOST_LINES} lines"
+                )
             }
             CommandFault::TooLong(Excess::Bytes(line)) => write!(
                 f,
