@@ -13,6 +13,7 @@ ghost use Rattle.explain_list.specs.Listing.{PutsItems, Lists, ListsLine, ListsL
 use crate::faults::ListFault;
 use crate::pages::{ListingForm, ROWS, add_file_warning, add_row, role_at};
 use bench_core::Bench;
+use listed_text::Words;
 use script_steps::{
     Ending, FaultKind, ReaderState, Response, Session, Step, TooLong, Watch, put_behind,
     put_response,
@@ -20,7 +21,6 @@ use script_steps::{
 use statement_faults::carets::{Caret, caret_of};
 use statement_faults::lines::{OpenLines, SourceLine};
 use statement_faults::roles::{Brought, Role, role_of};
-use statement_faults::words::Words;
 use std::alloc::Global;
 use std::io::Write;
 use text_output::Gathered;

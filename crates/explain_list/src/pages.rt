@@ -1,13 +1,12 @@
 //! What a listing says around the answers: lines of the script, carets and warnings.
 
+use listed_text::{Words, column_of};
 use script_steps::{FaultKind, fault_word};
 use statement_faults::carets::Caret;
 use statement_faults::hints::add_hint;
-use statement_faults::letters::column_of;
 use statement_faults::lines::SourceLine;
 use statement_faults::roles::Role;
 use statement_faults::warnings::{KINDS, Warned, warning_in, warning_on};
-use statement_faults::words::Words;
 
 /// The column, from 0, in which a line of the script begins in the listing.
 const MARGIN: usize = 9;

@@ -1,4 +1,3 @@
-mod Columns
 pub mod Ends
 pub mod FieldBytes
 pub mod FieldOver

@@ -1,4 +1,3 @@
-pub mod Letters
 pub mod Operands
 pub mod Places
 pub mod Roles

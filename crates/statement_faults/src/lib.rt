@@ -6,11 +6,9 @@ pub mod fields;
 pub mod gathered;
 pub mod hints;
 mod laws;
-pub mod letters;
 pub mod lines;
 pub mod operands;
 pub mod roles;
 pub mod warnings;
-pub mod words;
 
 pub use laws::field_bytes_are_there;

@@ -1,7 +1,7 @@
 use Rattle.std.proofs.Common.{arith}
-use Rattle.statement_faults.proofs.Columns.{column_more, column_same}
-use Rattle.statement_faults.proofs.letters.column_of.Goals as goal
-use Rattle.statement_faults.proofs.letters.column_of.Goals.{then-not-continues, else-not-continues}
+use Rattle.listed_text.proofs.Columns.{column_more, column_same}
+use Rattle.listed_text.proofs.letters.column_of.Goals as goal
+use Rattle.listed_text.proofs.letters.column_of.Goals.{then-not-continues, else-not-continues}
 
 pub loop-i-preserved : goal.loop-i-preserved
 loop-i-preserved c =

@@ -1,6 +1,6 @@
 use Rattle.std.proofs.Common.{◌≡◌, ◌≤◌}
-use Rattle.statement_faults.specs.Letters.{column_of}
-use Rattle.statement_faults.proofs.letters.column_of.Given as goal
+use Rattle.listed_text.specs.Letters.{column_of}
+use Rattle.listed_text.proofs.letters.column_of.Given as goal
 
 abbrev pub invariant-loop-i : goal.invariant-loop-i
 invariant-loop-i l = record {

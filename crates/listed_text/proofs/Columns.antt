@@ -1,6 +1,6 @@
 -- The column of the next byte.
 use Rattle.std.proofs.Common.{◌≡◌, ◌+◌, ◌∙◌, ℕ, suc, Bool, true, false, if◌then◌else◌, List, ap, subst, sym, arith}
-use Rattle.statement_faults.specs.Letters.{column_of, continues}
+use Rattle.listed_text.specs.Letters.{column_of, continues}
 
 next : (i : ℕ) → suc i ≡ i + 1
 next i = omega arith

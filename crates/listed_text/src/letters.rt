@@ -1,8 +1,8 @@
 //! The bytes of a line as a listing shows them: printing characters of ASCII and letters of UTF-8 as they are, and a
 //! point for each other byte. A byte that continues a letter has no column of its own.
 ghost use Rattle.std.specs.Prelude.{◌≡◌, ◌+◌, ◌^◌, ◌<◌, length, slice_index_or};
-ghost use Rattle.statement_faults.specs.Letters.{column_of, continues, goes_on, is_plain, least_second, letter_at};
-ghost use Rattle.statement_faults.specs.Letters.{letter_bytes, most_second, shown_at};
+ghost use Rattle.listed_text.specs.Letters.{column_of, continues, goes_on, is_plain, least_second, letter_at};
+ghost use Rattle.listed_text.specs.Letters.{letter_bytes, most_second, shown_at};
 
 /// The byte at a place of a line; 0 after the last.
 fn byte_at(line: &[u8], at: usize) -> u8
