@@ -175,8 +175,8 @@ pub(crate) fn role_at(index: usize, count: usize, last: Role) -> Role {
 /// How many rows go with a line of the script: itself, a warning of each kind, and a caret.
 pub(crate) const ROWS: usize = KINDS + 2;
 
-/// Appends one of the rows that go with a line of this role: nothing where there is no such row. The last is that of the
-/// caret of a fault, where it stands on this line.
+/// Appends one of the rows that go with a line of this role: nothing if there is no such row. The last is that of the
+/// caret of a fault, if it's on this line.
 pub(crate) fn add_row(
     words: &mut Words,
     form: ListingForm,

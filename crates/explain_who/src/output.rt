@@ -60,11 +60,11 @@ fn is_absent(seen: &Seen) -> bool {
 }
 
 /// What is said where what is asked for isn't there in any reading, and has to be: the task, or the name.
-fn missing(asked: Subject) -> Option<WhoFault> {
+fn missing(asked: &Subject) -> Option<WhoFault> {
     match asked {
-        Subject::Register { task, .. } => Some(WhoFault::NoTask(task)),
-        Subject::Subpool { task, .. } => Some(WhoFault::NoTask(task)),
-        Subject::Name(name) => Some(WhoFault::NoName(name)),
+        Subject::Register { task, .. } => Some(WhoFault::NoTask(*task)),
+        Subject::Subpool { task, .. } => Some(WhoFault::NoTask(*task)),
+        Subject::Name(name) => Some(WhoFault::NoName(*name)),
         Subject::Bytes { .. } | Subject::Holder(_) => None,
     }
 }
@@ -86,18 +86,25 @@ fn is_in_a_region(settings: Settings, address: u32) -> bool
         || is_among(LOW_PAGE, settings.low_k / PAGE_K, page)
 }
 
-/// Puts what is asked for, and that it lies in neither region where it does.
+/// Whether an address is asked for that is in neither region.
+fn is_outside(settings: Settings, asked: &Subject) -> bool {
+    match asked {
+        Subject::Bytes { address, .. } => !is_in_a_region(settings, *address),
+        Subject::Holder(address) => !is_in_a_region(settings, *address),
+        Subject::Register { .. } | Subject::Name(_) | Subject::Subpool { .. } => false,
+    }
+}
+
+/// Puts what is asked for, and that it's in neither region if it isn't.
 fn put_question<W: Write>(
     gathered: &mut Gathered,
     writer: &mut W,
     settings: Settings,
-    asked: Subject,
+    asked: &Subject,
 ) {
     put_asked(gathered, writer, asked);
-    if let Subject::Bytes { address, .. } | Subject::Holder(address) = asked {
-        if !is_in_a_region(settings, address) {
-            gathered.put(writer, b", in neither region");
-        }
+    if is_outside(settings, asked) {
+        gathered.put(writer, b", in neither region");
     }
     gathered.put(writer, b"\n");
 }
@@ -108,7 +115,7 @@ fn write_found<W: Write>(
     script: &[u8],
     traced: &Traced,
     found: &[NamedChange<'_>],
-    asked: Subject,
+    asked: &Subject,
     out: &mut W,
 ) -> Result<(), WhoFault> {
     if found.is_empty() && is_absent(&traced.first) {
@@ -142,13 +149,14 @@ fn write_changes<W: Write>(
     out: &mut W,
 ) -> Result<(), WhoFault> {
     let found = changes(alloc, traced)?;
-    let outcome = write_found(settings, script, traced, found.as_slice(), asked, out);
+    let outcome = write_found(settings, script, traced, found.as_slice(), &asked, out);
     drop(found);
     outcome
 }
 
 /// Writes what is asked for, and the lines of a script whose statements changed it, the newest first, with what is read
-/// before and behind each; then how many statements stand, all of which are looked at, whatever the bench's history forgot.
+/// before and after each; then how many statements stand, all of which are looked at, whatever the bench's history
+/// forgot.
 ///
 /// The script runs under these settings. See [`changes`] for which lines these are.
 pub fn who<W: Write, P: Watch>(

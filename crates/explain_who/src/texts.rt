@@ -64,28 +64,28 @@ fn put_numbered<W: Write>(gathered: &mut Gathered, writer: &mut W, words: &[u8],
 }
 
 /// Puts what is asked for, addresses in hexadecimal digits.
-pub(crate) fn put_asked<W: Write>(gathered: &mut Gathered, writer: &mut W, asked: Subject) {
+pub(crate) fn put_asked<W: Write>(gathered: &mut Gathered, writer: &mut W, asked: &Subject) {
     match asked {
         Subject::Bytes { address, count } => {
-            put_count(gathered, writer, u64::from(count), b"byte");
+            put_count(gathered, writer, u64::from(*count), b"byte");
             gathered.put(writer, b" at ");
-            put_hexadecimal(gathered, writer, 8, address);
+            put_hexadecimal(gathered, writer, 8, *address);
         }
         Subject::Register { task, register } => {
-            put_numbered(gathered, writer, b"register ", register);
-            put_numbered(gathered, writer, b" of task ", task);
+            put_numbered(gathered, writer, b"register ", *register);
+            put_numbered(gathered, writer, b" of task ", *task);
         }
         Subject::Name(name) => {
             gathered.put(writer, b"name ");
             gathered.put(writer, name.as_bytes());
         }
         Subject::Subpool { task, number } => {
-            put_numbered(gathered, writer, b"subpool ", number);
-            put_numbered(gathered, writer, b" as seen by task ", task);
+            put_numbered(gathered, writer, b"subpool ", *number);
+            put_numbered(gathered, writer, b" as seen by task ", *task);
         }
         Subject::Holder(address) => {
             gathered.put(writer, b"the page of ");
-            put_hexadecimal(gathered, writer, 8, address);
+            put_hexadecimal(gathered, writer, 8, *address);
         }
     }
 }

@@ -115,7 +115,8 @@ static COMMANDS: [CommandForm; 4] = [
             WordRow {
                 name: "subpool",
                 kind: WordKind::Valued("T,N"),
-                help: "Ask for the pages and free storage of the subpool that task T sees at N; with N alone, of task 1's",
+                help: "Ask for the pages and free storage of the subpool that task T sees at N; \
+                    with N alone, of task 1's",
             },
             WordRow {
                 name: "holds",
