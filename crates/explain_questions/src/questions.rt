@@ -3,7 +3,7 @@ ghost use Rattle.std.specs.Prelude.{◌≡◌, ◌≤◌, IfOk, IfSome, Some, op
 ghost use Rattle.clap.specs.Words.{found_of, first_of, rows_of, subcommand_rows_of};
 ghost use Rattle.std.specs.Prelude.{◌<◌, ◌∷◌, ◌++◌, [], length};
 ghost use Rattle.operand_texts.specs.Values.{number_of};
-ghost use Rattle.explain_questions.specs.Questions.{Asks, IsAskable, IsLine, IsOfFile, IsThere, IsSeenThere};
+ghost use Rattle.explain_questions.specs.Questions.{Asks, IsAskable, IsLine, IsOfFile, IsSeenThere, IsThere};
 ghost use Rattle.explain_questions.specs.Questions.{address_number, hexadecimal, number_within, quoted};
 
 use crate::refusals::WordRefusal;

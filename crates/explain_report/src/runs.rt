@@ -318,7 +318,7 @@ fn put_rows<W: Write, P: Watch>(
 /// statement; the first row names them. Of the whole storage: on each side of the 16 MB line the assigned pages, the
 /// unassigned ones, the runs of these and the longest; the bytes that are taken and free, and the free areas. Or, of
 /// the subpool that a task sees at a number, on each side of the line: its pages, the bytes that are taken and free in
-/// them, its free areas, and the bytes of the largest; zeros if the task sees none.
+/// them, its free areas, and the bytes of the largest; zeros where the task sees none.
 pub fn over_time<W: Write, P: Watch>(
     alloc: Global,
     script: &[u8],

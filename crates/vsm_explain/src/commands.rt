@@ -147,10 +147,10 @@ fn end<E: Write>(errors: &mut E, outcome: Result<bool, CommandFault<'_>>) -> u8
 /// Answers what these words ask (the program's name, and what follows): writes the answer to `output`, and what is
 /// wrong with the words, the script or the question to `errors`, in one line. Gives the exit status.
 ///
-/// The script is what `rt` opens for the file that the words name, or `input` if they name none or `-`. The status is 0
-/// if the question was answered, 4 if a listed statement or the one that was asked for was refused, 8 if the script
-/// can't be read or the output can't be written, and 16 if the words are wrong, what they ask for doesn't exist, the
-/// settings are out of their limits or there is no memory.
+/// The script is what `rt` opens for the file that the words name, or `input` where they name none or `-`. The status
+/// is 0 where the question was answered, 4 where a listed statement or the one that was asked for was refused, 8 where
+/// the script can't be read or the output can't be written, and 16 where the words are wrong, what they ask for isn't
+/// there, the settings are out of their limits or there is no memory.
 pub fn command<R: ScriptFiles + Stopwatch + AllocGlobal, I: Read, O: Write, E: Write>(
     rt: &R,
     words: &[String],

@@ -83,7 +83,7 @@ static COMMANDS: [CommandForm; 4] = [
             WordRow {
                 name: "subpool",
                 kind: WordKind::Valued("T,N"),
-                help: "With --over-time: only of the subpool that task T sees at N; with N alone, of task 1's",
+                help: "With --over-time: only of the subpool that task T, or with N alone task 1, sees at N",
             },
             WordRow {
                 name: "FILE",
@@ -115,8 +115,7 @@ static COMMANDS: [CommandForm; 4] = [
             WordRow {
                 name: "subpool",
                 kind: WordKind::Valued("T,N"),
-                help: "Ask for the pages and free storage of the subpool that task T sees at N; \
-                    with N alone, of task 1's",
+                help: "Ask for pages and free storage of the subpool that task T, or with N alone task 1, sees at N",
             },
             WordRow {
                 name: "holds",

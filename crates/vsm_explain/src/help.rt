@@ -56,10 +56,10 @@ pub(crate) const WHO_ABOUT: &str =
     "Names the lines that changed something, newest first, with what was there before \
         and after.";
 
-pub(crate) const WHO_AFTER: &str = "\
-ADDRESS and N are numbers as in a script: 24582 or X'6006'. ADDRESS is hexadecimal in eight digits that begin with 0,
-as answers print it, and after 0x. Ask for one thing: N bytes at ADDRESS, or what one of the options names. The first
-line of the answer says what was asked for.
+pub(crate) const WHO_AFTER: &str =
+    "ADDRESS and N are numbers as in a script: 24582 or X'6006'. ADDRESS is hexadecimal in eight digits that begin with
+0, as answers print it, and after 0x. Ask for one thing: N bytes at ADDRESS, or what one of the options names. The
+first line of the answer says what was asked for.
 
 Examples, as a shell takes them:
   vsm-explain who example.vsm 00006006 2       names the lines that changed the two bytes there,
