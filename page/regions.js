@@ -5,7 +5,8 @@ import { drawingOf } from './drawing.js';
 import { PAGE, runsOf } from './map.js';
 
 const LOW = 0x6000, HIGH = 0x8000000;
-const MOST_ROWS = 400; // of a region; of more, those round the chosen page are shown
+const MOST_ROWS = 400, STRIDE = 100; // of a region with more, rows round the chosen page are shown, moved by strides
+const MANY_ROWS = 100; // they fill the height that is left, so that no layout has to ask how high they are
 const LEGEND = [
   ['taken', 'taken'], ['free', 'free'], ['cell', 'cell in use'], ['freecell', 'free cell'],
   ['unassigned', 'not assigned']
@@ -79,7 +80,7 @@ export function regionsPart(view) {
     const most = countIn(pages);
     if (most <= MOST_ROWS) return [0, most];
     const at = countIn(clipped(pages, 0, view.chosen));
-    const first = Math.max(0, Math.min(most - MOST_ROWS, at - MOST_ROWS / 2));
+    const first = Math.max(0, Math.min(most - MOST_ROWS, Math.floor((at - MOST_ROWS / 2) / STRIDE) * STRIDE));
     return [first, first + MOST_ROWS];
   }
   function listOf(first, end) {
@@ -125,6 +126,7 @@ export function regionsPart(view) {
     const { state } = view.moment;
     drawRegion(sections[0], HIGH / PAGE, state.highOf, state.high);
     drawRegion(sections[1], LOW / PAGE, state.lowOf, state.low);
+    element.parentElement.classList.toggle('full', element.querySelectorAll('.page').length > MANY_ROWS);
     reveal();
   }
   /** To the page so many rows further, where a row has the focus. */

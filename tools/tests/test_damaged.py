@@ -21,7 +21,6 @@ SOURCES = [path.read_bytes() for path in sorted(TOP.glob("tools/tests/sources/*.
 MAPS = [it for path in sorted(TOP.glob("examples/*.out")) for it in re.findall(rb"(?m)(?:^ .*\n)+", path.read_bytes())]
 PUT = b"0 1 8 9 A F X - ' ( ) = , + * / & . L' X' *> *! ? \0 \t \r \xff \xc3\xa4 4294967296 MAP SP= \n".split(b" ")
 TYPED = [b"", b"", b"", b".back until ", b".until ", b".step ", b".read ", b".log ", b".?", b".restart ", b". "]
-SECONDS = 10     # of a processor
 # Of each tool one that it once took wrongly.
 FOUND = {"vsm-load": next(re.sub(rb"HDR '.*'", b"HDR '\xc8'", it) for it in MAPS if b"HDR '" in it),
          "vsm-prompt": b" BACK 0\r\r\n MAP\r\n", "vsm-view": b" BACK 0\r\r\n"}
@@ -58,7 +57,7 @@ class Tool:
             given = [] if self.name == "vsm-paste" else ["--vsm", self.vsm]
             status = guarded(self.name, self.main, [*given, *map(str, words)])
         text = out.buffer.getvalue().decode("latin-1")  # type: ignore[attr-defined]
-        assert status in (0, 1, 4, 8, 16) and "Traceback" not in text and sum(os.times()[:4]) - begin < SECONDS
+        assert status in (0, 1, 4, 8, 16) and "Traceback" not in text and sum(os.times()[:4]) - begin < 10
         if status > 4 and self.name not in ("vsm-prompt", "vsm-test"):
             assert text == "" and re.fullmatch(r"%s: .+\n" % self.name, errors.getvalue()), errors.getvalue()
         return status, text
@@ -73,13 +72,14 @@ def check_load(tool: Tool, data: bytes) -> None:
         assert storage_of(made[:-1]) == storage_of(it for it in given if it[:1] == " " and " HISTORY" not in it)
 
 
-def check_paste(tool: Tool, _data: bytes) -> None:
-    """Lines have at most 72 columns, and each statement that is written is answered."""
+def check_paste(tool: Tool, data: bytes) -> None:
+    """A line of at most 72 columns for each, and one more; each statement that is written is answered."""
     status, text = tool(tool.path)
     if status < 8:
         begins = [it.first for it in lines.statements([line.encode() for line in text.split("\n")[:-1]])]
         assert begins == [it.line for it in bench.run(tool.vsm, [], text.encode()).answers]
-        assert all(len(line) <= 72 for line in text.split("\n"))
+        count = len(lines.split_lines(data)) if b"\n" in data.replace(b"\r", b"") else text.count("\n") - 1
+        assert text.count("\n") == count + 1 and all(len(line) <= 72 for line in text.split("\n"))
 
 
 def check_test(tool: Tool, data: bytes) -> None:
