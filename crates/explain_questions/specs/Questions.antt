@@ -33,13 +33,18 @@ hexadecimal digits = if nat_lt 8 (length digits) then None else number_of (quote
 abbrev pub is_zero_first : Text → Bool
 is_zero_first text = nat_lt 1 (length text) && (slice_index_or text 0 0 == 48)
 
+abbrev pub is_marked : Text → Bool
+is_marked text = is_zero_first text && ((slice_index_or text 1 0 == 120) || (slice_index_or text 1 0 == 88))
+
+abbrev pub is_printed : Text → Bool
+is_printed text = is_zero_first text && (length text == 8)
+
 -- An address is a number as in a script, 0x and hexadecimal digits, or as answers print one: eight hexadecimal digits,
 -- the first of which is 0.
 abbrev pub address_number : Text → Option ℕ
 address_number text =
-    if is_zero_first text && ((slice_index_or text 1 0 == 120) || (slice_index_or text 1 0 == 88))
-    then hexadecimal (drop 2 text)
-    else if is_zero_first text && (length text == 8) then hexadecimal text
+    if is_marked text then hexadecimal (drop 2 text)
+    else if is_printed text then hexadecimal text
     else number_of text
 
 -- ---- what can be asked for
