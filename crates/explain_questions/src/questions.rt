@@ -4,7 +4,8 @@ ghost use Rattle.clap.specs.Words.{found_of, first_of, rows_of, subcommand_rows_
 ghost use Rattle.std.specs.Prelude.{◌<◌, ◌∷◌, ◌++◌, [], length};
 ghost use Rattle.operand_texts.specs.Values.{number_of};
 ghost use Rattle.explain_questions.specs.Questions.{Asks, IsAskable, IsLine, IsOfFile, IsSeenThere, IsThere};
-ghost use Rattle.explain_questions.specs.Questions.{address_number, hexadecimal, number_within, quoted};
+ghost use Rattle.explain_questions.specs.Questions.{address_number, hexadecimal, is_marked, is_printed, is_zero_first};
+ghost use Rattle.explain_questions.specs.Questions.{number_within, quoted};
 
 use crate::refusals::WordRefusal;
 use arrayvec::ArrayVec;
@@ -134,15 +135,35 @@ fn hexadecimal(digits: &[u8]) -> Option<u32>
     number_of(quoted(digits).as_slice())
 }
 
+/// Whether a text has two bytes at least, of which the first is a 0.
+fn is_zero_first(text: &[u8]) -> bool
+    ensures { result ≡ is_zero_first text.now }
+{
+    text.len() > 1 && text[0] == b'0'
+}
+
+/// Whether a text begins with 0x.
+fn is_marked(text: &[u8]) -> bool
+    ensures { result ≡ is_marked text.now }
+{
+    is_zero_first(text) && (text[1] == b'x' || text[1] == b'X')
+}
+
+/// Whether a text is like an address that answers print.
+fn is_printed(text: &[u8]) -> bool
+    ensures { result ≡ is_printed text.now }
+{
+    is_zero_first(text) && text.len() == 8
+}
+
 /// The address that a text spells: as a number in a script, as 0x and hexadecimal digits, or as answers print it, in
 /// eight digits the first of which is 0.
 fn address_number(text: &[u8]) -> Option<u32>
     ensures { result ≡ address_number text.now }
 {
-    let is_zero_first = text.len() > 1 && text[0] == b'0';
-    if is_zero_first && (text[1] == b'x' || text[1] == b'X') {
+    if is_marked(text) {
         hexadecimal(&text[2..])
-    } else if is_zero_first && text.len() == 8 {
+    } else if is_printed(text) {
         hexadecimal(text)
     } else {
         number_of(text)
