@@ -58,7 +58,7 @@ pub(crate) fn excess_of(script: &[u8]) -> Excess {
         if *byte == b'\n' {
             line += 1;
             columns = 0;
-        } else if columns == MOST_COLUMNS {
+        } else if columns >= MOST_COLUMNS {
             return Excess::Bytes(line);
         } else {
             columns += 1;
