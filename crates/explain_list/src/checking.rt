@@ -7,7 +7,7 @@ ghost use Rattle.explain_list.specs.declared.faults.ListFault.TheVariants as fau
 ghost use Rattle.explain_list.specs.Listing.{Listed, Checked, IsReached, ReachesLines, IsRest, Shows};
 
 use crate::faults::ListFault;
-use crate::listing::{ListingPage, listing, rest_from, rest_line};
+use crate::listing::{ListingPage, listing, put_rows, rest_from, rest_line};
 use crate::pages::ListingForm;
 use bench_core::Bench;
 use script_steps::{Session, TooLong, Watch};
@@ -41,11 +41,11 @@ fn check_lines<W: Write, P: Watch>(
 {
     let mut at = 0;
     while at < script.len() {
-        match page.take_line(session, ListingForm::Check(name), script, at) {
+        match page.take_line(session, script, at) {
             Err(fault) => return Err(fault),
             Ok(None) => return Ok(at),
             Ok(Some(step)) => {
-                gathered.put(writer, page.words());
+                put_rows(gathered, writer, page, ListingForm::Check(name), script);
                 at = step.next;
             }
         }
@@ -69,10 +69,10 @@ fn check_end<W: Write>(
     let before = session.stand();
     let line = rest_line(session.lines(), script, at);
     let ending = session.end();
-    page.compose_last(ListingForm::Check(name), script, line, before, &ending);
-    gathered.put(writer, page.words());
-    page.compose_open(ListingForm::Check(name), script, &ending);
-    gathered.put(writer, page.words());
+    page.take_last(script, line, before, &ending);
+    put_rows(gathered, writer, page, ListingForm::Check(name), script);
+    page.show_open(script, &ending);
+    put_rows(gathered, writer, page, ListingForm::Check(name), script);
     let is_refused = ending.totals.refused > 0;
     drop(ending);
     match gathered.hand_out(writer) {

@@ -11,14 +11,16 @@ ghost use Rattle.script_steps.specs.Taken.{Took};
 ghost use Rattle.explain_list.specs.Listing.{PutsItems, Lists, ListsLine, ListsLines, IsNext, IsRest, Stops, Listed};
 
 use crate::faults::ListFault;
-use crate::pages::{ListingForm, add_file_warning, add_line, add_statement};
+use crate::pages::{ListingForm, ROWS, add_file_warning, add_row, role_at};
 use bench_core::Bench;
+use listed_text::Words;
 use script_steps::{
-    Ending, ReaderState, Response, Session, Step, TooLong, Watch, put_behind, put_response,
+    Ending, FaultKind, ReaderState, Response, Session, Step, TooLong, Watch, put_behind,
+    put_response,
 };
+use statement_faults::carets::{Caret, caret_of};
 use statement_faults::lines::{OpenLines, SourceLine};
 use statement_faults::roles::{Brought, Role, role_of};
-use statement_faults::words::Words;
 use std::alloc::Global;
 use std::io::Write;
 use text_output::Gathered;
@@ -33,17 +35,24 @@ fn brought_by(told: &Option<(u32, Response)>) -> Brought {
     }
 }
 
-/// What a listing carries from line to line: the lines of the statement that is open, and the words of a line.
+/// What a listing carries from line to line: the lines of the statement that is open, or those that are shown, and the
+/// words of a row.
 #[derive(Drop)]
 pub(crate) struct ListingPage {
-    open: OpenLines,
+    lines: OpenLines,
+    /// What the last of the lines is, where they are shown.
+    last: Option<Role>,
+    /// Where the statement that is shown is wrong.
+    fault: Option<(Caret, FaultKind)>,
     words: Words,
 }
 
 impl ListingPage {
     pub(crate) fn new() -> ListingPage {
         ListingPage {
-            open: OpenLines::new(),
+            lines: OpenLines::new(),
+            last: None,
+            fault: None,
             words: Words::new(),
         }
     }
@@ -57,53 +66,72 @@ impl ListingPage {
         self.words.as_slice()
     }
 
-    /// Makes the words that stand in front of the answer that a line brings, or in place of one.
-    fn compose(
-        &mut self,
-        form: ListingForm,
-        script: &[u8],
-        line: SourceLine,
-        role: Role,
-        brought: Brought,
-    ) {
+    /// Nothing is shown any more. An open statement keeps its lines.
+    fn hide(&mut self) {
+        if self.last.is_some() {
+            self.lines.clear();
+        }
+        self.last = None;
+        self.fault = None;
+    }
+
+    /// Shows the lines so far, the last of which has this role and brings this.
+    fn show(&mut self, script: &[u8], last: Role, brought: Brought) {
+        self.last = Some(last);
+        self.fault = match brought {
+            Brought::Fault(kind) => Some((caret_of(script, self.lines.as_slice(), kind), kind)),
+            _ => None,
+        };
+    }
+
+    /// Takes a line, and shows the statement that it answers; or itself, where it belongs to none.
+    fn take(&mut self, script: &[u8], line: SourceLine, role: Role, brought: Brought) {
+        self.hide();
+        let is_alone = matches!(role, Role::Aside | Role::Gone);
+        if is_alone || role == Role::First {
+            self.lines.clear();
+        }
+        self.lines.push(line);
+        if is_alone || brought != Brought::Nothing {
+            self.show(script, role, brought);
+        }
+    }
+
+    /// How many rows are shown.
+    fn rows(&self) -> usize {
+        if self.last.is_some() {
+            ROWS * self.lines.as_slice().len()
+        } else {
+            0
+        }
+    }
+
+    /// Makes the words of a row that is shown.
+    fn compose_row(&mut self, form: ListingForm, script: &[u8], row: usize) {
         self.words.clear();
-        match role {
-            Role::Aside | Role::Gone => add_line(&mut self.words, form, script, &line, role),
-            Role::First => {
-                self.open.clear();
-                self.open.push(line);
-            }
-            Role::Further | Role::Breaking => self.open.push(line),
-        }
-        if brought != Brought::Nothing {
-            self.settle(form, script, role, brought);
-        }
+        let lines = self.lines.as_slice();
+        let index = row / ROWS;
+        let (Some(last), Some(line)) = (self.last, lines.get(index)) else {
+            return;
+        };
+        let role = role_at(index, lines.len(), last);
+        let fault = match &self.fault {
+            Some((caret, kind)) if caret.place.line == index => Some((caret, *kind)),
+            _ => None,
+        };
+        add_row(&mut self.words, form, script, line, role, row % ROWS, fault);
     }
 
-    /// Makes the words of the statement that is answered, whose last line has this role.
-    fn settle(&mut self, form: ListingForm, script: &[u8], last: Role, brought: Brought) {
-        add_statement(
-            &mut self.words,
-            form,
-            script,
-            self.open.as_slice(),
-            last,
-            brought,
-        );
-        self.open.clear();
-    }
-
-    /// Makes the words of a last line without a line feed.
-    pub(crate) fn compose_last(
+    /// Takes a last line without a line feed.
+    pub(crate) fn take_last(
         &mut self,
-        form: ListingForm,
         script: &[u8],
         line: SourceLine,
         before: ReaderState,
         ending: &Ending,
     ) {
-        self.words.clear();
         if line.start >= script.len() {
+            self.hide();
             return;
         }
         let after = if ending.open_statement.is_some() {
@@ -112,28 +140,26 @@ impl ListingPage {
             ReaderState::Awaiting
         };
         let brought = brought_by(&ending.last);
-        let role = role_of(before, after, brought);
-        self.compose(form, script, line, role, brought);
+        self.take(script, line, role_of(before, after, brought), brought);
     }
 
-    /// Makes the words of the statement that is open at the end.
-    pub(crate) fn compose_open(&mut self, form: ListingForm, script: &[u8], ending: &Ending) {
-        self.words.clear();
+    /// Shows the statement that is open at the end.
+    pub(crate) fn show_open(&mut self, script: &[u8], ending: &Ending) {
+        self.hide();
         if ending.open_statement.is_some() {
-            let last = if self.open.as_slice().len() > 1 {
+            let last = if self.lines.as_slice().len() > 1 {
                 Role::Further
             } else {
                 Role::First
             };
-            self.settle(form, script, last, brought_by(&ending.open_statement));
+            self.show(script, last, brought_by(&ending.open_statement));
         }
     }
 
-    /// Takes the line that begins at a place of the script, as `Session::take_line` does, and makes its words.
+    /// Takes the line that begins at a place of the script, as `Session::take_line` does, and shows what it answers.
     pub(crate) fn take_line(
         &mut self,
         session: &mut Session,
-        form: ListingForm,
         script: &[u8],
         at: usize,
     ) -> Result<Option<Step>, TooLong>
@@ -153,7 +179,7 @@ impl ListingPage {
             };
             let brought = brought_by(&step.told);
             let role = role_of(before, session.stand(), brought);
-            self.compose(form, script, line, role, brought);
+            self.take(script, line, role, brought);
         }
         taken
     }
@@ -181,6 +207,22 @@ fn put_words<W: Write>(gathered: &mut Gathered, writer: &mut W, words: &[u8])
     ensures { PutsItems (W.contents writer.old) (W.contents writer.new) gathered.old gathered.new [] }
 {
     gathered.put(writer, words);
+}
+
+/// Puts the rows that are shown, none of them an answer.
+pub(crate) fn put_rows<W: Write>(
+    gathered: &mut Gathered,
+    writer: &mut W,
+    page: &mut ListingPage,
+    form: ListingForm,
+    script: &[u8],
+)
+    ensures { PutsItems (W.contents writer.old) (W.contents writer.new) gathered.old gathered.new [] }
+{
+    for row in 0..page.rows() {
+        page.compose_row(form, script, row);
+        put_words(gathered, writer, page.words());
+    }
 }
 
 /// Puts the text of a response, where these bytes are shown.
@@ -270,11 +312,11 @@ fn list_line<W: Write>(
         → ListsLine settings first (W.contents writer.new) gathered.new script.now at session.new result }
     ensures next { IsNext script.now at result }
 {
-    match page.take_line(session, ListingForm::Listing, script, at) {
+    match page.take_line(session, script, at) {
         Err(fault) => Err(fault),
         Ok(None) => Ok(None),
         Ok(Some(step)) => {
-            put_words(gathered, writer, page.words());
+            put_rows(gathered, writer, page, ListingForm::Listing, script);
             put_answer(
                 gathered,
                 writer,
@@ -339,10 +381,10 @@ fn put_ending<W: Write>(
         ending.now.open_statement) }
 {
     let shown = ending.shown.as_slice();
-    put_words(gathered, writer, page.words());
+    put_rows(gathered, writer, page, ListingForm::Listing, script);
     put_answer(gathered, writer, &ending.bench, shown, &ending.last);
-    page.compose_open(ListingForm::Listing, script, ending);
-    put_words(gathered, writer, page.words());
+    page.show_open(script, ending);
+    put_rows(gathered, writer, page, ListingForm::Listing, script);
     put_answer(
         gathered,
         writer,
@@ -368,7 +410,7 @@ fn list_end<W: Write>(
     let before = session.stand();
     let line = rest_line(session.lines(), script, at);
     let ending = session.end();
-    page.compose_last(ListingForm::Listing, script, line, before, &ending);
+    page.take_last(script, line, before, &ending);
     put_ending(gathered, writer, page, script, &ending);
     let is_refused = ending.totals.refused > 0;
     drop(ending);

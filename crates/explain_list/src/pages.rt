@@ -1,13 +1,12 @@
 //! What a listing says around the answers: lines of the script, carets and warnings.
-ghost use Rattle.std.specs.Prelude.{◌≤◌, length};
 
+use listed_text::{Words, column_of};
 use script_steps::{FaultKind, fault_word};
-use statement_faults::carets::{Caret, caret_of};
+use statement_faults::carets::Caret;
 use statement_faults::hints::add_hint;
 use statement_faults::lines::SourceLine;
-use statement_faults::roles::{Brought, Role};
-use statement_faults::warnings::{Warned, warning_on, warnings_in};
-use statement_faults::words::Words;
+use statement_faults::roles::Role;
+use statement_faults::warnings::{KINDS, Warned, warning_in, warning_on};
 
 /// The column, from 0, in which a line of the script begins in the listing.
 const MARGIN: usize = 9;
@@ -24,7 +23,7 @@ pub(crate) enum ListingForm<'a> {
 
 /// Appends what a line of a file that breaks off begins with.
 fn add_position(words: &mut Words, name: &[u8], number: u32, column: usize) {
-    words.add(&name[..name.len().min(1024)]);
+    words.add(name);
     words.add(b":");
     words.add_number(number, 0);
     words.add(b":");
@@ -32,30 +31,44 @@ fn add_position(words: &mut Words, name: &[u8], number: u32, column: usize) {
     words.add(b": ");
 }
 
-/// Appends the begin of a line that says something of a column: below that column, or with its place.
-fn add_front(words: &mut Words, form: ListingForm, number: u32, column: usize) {
+/// What is shown of a line.
+fn shown_part(bytes: &[u8]) -> &[u8] {
+    &bytes[..bytes.len().min(SHOWN)]
+}
+
+/// Appends the begin of a line that says something of a column of a line of the script: below that column, or with its
+/// place, which is counted in bytes.
+fn add_front(
+    words: &mut Words,
+    form: ListingForm,
+    script: &[u8],
+    line: &SourceLine,
+    column: usize,
+) {
     match form {
         ListingForm::Listing => {
+            let place = column.saturating_sub(1).min(SHOWN);
             words.add_blanks(MARGIN);
-            words.add_blanks(column.saturating_sub(1));
+            words.add_blanks(column_of(shown_part(line.bytes(script)), place));
             words.add(b"^ ");
         }
-        ListingForm::Check(name) => add_position(words, name, number, column),
+        ListingForm::Check(name) => add_position(words, name, line.number, column),
     }
 }
 
-fn add_warning(words: &mut Words, form: ListingForm, number: u32, warned: Warned) {
+/// Appends a warning on a line.
+fn add_warning(
+    words: &mut Words,
+    form: ListingForm,
+    script: &[u8],
+    line: &SourceLine,
+    warned: Warned,
+) {
     if let Some((column, warning)) = warned {
-        add_front(words, form, number, column.min(SHOWN));
+        add_front(words, form, script, line, column.min(SHOWN));
         words.add(b"WARNING: ");
         words.add(warning.text());
         words.add(b"\n");
-    }
-}
-
-fn add_warnings(words: &mut Words, form: ListingForm, number: u32, warnings: &[Warned]) {
-    for warned in warnings {
-        add_warning(words, form, number, *warned);
     }
 }
 
@@ -81,7 +94,7 @@ fn add_loss(words: &mut Words, before: &[u8], number: u32) {
     words.add(b"NOT CARRIED OUT: line ");
     words.add_number(number.saturating_sub(1), 0);
     words.add(b" has '");
-    words.add(&[column_72(before)]);
+    words.add_shown(&[column_72(before)]);
     words.add(b"' in column 72");
 }
 
@@ -108,7 +121,7 @@ fn add_source(words: &mut Words, script: &[u8], line: &SourceLine, role: Role) {
     let bytes = line.bytes(script);
     words.add_number(line.number, 7);
     words.add(if role.is_lost() { b" x" } else { b"  " });
-    words.add(&bytes[..bytes.len().min(SHOWN)]);
+    words.add_shown(shown_part(bytes));
     if bytes.len() > SHOWN {
         words.add(b"..");
     }
@@ -119,14 +132,8 @@ fn add_source(words: &mut Words, script: &[u8], line: &SourceLine, role: Role) {
     words.add(b"\n");
 }
 
-/// Appends a line, with its warnings.
-pub(crate) fn add_line(
-    words: &mut Words,
-    form: ListingForm,
-    script: &[u8],
-    line: &SourceLine,
-    role: Role,
-) {
+/// Appends a line as the listing has it, or that it isn't carried out.
+fn add_line(words: &mut Words, form: ListingForm, script: &[u8], line: &SourceLine, role: Role) {
     match form {
         ListingForm::Listing => add_source(words, script, line, role),
         ListingForm::Check(name) if role.is_lost() => {
@@ -136,15 +143,18 @@ pub(crate) fn add_line(
         }
         ListingForm::Check(_) => (),
     }
-    if role != Role::Aside {
-        let warnings = warnings_in(line.bytes(script), role.is_read());
-        add_warnings(words, form, line.number, &warnings);
-    }
 }
 
-/// Appends what is wrong with a statement and what is expected, where the caret stands.
-fn add_caret(words: &mut Words, form: ListingForm, number: u32, caret: &Caret, kind: FaultKind) {
-    add_front(words, form, number, caret.place.column);
+/// Appends what is wrong with a statement and what is expected, the caret of which is on this line.
+fn add_caret(
+    words: &mut Words,
+    form: ListingForm,
+    script: &[u8],
+    line: &SourceLine,
+    caret: &Caret,
+    kind: FaultKind,
+) {
+    add_front(words, form, script, line, caret.place.column);
     words.add(fault_word(kind).as_bytes());
     words.add(b": ");
     add_hint(words, caret, kind);
@@ -152,7 +162,7 @@ fn add_caret(words: &mut Words, form: ListingForm, number: u32, caret: &Caret, k
 }
 
 /// What a line of a statement is, by its place among the statement's lines.
-fn role_at(index: usize, count: usize, last: Role) -> Role {
+pub(crate) fn role_at(index: usize, count: usize, last: Role) -> Role {
     if index.saturating_add(1) == count {
         last
     } else if index == 0 {
@@ -162,28 +172,28 @@ fn role_at(index: usize, count: usize, last: Role) -> Role {
     }
 }
 
-/// Appends the lines of a statement that ends, the last of which has this role, with its caret where it brings a fault.
-pub(crate) fn add_statement(
+/// How many rows go with a line of the script: itself, a warning of each kind, and a caret.
+pub(crate) const ROWS: usize = KINDS + 2;
+
+/// Appends one of the rows that go with a line of this role: nothing if there is no such row. The last is that of the
+/// caret of a fault, if it's on this line.
+pub(crate) fn add_row(
     words: &mut Words,
     form: ListingForm,
     script: &[u8],
-    lines: &[SourceLine],
-    last: Role,
-    brought: Brought,
-)
-    requires { length lines.now ≤ 10 }
-{
-    let fault = match brought {
-        Brought::Fault(kind) => Some((caret_of(script, lines, kind), kind)),
-        _ => None,
-    };
-    for index in 0..lines.len() {
-        let line = &lines[index];
-        add_line(words, form, script, line, role_at(index, lines.len(), last));
-        if let Some((caret, kind)) = &fault
-            && caret.place.line == index
-        {
-            add_caret(words, form, line.number, caret, *kind);
+    line: &SourceLine,
+    role: Role,
+    row: usize,
+    fault: Option<(&Caret, FaultKind)>,
+) {
+    if row == 0 {
+        add_line(words, form, script, line, role);
+    } else if row <= KINDS {
+        if role != Role::Aside {
+            let warned = warning_in(line.bytes(script), role.is_read(), row - 1);
+            add_warning(words, form, script, line, warned);
         }
+    } else if let Some((caret, kind)) = fault {
+        add_caret(words, form, script, line, caret, kind);
     }
 }

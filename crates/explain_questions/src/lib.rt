@@ -5,4 +5,4 @@ mod questions;
 mod refusals;
 
 pub use questions::{About, Asking, Question, asking_of};
-pub use refusals::WordRefusal;
+pub use refusals::{PlainText, WordRefusal};

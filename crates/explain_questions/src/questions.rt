@@ -1,16 +1,21 @@
 //! Questions, as words ask them.
 ghost use Rattle.std.specs.Prelude.{◌≡◌, ◌≤◌, IfOk, IfSome, Some, option_map};
 ghost use Rattle.clap.specs.Words.{found_of, first_of, rows_of, subcommand_rows_of};
-ghost use Rattle.explain_questions.specs.Questions.{Asks, IsAskable, IsLine, IsOfFile, IsThere, number_within};
+ghost use Rattle.std.specs.Prelude.{◌<◌, ◌∷◌, ◌++◌, [], length};
+ghost use Rattle.operand_texts.specs.Values.{number_of};
+ghost use Rattle.explain_questions.specs.Questions.{Asks, IsAskable, IsLine, IsOfFile, IsSeenThere, IsThere};
+ghost use Rattle.explain_questions.specs.Questions.{address_number, hexadecimal, is_marked, is_printed, is_zero_first};
+ghost use Rattle.explain_questions.specs.Questions.{number_within, quoted};
 
 use crate::refusals::WordRefusal;
+use arrayvec::ArrayVec;
 use clap::ArgMatches;
 use operand_texts::Name;
 use operand_texts::numbers::number_of;
 use operand_texts::words::{is_name, upper_name};
 use vsm_bench::settings_asked;
+use vsm_model::Settings;
 use vsm_model::geometry::LAST_SUBPOOL;
-use vsm_model::{Settings, Subpool};
 
 /// The greatest number of a line.
 const LAST_LINE: u32 = 1_048_576;
@@ -33,8 +38,8 @@ pub enum About {
     Register { task: u8, register: u8 },
     /// The word of a name.
     Name(Name),
-    /// What a subpool has.
-    Subpool(Subpool),
+    /// What the subpool has that a task sees at a number.
+    Subpool { task: u8, number: u8 },
     /// Whose the page of this address is.
     Holder(u32),
 }
@@ -54,8 +59,10 @@ pub enum Question<'a> {
     Report {
         line: Option<u32>,
     },
-    /// What is left behind each statement.
-    OverTime,
+    /// What is left after each statement; or what the subpool has that a task sees at a number.
+    OverTime {
+        subpool: Option<(u8, u8)>,
+    },
     /// Which lines changed this.
     Who(About),
     /// Which lines made the changes that are kept and undone.
@@ -106,9 +113,68 @@ fn is_line(word: &str) -> bool {
         .is_some_and(|byte| byte.is_ascii_digit())
 }
 
+/// X'..' with these digits.
+fn quoted(digits: &[u8]) -> ArrayVec<u8, 11>
+    requires { length digits.now ≤ 8 }
+    ensures { result.items ≡ quoted digits.now }
+{
+    let mut text = ArrayVec::new();
+    let _ = text.try_extend_from_slice(b"X'");
+    let _ = text.try_extend_from_slice(digits);
+    let _ = text.try_extend_from_slice(b"'");
+    text
+}
+
+/// The number that one to eight hexadecimal digits spell.
+fn hexadecimal(digits: &[u8]) -> Option<u32>
+    ensures { result ≡ hexadecimal digits.now }
+{
+    if digits.len() > 8 {
+        return None;
+    }
+    number_of(quoted(digits).as_slice())
+}
+
+/// Whether a text has two bytes at least, of which the first is a 0.
+fn is_zero_first(text: &[u8]) -> bool
+    ensures { result ≡ is_zero_first text.now }
+{
+    text.len() > 1 && text[0] == b'0'
+}
+
+/// Whether a text begins with 0x.
+fn is_marked(text: &[u8]) -> bool
+    ensures { result ≡ is_marked text.now }
+{
+    is_zero_first(text) && (text[1] == b'x' || text[1] == b'X')
+}
+
+/// Whether a text is like an address that answers print.
+fn is_printed(text: &[u8]) -> bool
+    ensures { result ≡ is_printed text.now }
+{
+    is_zero_first(text) && text.len() == 8
+}
+
+/// The address that a text spells: as a number in a script, as 0x and hexadecimal digits, or as answers print it, in
+/// eight digits the first of which is 0.
+fn address_number(text: &[u8]) -> Option<u32>
+    ensures { result ≡ address_number text.now }
+{
+    if is_marked(text) {
+        hexadecimal(&text[2..])
+    } else if is_printed(text) {
+        hexadecimal(text)
+    } else {
+        number_of(text)
+    }
+}
+
 /// The address that a word spells.
-fn address_of(word: &str) -> Result<u32, WordRefusal<'_>> {
-    match number_of(word.as_bytes()) {
+fn address_of(word: &str) -> Result<u32, WordRefusal<'_>>
+    ensures { IfOk result (λ address. address_number word.now ≡ Some address) }
+{
+    match address_number(word.as_bytes()) {
         Some(address) => Ok(address),
         None => Err(WordRefusal::Address(word)),
     }
@@ -155,21 +221,27 @@ fn register_of(word: &str) -> Result<About, WordRefusal<'_>>
     }
 }
 
-/// The subpool of a task: two numbers with a comma between them, or the number of a subpool of task 1 alone.
-fn subpool_of(word: &str) -> Result<About, WordRefusal<'_>>
-    ensures { IfOk result IsThere }
+/// A task, and the number of a subpool that it may see: two numbers with a comma between them, or the second alone for
+/// task 1.
+fn seen_of(word: &str) -> Result<(u8, u8), WordRefusal<'_>>
+    ensures { IfOk result IsSeenThere }
 {
     let (task, number) = word.split_once(',').unwrap_or(("1", word));
     match (
         number_within(task, 1, LAST_TASK),
         number_within(number, 0, LAST_SUBPOOL),
     ) {
-        (Some(task), Some(number)) => Ok(About::Subpool(Subpool {
-            number: number as u8,
-            owner: task as u8,
-        })),
+        (Some(task), Some(number)) => Ok((task as u8, number as u8)),
         _ => Err(WordRefusal::Subpool(word)),
     }
+}
+
+/// What the subpool has that a task sees at a number.
+fn subpool_of(word: &str) -> Result<About, WordRefusal<'_>>
+    ensures { IfOk result IsThere }
+{
+    let (task, number) = seen_of(word)?;
+    Ok(About::Subpool { task, number })
 }
 
 /// Whose the page of an address is.
@@ -237,6 +309,16 @@ fn line_asked(word: Option<&str>) -> Result<Option<u32>, WordRefusal<'_>>
     }
 }
 
+/// The task and the number of a subpool that a word spells, where there is one.
+fn seen_asked(word: Option<&str>) -> Result<Option<(u8, u8)>, WordRefusal<'_>>
+    ensures { IfOk result (λ seen. IfSome seen IsSeenThere) }
+{
+    match word {
+        Some(word) => Ok(Some(seen_of(word)?)),
+        None => Ok(None),
+    }
+}
+
 /// What `report` asks.
 fn report_asked<'a>(matches: &ArgMatches<'a>) -> Result<AskedOfScript<'a>, WordRefusal<'a>>
     ensures askable { IfOk result (λ a. IsAskable a.0) }
@@ -244,13 +326,18 @@ fn report_asked<'a>(matches: &ArgMatches<'a>) -> Result<AskedOfScript<'a>, WordR
 {
     let file = text_of(matches, "FILE");
     let line = line_asked(text_of(matches, "LINE"))?;
+    let subpool = seen_asked(text_of(matches, "subpool"))?;
     if !matches.get_flag("over-time") {
-        return Ok((Question::Report { line }, file));
+        return if subpool.is_some() {
+            Err(WordRefusal::SubpoolAtOnce)
+        } else {
+            Ok((Question::Report { line }, file))
+        };
     }
     if line.is_some() {
         return Err(WordRefusal::LineOverTime);
     }
-    Ok((Question::OverTime, file))
+    Ok((Question::OverTime { subpool }, file))
 }
 
 /// How many things the words ask for that lines change.

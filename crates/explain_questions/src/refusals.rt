@@ -12,6 +12,8 @@ pub enum WordRefusal<'a> {
     Line(&'a str),
     /// `report --over-time` has the number of a line.
     LineOverTime,
+    /// `report` has a subpool, and no `--over-time`.
+    SubpoolAtOnce,
     /// It's no address.
     Address(&'a str),
     /// It's no count of bytes.
@@ -41,7 +43,7 @@ impl<'a> WordRefusal<'a> {
             ),
             WordRefusal::Line(word) => ("LINE is a number from 1 to 1048576, and not '", word, "'"),
             WordRefusal::Address(word) => (
-                "ADDRESS is a number as in a script, 24582 or X'6006', and not '",
+                "ADDRESS is a number as in a script, 24582 or X'6006', or as answers print it, 00006006, and not '",
                 word,
                 "'",
             ),
@@ -69,6 +71,8 @@ impl<'a> WordRefusal<'a> {
     fn text(self) -> &'static str {
         match self {
             WordRefusal::LineOverTime => "--over-time goes over all lines, and takes no LINE",
+            WordRefusal::SubpoolAtOnce =>
+                "--subpool goes with --over-time: a report has each subpool",
             WordRefusal::NothingAsked =>
                 "who asks for an ADDRESS, or by --holds, --subpool, --register, --name or --log",
             WordRefusal::MoreAsked =>
@@ -80,11 +84,23 @@ impl<'a> WordRefusal<'a> {
     }
 }
 
+/// A text with a point in place of each control character, so that none reaches a terminal.
+#[derive(Clone, Copy)]
+pub struct PlainText<'a>(pub &'a str);
+
+impl Display for PlainText<'_> {
+    fn fmt<W: fmt::Write>(&self, f: &mut Formatter<W>) -> fmt::Result {
+        for c in self.0.chars() {
+            f.write_char(if c.is_control() { '.' } else { c })?;
+        }
+        Ok(())
+    }
+}
+
 impl Display for WordRefusal<'_> {
     fn fmt<W: fmt::Write>(&self, f: &mut Formatter<W>) -> fmt::Result {
         let (before, word, behind) = self.told();
-        f.write_str(before)?;
-        f.write_str(word)?;
-        f.write_str(behind)
+        let word = PlainText(word);
+        write!(f, "{before}{word}{behind}")
     }
 }

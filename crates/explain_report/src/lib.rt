@@ -11,8 +11,8 @@ mod times;
 mod walks;
 
 pub use faults::ReportFault;
-pub use rows::{Share, SubpoolRow, row_of};
+pub use rows::{Share, SubpoolRow, row_of, row_seen};
 pub use runs::{over_time, report};
 pub use tallies::{SideTallies, Tally};
-pub use times::{Moment, moment_of};
+pub use times::{Figures, Moment, SeenSubpool, figures_of, moment_of};
 pub use walks::{all_free_areas, unassigned};

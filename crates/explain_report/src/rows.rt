@@ -6,12 +6,12 @@ ghost use Rattle.subpool_storage.specs.Extents.{free_areas};
 ghost use Rattle.storage_changes.specs.MapTotals.{subpool_pages};
 ghost use Rattle.storage_plans.specs.Places.{IsUpTo, region_on};
 ghost use Rattle.storage_core.specs.Meaning.{state_in_place, state_of, settings_of};
-ghost use Rattle.storage_core.specs.Walks.{IsBehindSubpool, subpool_before};
+ghost use Rattle.explain_report.specs.Figures.{IsRowSeen};
 ghost use Rattle.explain_report.specs.Tallies.{tally_of, low_runs, high_runs};
 
 use crate::tallies::Tally;
 use crate::walks::{extents_of, free_areas_of};
-use storage_core::{Residence, Storage, Subpool, SubpoolPlace};
+use storage_core::{Residence, Storage, Subpool};
 
 /// What a subpool has on one side of the 16 MB line.
 #[derive(Clone, Copy)]
@@ -34,10 +34,8 @@ pub struct SubpoolRow {
     pub high: Share,
 }
 
-/// What the subpool before the place has.
-pub fn row_of(storage: &Storage, subpool: Subpool, place: SubpoolPlace) -> SubpoolRow
-    requires behind { IsBehindSubpool storage.now place }
-    requires before { subpool_before storage.now place ≡ subpool }
+/// What a subpool has: nothing where there is no such subpool.
+pub fn row_of(storage: &Storage, subpool: Subpool) -> SubpoolRow
     ensures subpool { result.subpool ≡ subpool }
     ensures low_pages { result.low.pages ≡ subpool_pages (state_in_place storage.now).subpools true subpool }
     ensures high_pages { result.high.pages ≡ subpool_pages (state_in_place storage.now).subpools false subpool }
@@ -50,8 +48,8 @@ pub fn row_of(storage: &Storage, subpool: Subpool, place: SubpoolPlace) -> Subpo
     ensures high_largest { IsUpTo (λ count. is_some (least_fit (state_of storage.now)
         (region_on (settings_of storage.now) Above) subpool count 1)) result.high.largest }
 {
-    let extents = extents_of(storage, place);
-    let free = free_areas_of(storage, place);
+    let extents = extents_of(storage, subpool);
+    let free = free_areas_of(storage, subpool);
     let (low, _) = storage.area_reasons(Residence::Below, subpool, 1, 1);
     let (high, _) = storage.area_reasons(Residence::Above, subpool, 1, 1);
     SubpoolRow {
@@ -68,5 +66,15 @@ pub fn row_of(storage: &Storage, subpool: Subpool, place: SubpoolPlace) -> Subpo
             largest: high.longest_inside,
             unassigned: high.longest_run,
         },
+    }
+}
+
+/// What the subpool has that a task sees at a number; `None` where it sees none.
+pub fn row_seen(storage: &Storage, task: u8, number: u8) -> Option<SubpoolRow>
+    ensures { IsRowSeen storage.now number ((state_of storage.now).sight task number) result }
+{
+    match storage.owner_seen(task, number) {
+        Some(owner) => Some(row_of(storage, Subpool { number, owner })),
+        None => None,
     }
 }

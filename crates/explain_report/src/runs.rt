@@ -1,13 +1,17 @@
 //! Reports of a script: behind a statement, and over time.
+ghost use Rattle.std.specs.Prelude.{◌≡◌};
+ghost use Rattle.explain_report.specs.Figures.{IsAsBefore, may_change};
+
 use crate::faults::ReportFault;
-use crate::tables::{put_heading, put_moment, put_table};
-use crate::times::{Moment, moment_of};
+use crate::tables::{put_figures, put_heading, put_table};
+use crate::times::{Figures, SeenSubpool, figures_of, moment_of, seen_in};
 use bench_core::Bench;
 use script_steps::{
     Ending, NumberedResponse, ReaderState, Response, Session, Watch, before_feed, put_response,
 };
 use std::alloc::Global;
 use std::io::Write;
+use storage_core::Storage;
 use text_output::{Gathered, put_decimal};
 use vsm_model::{Reply, Settings};
 
@@ -117,10 +121,11 @@ fn write_report<W: Write>(
     end_text(gathered, out, Ok(()))
 }
 
-/// Reports what the end of a script left: behind the answer that the end brought, or behind the last before it where no
-/// line is said.
+/// Reports what the end of a script left, before which its reader stood so: behind the answer that the end brought, or
+/// behind the last before it where no line is said.
 fn report_end<W: Write>(
     ending: &Ending,
+    before: ReaderState,
     has_line: bool,
     last: &NumberedResponse,
     out: &mut W,
@@ -130,7 +135,7 @@ fn report_end<W: Write>(
     } else if ending.last.is_some() {
         &ending.last
     } else if has_line {
-        return Err(ReportFault::Aside);
+        return Err(unanswered(before));
     } else {
         last
     };
@@ -171,8 +176,9 @@ fn report_on<W: Write, P: Watch>(
     let mut session = session;
     match take_script(&mut session, script, line, last, watch) {
         Ok(true) => {
+            let before = session.stand();
             let ending = session.end();
-            let outcome = report_end(&ending, line.is_some(), last, out);
+            let outcome = report_end(&ending, before, line.is_some(), last, out);
             drop(ending);
             outcome
         }
@@ -203,10 +209,12 @@ pub fn report<W: Write, P: Watch>(
     report_on(session, script, line, &mut last, out, watch)
 }
 
-/// Whether what was answered may have changed the storage.
-fn changes(response: &Response) -> bool {
+/// Whether what was answered may have changed pages or free storage: each accepted statement but a POKE, and each step.
+fn may_change(response: &Response) -> bool
+    ensures { result ≡ may_change response.now }
+{
     match response {
-        Response::Replied(Reply::Stored | Reply::Turn(_)) => false,
+        Response::Replied(Reply::Stored) => false,
         Response::Replied(_) | Response::Kept(_) => true,
         Response::Refused(_)
         | Response::TooFar(_)
@@ -217,41 +225,55 @@ fn changes(response: &Response) -> bool {
     }
 }
 
-/// Puts the row of an answer, with what the storage comes to: as before, where the answer changed nothing of it.
+/// The figures of a storage after an answer: those before it, if it changed nothing.
+fn figures_after(storage: &Storage, before: Figures, response: &Response) -> Figures
+    ensures { IsAsBefore storage.now before response.now result }
+{
+    if may_change(response) {
+        figures_of(storage, seen_in(&before))
+    } else {
+        before
+    }
+}
+
+/// Puts the row of an answer, if there is one, and gives its figures.
 fn put_answer<W: Write>(
     gathered: &mut Gathered,
     out: &mut W,
     bench: &Bench,
-    moment: Moment,
+    before: Figures,
     told: &NumberedResponse,
-) -> Moment {
+) -> Figures {
     let Some((line, response)) = told else {
-        return moment;
+        return before;
     };
-    let moment = if changes(response) {
-        moment_of(bench.storage())
-    } else {
-        moment
-    };
-    put_moment(gathered, out, *line, &moment);
-    moment
+    let figures = figures_after(bench.storage(), before, response);
+    put_figures(gathered, out, *line, &figures);
+    figures
 }
 
 /// Puts the rows of what a script's end brings.
-fn put_end<W: Write>(gathered: &mut Gathered, out: &mut W, moment: Moment, ending: &Ending) {
-    let moment = put_answer(gathered, out, &ending.bench, moment, &ending.last);
-    let _ = put_answer(gathered, out, &ending.bench, moment, &ending.open_statement);
+fn put_end<W: Write>(gathered: &mut Gathered, out: &mut W, before: Figures, ending: &Ending) {
+    let figures = put_answer(gathered, out, &ending.bench, before, &ending.last);
+    let _ = put_answer(
+        gathered,
+        out,
+        &ending.bench,
+        figures,
+        &ending.open_statement,
+    );
 }
 
-/// Takes a script and puts the rows of its lines. Gives what the storage comes to behind the last row.
+/// Takes a script and puts the rows of its lines, by the figures before the first. Gives those after the last row.
 fn put_lines<W: Write, P: Watch>(
     session: &mut Session,
     script: &[u8],
+    first: Figures,
     gathered: &mut Gathered,
     out: &mut W,
     watch: &mut P,
-) -> Result<Moment, ReportFault> {
-    let mut moment = moment_of(session.bench().storage());
+) -> Result<Figures, ReportFault> {
+    let mut figures = first;
     let mut at = 0;
     'lines: while at < script.len() {
         let step = match session.take_line(script, at) {
@@ -261,25 +283,27 @@ fn put_lines<W: Write, P: Watch>(
         };
         watch.line(session.lines());
         at = step.next;
-        moment = put_answer(gathered, out, session.bench(), moment, &step.told);
+        figures = put_answer(gathered, out, session.bench(), figures, &step.told);
     }
     let _ = take_rest(session, script, at)?;
-    Ok(moment)
+    Ok(figures)
 }
 
-/// Puts the rows of a script.
+/// Puts the rows of a script, of the whole storage or of this subpool.
 fn put_rows<W: Write, P: Watch>(
     session: Session,
     script: &[u8],
+    seen: Option<SeenSubpool>,
     gathered: &mut Gathered,
     out: &mut W,
     watch: &mut P,
 ) -> Result<(), ReportFault> {
     let mut session = session;
-    match put_lines(&mut session, script, gathered, out, watch) {
-        Ok(moment) => {
+    let first = figures_of(session.bench().storage(), seen);
+    match put_lines(&mut session, script, first, gathered, out, watch) {
+        Ok(figures) => {
             let ending = session.end();
-            put_end(gathered, out, moment, &ending);
+            put_end(gathered, out, figures, &ending);
             drop(ending);
             Ok(())
         }
@@ -290,19 +314,22 @@ fn put_rows<W: Write, P: Watch>(
     }
 }
 
-/// Writes a row for each answer of a script, as values with commas between: the line of the statement; on each side of
-/// the 16 MB line the assigned pages, the unassigned ones, the runs of these and the longest; the bytes that are taken
-/// and free, the free areas, and the bytes of the largest. The first row names them.
+/// Writes a row for each answer of a script, as values with commas between, the first of which is the line of the
+/// statement; the first row names them. Of the whole storage: on each side of the 16 MB line the assigned pages, the
+/// unassigned ones, the runs of these and the longest; the bytes that are taken and free, and the free areas. Or, of
+/// the subpool that a task sees at a number, on each side of the line: its pages, the bytes that are taken and free in
+/// them, its free areas, and the bytes of the largest; zeros where the task sees none.
 pub fn over_time<W: Write, P: Watch>(
     alloc: Global,
     script: &[u8],
     settings: Settings,
+    seen: Option<SeenSubpool>,
     out: &mut W,
     watch: &mut P,
 ) -> Result<(), ReportFault> {
     let session = new_session(alloc, settings)?;
     let mut gathered = Gathered::new();
-    put_heading(&mut gathered, out);
-    let outcome = put_rows(session, script, &mut gathered, out, watch);
+    put_heading(&mut gathered, out, seen.is_some());
+    let outcome = put_rows(session, script, seen, &mut gathered, out, watch);
     end_text(gathered, out, outcome)
 }

@@ -1,13 +1,11 @@
 //! The text of a report: its columns, its lines, and the rows over time.
-ghost use Rattle.storage_core.specs.Walks.{IsBehindSubpool, subpool_before};
-ghost use Rattle.std.specs.Prelude.{◌≡◌};
 
 use crate::rows::{Share, SubpoolRow, row_of};
 use crate::tallies::Tally;
-use crate::times::Moment;
+use crate::times::{Figures, Moment};
 use itoa::Buffer;
 use std::io::Write;
-use storage_core::{Storage, Subpool, SubpoolPlace};
+use storage_core::{Storage, Subpool};
 use text_output::{Gathered, put_decimal, put_hexadecimal};
 use vsm_model::geometry::PAGE_BYTES;
 
@@ -51,13 +49,16 @@ fn could_get(share: &Share) -> u64 {
     fresh.max(8 * u64::from(share.largest))
 }
 
+/// The bytes that are taken of a subpool on one side of the line.
+fn taken_of(share: &Share) -> u64 {
+    bytes_of(share.pages).saturating_sub(8 * u64::from(share.free.total))
+}
+
 /// Puts what a subpool has on one side of the line.
 fn put_share<W: Write>(gathered: &mut Gathered, writer: &mut W, share: &Share) {
-    let pages = bytes_of(share.pages);
-    let free = 8 * u64::from(share.free.total);
     put_column(gathered, writer, 7, u64::from(share.pages));
-    put_column(gathered, writer, 11, pages.saturating_sub(free));
-    put_column(gathered, writer, 11, free);
+    put_column(gathered, writer, 11, taken_of(share));
+    put_column(gathered, writer, 11, 8 * u64::from(share.free.total));
     put_column(gathered, writer, 7, u64::from(share.free.count));
     put_column(gathered, writer, 11, 8 * u64::from(share.largest));
     let at = 8 * u64::from(share.free.at);
@@ -112,17 +113,8 @@ fn put_side<W: Write>(
 }
 
 /// Puts the lines of a subpool: one for each side of the line on which it has pages, and one at least.
-fn put_row<W: Write>(
-    gathered: &mut Gathered,
-    writer: &mut W,
-    storage: &Storage,
-    subpool: Subpool,
-    place: SubpoolPlace,
-)
-    requires behind { IsBehindSubpool storage.now place }
-    requires before { subpool_before storage.now place ≡ subpool }
-{
-    let row = row_of(storage, subpool, place);
+fn put_row<W: Write>(gathered: &mut Gathered, writer: &mut W, storage: &Storage, subpool: Subpool) {
+    let row = row_of(storage, subpool);
     if row.low.pages > 0 || row.high.pages == 0 {
         put_side(gathered, writer, &row, b" BELOW", &row.low);
         put_sharers(gathered, writer, storage, subpool);
@@ -139,12 +131,12 @@ fn put_row<W: Write>(
 fn put_rows<W: Write>(gathered: &mut Gathered, writer: &mut W, storage: &Storage) {
     let mut place = Storage::first_subpool_place();
     while let Some((subpool, behind)) = storage.next_subpool(place) {
-        put_row(gathered, writer, storage, subpool, behind);
+        put_row(gathered, writer, storage, subpool);
         place = behind;
     }
 }
 
-/// Puts the line of all subpools.
+/// Puts the line of all subpools: only sums, since areas of two subpools can't be joined.
 fn put_total<W: Write>(gathered: &mut Gathered, writer: &mut W, moment: &Moment) {
     let totals = &moment.totals;
     gathered.put(writer, b"  TOTAL            ");
@@ -153,16 +145,7 @@ fn put_total<W: Write>(gathered: &mut Gathered, writer: &mut W, moment: &Moment)
     put_column(gathered, writer, 11, totals.taken);
     put_column(gathered, writer, 11, totals.free);
     put_column(gathered, writer, 7, u64::from(moment.free.count));
-    put_column(gathered, writer, 11, 8 * u64::from(moment.free.longest));
-    let at = 8 * u64::from(moment.free.at);
-    put_where(gathered, writer, moment.free.longest > 0, at);
-    put_column(
-        gathered,
-        writer,
-        9,
-        fragmented(moment.free.longest, moment.free.total),
-    );
-    gathered.put(writer, b" %\n");
+    gathered.put(writer, b"\n");
 }
 
 /// Puts what a number that stands before counts: the word, and an `S` where there isn't one of it.
@@ -220,17 +203,21 @@ pub(crate) fn put_table<W: Write>(
     );
 }
 
-/// Puts the first line of the rows over time.
-pub(crate) fn put_heading<W: Write>(gathered: &mut Gathered, writer: &mut W) {
-    gathered.put(
-        writer,
-        b"line,low_assigned,low_unassigned,low_runs,low_longest,",
-    );
-    gathered.put(
-        writer,
-        b"high_assigned,high_unassigned,high_runs,high_longest,",
-    );
-    gathered.put(writer, b"taken,free,areas,largest\n");
+/// Puts the first line of the rows over time, of a subpool or of the whole storage.
+pub(crate) fn put_heading<W: Write>(gathered: &mut Gathered, writer: &mut W, is_subpool: bool) {
+    gathered.put(writer, b"line");
+    let names: &[u8] = if is_subpool {
+        b",low_pages,low_taken,low_free,low_areas,low_largest,high_pages,high_taken,high_free,high_areas"
+    } else {
+        b",low_assigned,low_unassigned,low_runs,low_longest,high_assigned,high_unassigned,high_runs"
+    };
+    gathered.put(writer, names);
+    let more: &[u8] = if is_subpool {
+        b",high_largest\n"
+    } else {
+        b",high_longest,taken,free,areas\n"
+    };
+    gathered.put(writer, more);
 }
 
 /// Puts a comma and a number.
@@ -247,29 +234,40 @@ fn put_pages<W: Write>(gathered: &mut Gathered, writer: &mut W, assigned: u32, r
     put_next(gathered, writer, u64::from(runs.longest));
 }
 
-/// Puts the row of the statement that begins on a line, with what the storage comes to behind it.
-pub(crate) fn put_moment<W: Write>(
+/// Puts what the whole storage comes to.
+fn put_moment<W: Write>(gathered: &mut Gathered, writer: &mut W, moment: &Moment) {
+    let totals = &moment.totals;
+    put_pages(gathered, writer, totals.low_pages, &moment.unassigned.low);
+    put_pages(gathered, writer, totals.high_pages, &moment.unassigned.high);
+    put_next(gathered, writer, totals.taken);
+    put_next(gathered, writer, totals.free);
+    put_next(gathered, writer, u64::from(moment.free.count));
+}
+
+/// Puts what a subpool has on one side of the line, as values.
+fn put_values<W: Write>(gathered: &mut Gathered, writer: &mut W, share: &Share) {
+    put_next(gathered, writer, u64::from(share.pages));
+    put_next(gathered, writer, taken_of(share));
+    put_next(gathered, writer, 8 * u64::from(share.free.total));
+    put_next(gathered, writer, u64::from(share.free.count));
+    put_next(gathered, writer, 8 * u64::from(share.largest));
+}
+
+/// Puts the row of the statement that begins on a line, with the figures after it.
+pub(crate) fn put_figures<W: Write>(
     gathered: &mut Gathered,
     writer: &mut W,
     line: u32,
-    moment: &Moment,
+    figures: &Figures,
 ) {
     put_decimal(gathered, writer, u64::from(line));
-    put_pages(
-        gathered,
-        writer,
-        moment.totals.low_pages,
-        &moment.unassigned.low,
-    );
-    put_pages(
-        gathered,
-        writer,
-        moment.totals.high_pages,
-        &moment.unassigned.high,
-    );
-    put_next(gathered, writer, moment.totals.taken);
-    put_next(gathered, writer, moment.totals.free);
-    put_next(gathered, writer, u64::from(moment.free.count));
-    put_next(gathered, writer, 8 * u64::from(moment.free.longest));
+    match figures {
+        Figures::Whole(moment) => put_moment(gathered, writer, moment),
+        Figures::Subpool(_, Some(row)) => {
+            put_values(gathered, writer, &row.low);
+            put_values(gathered, writer, &row.high);
+        }
+        Figures::Subpool(_, None) => gathered.put(writer, b",0,0,0,0,0,0,0,0,0,0"),
+    }
     gathered.put(writer, b"\n");
 }

@@ -5,8 +5,10 @@ ghost use Rattle.subpool_storage.specs.Order.{subpools_in_order};
 ghost use Rattle.storage_changes.specs.MapLists.{unassigned_runs};
 ghost use Rattle.storage_core.specs.Meaning.{state_in_place, state_of, settings_of};
 ghost use Rattle.storage_map.specs.Totals.{totals_of};
+ghost use Rattle.explain_report.specs.Figures.{IsFiguresOf, seen_in};
 ghost use Rattle.explain_report.specs.Tallies.{tally_of, low_runs, high_runs};
 
+use crate::rows::{SubpoolRow, row_seen};
 use crate::tallies::{SideTallies, Tally};
 use crate::walks::{all_free_areas, unassigned};
 use storage_core::Storage;
@@ -36,5 +38,40 @@ pub fn moment_of(storage: &Storage) -> Moment
         totals: totals(storage),
         unassigned: unassigned(storage),
         free: all_free_areas(storage),
+    }
+}
+
+/// A task, and the number of a subpool that it sees, or doesn't.
+pub type SeenSubpool = (u8, u8);
+
+/// What a row over time tells.
+#[derive(Clone, Copy)]
+pub enum Figures {
+    /// What the whole storage comes to.
+    Whole(Moment),
+    /// What the subpool has that a task sees at a number; `None` where it sees none.
+    Subpool(SeenSubpool, Option<SubpoolRow>),
+}
+
+/// Of which subpool the figures are; `None` where they are of the whole storage.
+pub(crate) fn seen_in(figures: &Figures) -> Option<SeenSubpool>
+    ensures { result ≡ seen_in figures.now }
+{
+    match figures {
+        Figures::Whole(_) => None,
+        Figures::Subpool(seen, _) => Some(*seen),
+    }
+}
+
+/// The figures of a storage, or of the subpool in it that a task sees.
+pub fn figures_of(storage: &Storage, seen: Option<SeenSubpool>) -> Figures
+    ensures of { IsFiguresOf storage.now result }
+    ensures seen { seen_in result ≡ seen }
+{
+    match seen {
+        None => Figures::Whole(moment_of(storage)),
+        Some((task, number)) => {
+            Figures::Subpool((task, number), row_seen(storage, task, number))
+        }
     }
 }

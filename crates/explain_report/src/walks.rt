@@ -9,19 +9,18 @@ ghost use Rattle.explain_report.specs.Tallies.{tally_of, with_runs, low_runs, hi
 
 use crate::tallies::{SideTallies, Tally};
 use storage_changes::maps::totals_are_sums;
-use storage_core::{Storage, SubpoolPlace};
+use storage_core::{Storage, Subpool, SubpoolPlace};
 use vsm_model::geometry::{LINE_DOUBLEWORD, LINE_PAGE};
 
-/// The extents of the subpool before the place, in pages.
-pub(crate) fn extents_of(storage: &Storage, subpool_place: SubpoolPlace) -> SideTallies
-    requires { IsBehindSubpool storage.now subpool_place }
+/// The extents of a subpool, in pages.
+pub(crate) fn extents_of(storage: &Storage, subpool: Subpool) -> SideTallies
     ensures low { result.low ≡ tally_of (low_runs 4096
-        (extents (state_in_place storage.now).subpools (subpool_before storage.now subpool_place))) }
+        (extents (state_in_place storage.now).subpools subpool)) }
     ensures high { result.high ≡ tally_of (high_runs 4096
-        (extents (state_in_place storage.now).subpools (subpool_before storage.now subpool_place))) }
+        (extents (state_in_place storage.now).subpools subpool)) }
 {
     let mut sides = SideTallies::NONE;
-    let mut place = storage.first_extent_at(subpool_place);
+    let mut place = storage.first_extent(subpool);
     while let Some((run, behind)) = storage.next_extent(place) {
         sides = sides.with_run(LINE_PAGE, run);
         place = behind;
@@ -29,16 +28,15 @@ pub(crate) fn extents_of(storage: &Storage, subpool_place: SubpoolPlace) -> Side
     sides
 }
 
-/// The free areas of the subpool before the place, in doublewords.
-pub(crate) fn free_areas_of(storage: &Storage, subpool_place: SubpoolPlace) -> SideTallies
-    requires { IsBehindSubpool storage.now subpool_place }
+/// The free areas of a subpool, in doublewords.
+pub(crate) fn free_areas_of(storage: &Storage, subpool: Subpool) -> SideTallies
     ensures low { result.low ≡ tally_of (low_runs 2097152
-        (free_areas (state_in_place storage.now).subpools (subpool_before storage.now subpool_place))) }
+        (free_areas (state_in_place storage.now).subpools subpool)) }
     ensures high { result.high ≡ tally_of (high_runs 2097152
-        (free_areas (state_in_place storage.now).subpools (subpool_before storage.now subpool_place))) }
+        (free_areas (state_in_place storage.now).subpools subpool)) }
 {
     let mut sides = SideTallies::NONE;
-    let mut place = storage.first_free_area_at(subpool_place);
+    let mut place = storage.first_free_area(subpool);
     while let Some((area, behind)) = storage.next_free_area(place) {
         sides = sides.with_run(LINE_DOUBLEWORD, area);
         place = behind;

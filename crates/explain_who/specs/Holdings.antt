@@ -27,6 +27,10 @@ holding_of settings s p =
       free = in_short (flat_map (free_areas s p) (ascending_regions settings));
     }
 
+-- no pages, and no free storage
+abbrev pub no_holding : Holding
+no_holding = record { pages = in_short []; free = in_short [] }
+
 abbrev pub same_holding : Holding → Holding → Bool
 same_holding a b =
     (a.pages.total == b.pages.total) && (a.pages.count == b.pages.count) && (a.free.total == b.free.total)

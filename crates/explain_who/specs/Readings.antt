@@ -2,14 +2,13 @@
 use Rattle.std.specs.Prelude.{ℕ, ◌/◌, min, Bool, true, false, ◌&&◌, ◌==◌, if◌then◌else◌, Option, Some, None, option_map}
 use Rattle.std.specs.Str.{bytes_eq}
 use Rattle.arrayvec.specs.ArrayVec.{ArrayVec}
-use Rattle.vsm_model.specs.declared.Subpool.{Subpool}
 use Rattle.vsm_model.specs.declared.limits.Settings.{Settings}
 use Rattle.vsm_model.specs.Names.{NamedState, word_of}
 use Rattle.vsm_model.specs.Bytes.{load}
-use Rattle.vsm_model.specs.State.{is_task}
+use Rattle.vsm_model.specs.State.{State, is_task}
 use Rattle.bench_core.specs.Stands.{bench_of, settings_in}
 use Rattle.bench_core.specs.declared.bench.Bench.{Bench}
-use Rattle.explain_who.specs.Holdings.{holding_of, same_holding}
+use Rattle.explain_who.specs.Holdings.{holding_of, no_holding, same_holding}
 use Rattle.explain_who.specs.declared.holdings.Holding.{Holding}
 use Rattle.explain_who.specs.declared.readings.Subject.{Subject}
 use Rattle.explain_who.specs.declared.readings.Subject.TheVariants as asked
@@ -24,9 +23,19 @@ bytes_read address count m = option_map (λ bytes. record { items = bytes }) (lo
 abbrev pub register_read : ℕ → ℕ → NamedState → Option ℕ
 register_read task register m = if is_task m.storage task then Some (m.storage.words task register) else None
 
--- what a subpool has, where the task is there that it belongs to
-abbrev pub holding_read : Settings → Subpool → NamedState → Option Holding
-holding_read settings p m = if is_task m.storage p.owner then Some (holding_of settings m.storage p) else None
+-- what the subpool with this number has that has this owner; nothing where there is none
+abbrev pub holding_owned : Settings → State → ℕ → Option ℕ → Holding
+holding_owned settings s number None = no_holding
+holding_owned settings s number (Some owner) = holding_of settings s (record { number = number; owner = owner })
+
+-- what the subpool has that a task sees at a number, whoever owns it
+abbrev pub holding_seen : Settings → State → ℕ → ℕ → Holding
+holding_seen settings s task number = holding_owned settings s number (s.sight task number)
+
+-- and that where the task is there
+abbrev pub holding_read : Settings → ℕ → ℕ → NamedState → Option Holding
+holding_read settings task number m =
+    if is_task m.storage task then Some (holding_seen settings m.storage task number) else None
 
 -- what is asked for, as it is in a state
 abbrev pub reading : Settings → Option Subject → NamedState → Seen
@@ -34,7 +43,7 @@ reading settings None m = seen.Nothing
 reading settings (Some (asked.Bytes address count)) m = seen.Bytes (bytes_read address count m)
 reading settings (Some (asked.Register task register)) m = seen.Register (register_read task register m)
 reading settings (Some (asked.Name name)) m = seen.Name (word_of m.names name.bytes)
-reading settings (Some (asked.Subpool p)) m = seen.Held (holding_read settings p m)
+reading settings (Some (asked.Subpool task number)) m = seen.Held (holding_read settings task number m)
 reading settings (Some (asked.Holder address)) m = seen.Holder (m.storage.pages (address / 4096))
 
 -- as it is in the state of a bench

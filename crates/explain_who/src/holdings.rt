@@ -25,6 +25,12 @@ pub struct Holding {
 }
 
 impl Holding {
+    /// No pages, and no free storage.
+    pub(crate) const NOTHING: Holding = Holding {
+        pages: Runs { total: 0, count: 0 },
+        free: Runs { total: 0, count: 0 },
+    };
+
     /// Whether two subpools have the same in short.
     pub(crate) fn is_same(&self, other: &Holding) -> bool
         ensures { result ≡ same_holding self.now other.now }

@@ -1,9 +1,11 @@
 //! Who changed it, and every change with its line, as text.
+ghost use Rattle.std.specs.Prelude.{◌≡◌, ◌/◌, ◌+◌, ◌^◌, ◌<◌, ◌&&◌, nat_le, nat_lt};
+ghost use Rattle.vsm_model.specs.Regions.{among, in_a_region};
 
 use crate::faults::WhoFault;
 use crate::found::{NamedChange, changes};
 use crate::readings::{Seen, Subject};
-use crate::texts::{put_count, put_line, put_seen};
+use crate::texts::{put_asked, put_count, put_line, put_seen};
 use crate::tracing::{Traced, follow};
 use crate::trail::TrailEntry;
 use script_steps::Watch;
@@ -11,6 +13,7 @@ use std::alloc::Global;
 use std::io::Write;
 use text_output::{Gathered, put_decimal};
 use vsm_model::Settings;
+use vsm_model::geometry::{HIGH_PAGE, LOW_PAGE, PAGE_BYTES, PAGE_K};
 
 /// Puts one change.
 fn put_change<W: Write>(
@@ -57,21 +60,62 @@ fn is_absent(seen: &Seen) -> bool {
 }
 
 /// What is said where what is asked for isn't there in any reading, and has to be: the task, or the name.
-fn missing(asked: Subject) -> Option<WhoFault> {
+fn missing(asked: &Subject) -> Option<WhoFault> {
     match asked {
-        Subject::Register { task, .. } => Some(WhoFault::NoTask(task)),
-        Subject::Subpool(subpool) => Some(WhoFault::NoTask(subpool.owner)),
-        Subject::Name(name) => Some(WhoFault::NoName(name)),
+        Subject::Register { task, .. } => Some(WhoFault::NoTask(*task)),
+        Subject::Subpool { task, .. } => Some(WhoFault::NoTask(*task)),
+        Subject::Name(name) => Some(WhoFault::NoName(*name)),
         Subject::Bytes { .. } | Subject::Holder(_) => None,
     }
 }
 
+/// Whether a page is one of so many from the first on.
+fn is_among(first: u32, count: u32, page: u32) -> bool
+    requires { first + count < 2 ^ 32 }
+    ensures { result ≡ among first count page }
+{
+    first <= page && page < first + count
+}
+
+/// Whether an address lies in a region.
+fn is_in_a_region(settings: Settings, address: u32) -> bool
+    ensures { result ≡ in_a_region settings (address / 4096) }
+{
+    let page = address / PAGE_BYTES;
+    is_among(HIGH_PAGE, settings.high_k / PAGE_K, page)
+        || is_among(LOW_PAGE, settings.low_k / PAGE_K, page)
+}
+
+/// Whether an address is asked for that is in neither region.
+fn is_outside(settings: Settings, asked: &Subject) -> bool {
+    match asked {
+        Subject::Bytes { address, .. } => !is_in_a_region(settings, *address),
+        Subject::Holder(address) => !is_in_a_region(settings, *address),
+        Subject::Register { .. } | Subject::Name(_) | Subject::Subpool { .. } => false,
+    }
+}
+
+/// Puts what is asked for, and that it's in neither region if it isn't.
+fn put_question<W: Write>(
+    gathered: &mut Gathered,
+    writer: &mut W,
+    settings: Settings,
+    asked: &Subject,
+) {
+    put_asked(gathered, writer, asked);
+    if is_outside(settings, asked) {
+        gathered.put(writer, b", in neither region");
+    }
+    gathered.put(writer, b"\n");
+}
+
 /// Writes what was found of a script that was followed, or says what isn't there.
 fn write_found<W: Write>(
+    settings: Settings,
     script: &[u8],
     traced: &Traced,
     found: &[NamedChange<'_>],
-    asked: Subject,
+    asked: &Subject,
     out: &mut W,
 ) -> Result<(), WhoFault> {
     if found.is_empty() && is_absent(&traced.first) {
@@ -80,6 +124,7 @@ fn write_found<W: Write>(
         }
     }
     let mut gathered = Gathered::new();
+    put_question(&mut gathered, out, settings, asked);
     let starts = traced.starts.as_slice();
     for change in found.iter().rev() {
         put_change(&mut gathered, out, script, starts, change);
@@ -97,19 +142,21 @@ fn write_found<W: Write>(
 /// Writes the changes of a script that was followed.
 fn write_changes<W: Write>(
     alloc: Global,
+    settings: Settings,
     script: &[u8],
     traced: &Traced,
     asked: Subject,
     out: &mut W,
 ) -> Result<(), WhoFault> {
     let found = changes(alloc, traced)?;
-    let outcome = write_found(script, traced, found.as_slice(), asked, out);
+    let outcome = write_found(settings, script, traced, found.as_slice(), &asked, out);
     drop(found);
     outcome
 }
 
-/// Writes the lines of a script whose statements changed what is asked for, the newest first, with what is read before
-/// and behind each; then how many statements stand, all of which are looked at, whatever the bench's history forgot.
+/// Writes what is asked for, and the lines of a script whose statements changed it, the newest first, with what is read
+/// before and after each; then how many statements stand, all of which are looked at, whatever the bench's history
+/// forgot.
 ///
 /// The script runs under these settings. See [`changes`] for which lines these are.
 pub fn who<W: Write, P: Watch>(
@@ -124,7 +171,7 @@ pub fn who<W: Write, P: Watch>(
         return Err(WhoFault::Count);
     }
     let traced = follow(alloc, script, settings, &Some(asked), watch)?;
-    let outcome = write_changes(alloc, script, &traced, asked, out);
+    let outcome = write_changes(alloc, settings, script, &traced, asked, out);
     drop(traced);
     outcome
 }

@@ -2,12 +2,15 @@
 ghost use Rattle.std.specs.Prelude.{◌≡◌, ◌/◌, ◌≤◌, OnOk, OnErr, Some, None, length};
 ghost use Rattle.vsm_model.specs.Bytes.{load};
 ghost use Rattle.bench_core.specs.Stands.{bench_of, settings_in};
-ghost use Rattle.explain_who.specs.Readings.{bytes_read, holding_read, register_read, reading, same, same_word};
+ghost use Rattle.explain_who.specs.Readings.{bytes_read, holding_read, holding_seen, register_read, reading, same};
+ghost use Rattle.explain_who.specs.Readings.{same_word};
+ghost use Rattle.storage_core.specs.Meaning.{settings_of, state_of};
 
 use crate::holdings::{Holding, holding_of};
 use arrayvec::ArrayVec;
 use operand_texts::Name;
 use script_steps::Bench;
+use storage_core::Storage;
 use vsm_model::geometry::PAGE_BYTES;
 use vsm_model::{Cause, Subpool};
 
@@ -20,8 +23,8 @@ pub enum Subject {
     Register { task: u8, register: u8 },
     /// The word that a name stands for.
     Name(Name),
-    /// The pages and the free storage of a subpool.
-    Subpool(Subpool),
+    /// The pages and the free storage of the subpool that a task sees at a number.
+    Subpool { task: u8, number: u8 },
     /// The subpool that the page of an address belongs to.
     Holder(u32),
 }
@@ -37,7 +40,7 @@ pub enum Seen {
     Register(Option<u32>),
     /// The word; `None` where the name isn't defined.
     Name(Option<u32>),
-    /// What the subpool has; `None` where there is no task that it could belong to.
+    /// What the subpool has; `None` where there is no such task.
     Held(Option<Holding>),
     /// The subpool; `None` where the page isn't assigned.
     Holder(Option<Subpool>),
@@ -83,13 +86,23 @@ fn read_register(bench: &Bench, task: u8, register: u8) -> Option<u32>
     }
 }
 
-/// What a subpool has; `None` where there is no task that it could belong to.
-fn read_holding(bench: &Bench, subpool: Subpool) -> Option<Holding>
-    ensures { result ≡ holding_read (settings_in bench.now) subpool (bench_of bench.now).present }
+/// What the subpool has that a task sees at a number: nothing where it sees none.
+fn seen_holding(storage: &Storage, task: u8, number: u8) -> Holding
+    ensures { result ≡ holding_seen (settings_of storage.now) (state_of storage.now) task number }
+{
+    match storage.owner_seen(task, number) {
+        Some(owner) => holding_of(storage, Subpool { number, owner }),
+        None => Holding::NOTHING,
+    }
+}
+
+/// What the subpool has that a task sees at a number; `None` where there is no such task.
+fn read_holding(bench: &Bench, task: u8, number: u8) -> Option<Holding>
+    ensures { result ≡ holding_read (settings_in bench.now) task number (bench_of bench.now).present }
 {
     let storage = bench.storage();
-    match storage.parent(subpool.owner) {
-        Some(_) => Some(holding_of(storage, subpool)),
+    match storage.parent(task) {
+        Some(_) => Some(seen_holding(storage, task, number)),
         None => None,
     }
 }
@@ -112,7 +125,7 @@ pub(crate) fn read(bench: &Bench, asked: &Option<Subject>) -> Seen
             Seen::Register(read_register(bench, *task, *register))
         }
         Some(Subject::Name(name)) => Seen::Name(bench.name(name)),
-        Some(Subject::Subpool(subpool)) => Seen::Held(read_holding(bench, *subpool)),
+        Some(Subject::Subpool { task, number }) => Seen::Held(read_holding(bench, *task, *number)),
         Some(Subject::Holder(address)) => Seen::Holder(read_holder(bench, *address)),
     }
 }

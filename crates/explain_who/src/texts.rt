@@ -1,7 +1,7 @@
 //! The lines of output.
 
 use crate::holdings::{Holding, Runs};
-use crate::readings::Seen;
+use crate::readings::{Seen, Subject};
 use arrayvec::ArrayVec;
 use std::io::Write;
 use text_output::{Gathered, put_byte, put_decimal, put_hexadecimal};
@@ -54,7 +54,40 @@ pub(crate) fn put_line<W: Write>(
     for _ in text.len()..COLUMNS {
         gathered.put(writer, b" ");
     }
-    gathered.put(writer, b" ");
+    gathered.put(writer, b" | ");
+}
+
+/// Puts some words, and a number after them.
+fn put_numbered<W: Write>(gathered: &mut Gathered, writer: &mut W, words: &[u8], number: u8) {
+    gathered.put(writer, words);
+    put_decimal(gathered, writer, u64::from(number));
+}
+
+/// Puts what is asked for, addresses in hexadecimal digits.
+pub(crate) fn put_asked<W: Write>(gathered: &mut Gathered, writer: &mut W, asked: &Subject) {
+    match asked {
+        Subject::Bytes { address, count } => {
+            put_count(gathered, writer, u64::from(*count), b"byte");
+            gathered.put(writer, b" at ");
+            put_hexadecimal(gathered, writer, 8, *address);
+        }
+        Subject::Register { task, register } => {
+            put_numbered(gathered, writer, b"register ", *register);
+            put_numbered(gathered, writer, b" of task ", *task);
+        }
+        Subject::Name(name) => {
+            gathered.put(writer, b"name ");
+            gathered.put(writer, name.as_bytes());
+        }
+        Subject::Subpool { task, number } => {
+            put_numbered(gathered, writer, b"subpool ", *number);
+            put_numbered(gathered, writer, b" as seen by task ", *task);
+        }
+        Subject::Holder(address) => {
+            gathered.put(writer, b"the page of ");
+            put_hexadecimal(gathered, writer, 8, *address);
+        }
+    }
 }
 
 /// Puts bytes as PEEK shows them, two hexadecimal digits each.

@@ -1,11 +1,11 @@
 -- Where operands end, as a text is gone over.
-use Rattle.std.proofs.Common.{◌≡◌, ℕ, ◌+◌, ◌<◌, ◌≤◌, Bool, true, false, ◌||◌, ◌==◌, List, [], ◌∷◌, ◌++◌, length, take, get_or, refl, sym, ap, ◌∙◌, subst, inl, inr, arith, if◌then◌else◌}
+use Rattle.std.proofs.Common.{◌≡◌, ℕ, ◌+◌, ◌<◌, ◌≤◌, max, Bool, true, false, ◌||◌, not, ◌==◌, List, [], ◌∷◌, ◌++◌, length, take, get_or, refl, sym, ap, ◌∙◌, subst, inl, inr, arith, if◌then◌else◌}
 use Rattle.std.proofs.lemmas.Bool.{cases_lt}
 use Rattle.std.proofs.lemmas.Bool.Decides.{nat_tests}
-use Rattle.std.proofs.lemmas.List.{take_more}
+use Rattle.std.proofs.lemmas.List.{take_all, take_more}
 use Rattle.operand_texts.specs.declared.nesting.Nesting.{Nesting}
-use Rattle.operand_texts.specs.Field.{outside, past, separates}
-use Rattle.statement_faults.specs.Operands.{nesting_behind, is_end, Starts}
+use Rattle.operand_texts.specs.Field.{is_balanced, outside, past, separates}
+use Rattle.statement_faults.specs.Operands.{front, is_counted, nesting_behind, is_end, Starts}
 
 nesting_push : (n : Nesting) (xs : List ℕ) (c : ℕ) → nesting_behind n (xs ++ c ∷ []) ≡ past (nesting_behind n xs) c
 nesting_push n [] c = refl
@@ -31,6 +31,18 @@ same_length n = grind (arith, nat_tests)
 
 pub last_ends : (xs : List ℕ) → is_end xs (length xs) ≡ true
 last_ends xs = ap (λ (b : Bool). b || separates (nesting_behind outside (take (length xs) xs)) (get_or xs (length xs) 0)) (same_length (length xs))
+
+-- all operands are read as they are, and count
+pub whole_front : (xs : List ℕ) → front xs (length xs) ≡ xs
+whole_front xs = take_all (max (length xs) 1) xs (omega arith)
+
+or_not : (b : Bool) → (b || not b) ≡ true
+or_not true = refl
+or_not false = refl
+
+pub whole_counts : (xs : List ℕ) → is_counted xs (length xs) ≡ true
+whole_counts xs =
+    ap (λ ys. is_balanced outside xs || not (is_balanced outside ys)) (whole_front xs) ∙ or_not (is_balanced outside xs)
 
 the_same : (j i : ℕ) → i ≤ j → j < i + 1 → j ≡ i
 the_same j i from below = omega (arith, from, below)

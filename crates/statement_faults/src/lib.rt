@@ -10,6 +10,5 @@ pub mod lines;
 pub mod operands;
 pub mod roles;
 pub mod warnings;
-pub mod words;
 
 pub use laws::field_bytes_are_there;

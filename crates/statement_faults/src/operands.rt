@@ -1,13 +1,13 @@
 //! The operand with which a statement has its fault.
 ghost use Rattle.std.specs.Prelude.{◌≡◌, ◌≢◌, ◌<◌, ◌≤◌, ◌^◌, ◌+◌, ℕ, true, false, Err, length, take};
-ghost use Rattle.std.specs.Prelude.{if◌then◌else◌};
+ghost use Rattle.std.specs.Prelude.{if◌then◌else◌, ◌||◌, not, max};
 ghost use Rattle.macro_statements.specs.Requests.{seen};
 ghost use Rattle.macro_statements.specs.Statements.{statement_with};
-ghost use Rattle.statement_faults.specs.Operands.{is_end, IsWrongOperand, Starts, nesting_behind};
-ghost use Rattle.operand_texts.specs.Field.{outside, separates};
+ghost use Rattle.statement_faults.specs.Operands.{front, is_counted, is_end, IsWrongOperand, Starts, nesting_behind};
+ghost use Rattle.operand_texts.specs.Field.{is_balanced, outside, separates};
 
 use macro_statements::{FaultKind, Request, head_of, statement_with};
-use operand_texts::nesting::Nesting;
+use operand_texts::nesting::{Nesting, is_balanced};
 
 /// Whether this fault was found in place of a request.
 fn is_fault(read: &Result<Request, FaultKind>, kind: FaultKind) -> bool
@@ -36,31 +36,50 @@ fn separates(at: Nesting, byte: u8) -> bool
     byte == b',' && !at.quoted && at.depth == 0
 }
 
+/// The operands of a text up to a place where one ends: an empty first one with the comma after it.
+fn front_of(text: &[u8], i: usize) -> &[u8]
+    requires { i < length text.now }
+    ensures { result.now ≡ front text.now i }
+{
+    &text[..i.max(1)]
+}
+
+/// Whether these operands of a text count: where the text isn't balanced, only if they aren't either.
+fn is_counted(text: &[u8], operands: &[u8]) -> bool
+    ensures { result ≡ (is_balanced outside text.now || not (is_balanced outside operands.now)) }
+{
+    is_balanced(text) || !is_balanced(operands)
+}
+
 /// Whether an operand ends at this place of a text, with which and those before it a statement has this fault.
 fn is_faulty_end(card: &[u8], text: &[u8], i: usize, at: Nesting, kind: FaultKind) -> bool
     requires within { i < length text.now }
     requires at { at ≡ nesting_behind outside (take i text.now) }
     ensures end { result ≡ true → is_end text.now i ≡ true }
-    ensures yes { result ≡ true → statement_with card.now (take i text.now) ≡ Err kind }
-    ensures no { result ≡ false → is_end text.now i ≡ true → statement_with card.now (take i text.now) ≢ Err kind }
+    ensures counted { result ≡ true → is_counted text.now i ≡ true }
+    ensures yes { result ≡ true → statement_with card.now (front text.now i) ≡ Err kind }
+    ensures no { result ≡ false → is_end text.now i ≡ true → is_counted text.now i ≡ true
+        → statement_with card.now (front text.now i) ≢ Err kind }
 {
-    if separates(at, text[i]) {
-        has_fault(card, &text[..i], kind)
+    let operands = front_of(text, i);
+    if separates(at, text[i]) && is_counted(text, operands) {
+        has_fault(card, operands, kind)
     } else {
         false
     }
 }
 
 /// How far the operands go with the last of which a statement has the fault that it has, while with fewer of them it
-/// hasn't.
+/// hasn't. In a text that isn't balanced only operands count that aren't either.
 pub fn faulty_end(card: &[u8], text: &[u8], kind: FaultKind) -> usize
     requires fault { statement_with card.now text.now ≡ Err kind }
     requires size { length text.now < 2 ^ 63 }
     ensures within { result ≤ length text.now }
     ensures end { is_end text.now result ≡ true }
-    ensures fault { statement_with card.now (take result text.now) ≡ Err kind }
-    ensures first { (j : ℕ) → j < result → is_end text.now j ≡ true
-        → statement_with card.now (take j text.now) ≢ Err kind }
+    ensures counted { is_counted text.now result ≡ true }
+    ensures fault { statement_with card.now (front text.now result) ≡ Err kind }
+    ensures first { (j : ℕ) → j < result → is_end text.now j ≡ true → is_counted text.now j ≡ true
+        → statement_with card.now (front text.now j) ≢ Err kind }
 {
     let mut at = Nesting::outside();
     for i in 0..text.len() {

@@ -118,17 +118,17 @@ fn goes_across(line: &[u8]) -> bool {
     line.len() > 72 && line[70] != b' ' && line[71] != b' ' && line[72] != b' '
 }
 
-/// What a line has that its reader takes otherwise than it looks, which may be read as one of a statement.
-pub fn warnings_in(line: &[u8], is_read: bool) -> [Warned; 4] {
-    let across = if is_read && goes_across(line) {
-        Some(71)
-    } else {
-        None
-    };
-    [
-        warned(place_of(line, b'\t'), Warning::Tab),
-        warned(wide_place(line), Warning::WideCharacter),
-        warned(place_of(line, b'\r'), Warning::CarriageReturn),
-        warned(across, Warning::WordAcross),
-    ]
+/// How many kinds of warnings a line may have.
+pub const KINDS: usize = 4;
+
+/// A warning of this kind, one of four, on what a line has that its reader takes otherwise than it looks, which may be
+/// read as one of a statement.
+pub fn warning_in(line: &[u8], is_read: bool, kind: usize) -> Warned {
+    match kind {
+        0 => warned(place_of(line, b'\t'), Warning::Tab),
+        1 => warned(wide_place(line), Warning::WideCharacter),
+        2 => warned(place_of(line, b'\r'), Warning::CarriageReturn),
+        _ if is_read && goes_across(line) => warned(Some(71), Warning::WordAcross),
+        _ => None,
+    }
 }

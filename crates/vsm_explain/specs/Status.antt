@@ -7,7 +7,7 @@ use Rattle.vsm_explain.specs.declared.faults.CommandFault.TheVariants as fault
 -- 8 where the script can't be read or is too long, or the output can't be written; else 16
 abbrev pub fault_status : CommandFault → ℕ
 fault_status (fault.Script name why) = 8
-fault_status fault.TooLong = 8
+fault_status (fault.TooLong excess) = 8
 fault_status fault.Write = 8
 fault_status _ = 16
 

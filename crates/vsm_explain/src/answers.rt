@@ -5,6 +5,7 @@ ghost use Rattle.explain_list.specs.declared.faults.ListFault.{ListFault};
 ghost use Rattle.vsm_explain.specs.Status.{IsOutcome};
 
 use crate::faults::CommandFault;
+use crate::scripts::excess_of;
 use explain_list::{ListFault, Shown, list};
 use explain_questions::{About, Asking, Question, WordRefusal};
 use explain_report::{ReportFault, over_time, report};
@@ -24,19 +25,19 @@ fn new_fault<'a>(fault: NewFault) -> CommandFault<'a> {
 }
 
 /// What is said where a script can't be listed.
-fn list_fault<'a>(fault: ListFault) -> CommandFault<'a> {
+fn list_fault<'a>(script: &[u8], fault: ListFault) -> CommandFault<'a> {
     match fault {
         ListFault::New(fault) => new_fault(fault),
-        ListFault::TooLong => CommandFault::TooLong,
+        ListFault::TooLong => CommandFault::TooLong(excess_of(script)),
         ListFault::Write => CommandFault::Write,
     }
 }
 
 /// What is said where the statement of a line can't be explained.
-fn why_fault<'a>(line: u32, fault: WhyFault) -> CommandFault<'a> {
+fn why_fault<'a>(script: &[u8], line: u32, fault: WhyFault) -> CommandFault<'a> {
     match fault {
         WhyFault::New(fault) => new_fault(fault),
-        WhyFault::TooLong => CommandFault::TooLong,
+        WhyFault::TooLong => CommandFault::TooLong(excess_of(script)),
         WhyFault::Write => CommandFault::Write,
         WhyFault::NoLine(lines) => CommandFault::NoLine { line, lines },
         WhyFault::Aside => CommandFault::Aside(line),
@@ -45,11 +46,11 @@ fn why_fault<'a>(line: u32, fault: WhyFault) -> CommandFault<'a> {
 }
 
 /// What is said where there is no report behind a line.
-fn report_fault<'a>(line: Option<u32>, fault: ReportFault) -> CommandFault<'a> {
+fn report_fault<'a>(script: &[u8], line: Option<u32>, fault: ReportFault) -> CommandFault<'a> {
     let line = line.unwrap_or(0);
     match fault {
         ReportFault::New(fault) => new_fault(fault),
-        ReportFault::TooLong => CommandFault::TooLong,
+        ReportFault::TooLong => CommandFault::TooLong(excess_of(script)),
         ReportFault::Write => CommandFault::Write,
         ReportFault::NoLine(lines) => CommandFault::NoLine { line, lines },
         ReportFault::Aside => CommandFault::Aside(line),
@@ -58,10 +59,10 @@ fn report_fault<'a>(line: Option<u32>, fault: ReportFault) -> CommandFault<'a> {
 }
 
 /// What is said where no lines can be named.
-fn who_fault<'a>(fault: WhoFault) -> CommandFault<'a> {
+fn who_fault<'a>(script: &[u8], fault: WhoFault) -> CommandFault<'a> {
     match fault {
         WhoFault::New(fault) => new_fault(fault),
-        WhoFault::TooLong => CommandFault::TooLong,
+        WhoFault::TooLong => CommandFault::TooLong(excess_of(script)),
         WhoFault::Write => CommandFault::Write,
         WhoFault::Memory => CommandFault::Memory,
         WhoFault::Count => CommandFault::Words(WordRefusal::Count("")),
@@ -85,7 +86,7 @@ fn list_shown<'a, W: Write, P: Watch>(
 {
     match list(alloc, script, settings, shown, out, watch) {
         Ok(refused) => Ok(refused),
-        Err(fault) => Err(list_fault(fault)),
+        Err(fault) => Err(list_fault(script, fault)),
     }
 }
 
@@ -136,35 +137,40 @@ fn asked(about: About) -> Subject {
         },
         About::Register { task, register } => Subject::Register { task, register },
         About::Name(name) => Subject::Name(name),
-        About::Subpool(subpool) => Subject::Subpool(subpool),
+        About::Subpool { task, number } => Subject::Subpool { task, number },
         About::Holder(address) => Subject::Holder(address),
     }
 }
 
 /// What `why` came to. `true` where the statement of the line was refused.
-fn explained<'a>(line: u32, outcome: Result<bool, WhyFault>) -> Result<bool, CommandFault<'a>> {
+fn explained<'a>(
+    script: &[u8],
+    line: u32,
+    outcome: Result<bool, WhyFault>,
+) -> Result<bool, CommandFault<'a>> {
     match outcome {
         Ok(refused) => Ok(refused),
-        Err(fault) => Err(why_fault(line, fault)),
+        Err(fault) => Err(why_fault(script, line, fault)),
     }
 }
 
 /// What a report behind this line came to, which tells of no refusal.
 fn reported<'a>(
+    script: &[u8],
     line: Option<u32>,
     outcome: Result<(), ReportFault>,
 ) -> Result<bool, CommandFault<'a>> {
     match outcome {
         Ok(()) => Ok(false),
-        Err(fault) => Err(report_fault(line, fault)),
+        Err(fault) => Err(report_fault(script, line, fault)),
     }
 }
 
 /// What `who` came to, which tells of no refusal.
-fn followed<'a>(outcome: Result<(), WhoFault>) -> Result<bool, CommandFault<'a>> {
+fn followed<'a>(script: &[u8], outcome: Result<(), WhoFault>) -> Result<bool, CommandFault<'a>> {
     match outcome {
         Ok(()) => Ok(false),
-        Err(fault) => Err(who_fault(fault)),
+        Err(fault) => Err(who_fault(script, fault)),
     }
 }
 
@@ -184,23 +190,23 @@ pub(crate) fn answer<'a, W: Write, P: Watch>(
         }
         Question::Why { line } => {
             let outcome = why(alloc, script, settings, line, out, watch);
-            explained(line, outcome)
+            explained(script, line, outcome)
         }
         Question::Report { line } => {
             let outcome = report(alloc, script, settings, line, out, watch);
-            reported(line, outcome)
+            reported(script, line, outcome)
         }
-        Question::OverTime => {
-            let outcome = over_time(alloc, script, settings, out, watch);
-            reported(None, outcome)
+        Question::OverTime { subpool } => {
+            let outcome = over_time(alloc, script, settings, subpool, out, watch);
+            reported(script, None, outcome)
         }
         Question::Who(about) => {
             let outcome = who(alloc, script, settings, asked(about), out, watch);
-            followed(outcome)
+            followed(script, outcome)
         }
         Question::Log => {
             let outcome = log(alloc, script, settings, out, watch);
-            followed(outcome)
+            followed(script, outcome)
         }
         Question::Code { first, second } => explain_code(alloc, first, second, out),
     }

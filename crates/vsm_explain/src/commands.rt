@@ -9,7 +9,7 @@ use crate::progress::{Progress, Stopwatch};
 use crate::scripts::{Unread, read_whole};
 use clap::Error;
 use clap::error::ErrorKind;
-use explain_questions::{Asking, Question, asking_of};
+use explain_questions::{Asking, PlainText, Question, asking_of};
 use memchr::memchr;
 use std::alloc::Global;
 use std::io::{Read, Write};
@@ -34,7 +34,7 @@ fn put_first_paragraph<E: Write>(errors: &mut E, text: &str) {
         if line.is_empty() {
             break;
         }
-        let _ = write!(errors, " {line}");
+        let _ = write!(errors, " {}", PlainText(line));
     }
     let _ = errors.write_all(b"\n");
 }
@@ -64,6 +64,14 @@ fn answer_words<O: Write, E: Write>(
     }
 }
 
+/// The path of the script that is asked of; `None` for standard input, which `-` names too.
+fn path_of<'a>(asking: &Asking<'a>) -> Option<&'a str> {
+    match asking.file {
+        Some("-") => None,
+        path => path,
+    }
+}
+
 /// The script that is asked of, whole.
 fn script_of<'a, R: ScriptFiles, I: Read>(
     rt: &R,
@@ -72,8 +80,8 @@ fn script_of<'a, R: ScriptFiles, I: Read>(
     terminals: Terminals,
     input: &mut I,
 ) -> Result<Vec<u8>, CommandFault<'a>> {
-    let Some(path) = asking.file else {
-        if terminals.input {
+    let Some(path) = path_of(asking) else {
+        if terminals.input && asking.file.is_none() {
             return Err(CommandFault::Terminal);
         }
         return match read_whole(alloc, input) {
@@ -109,7 +117,7 @@ fn answer_asking<'a, R: ScriptFiles + Stopwatch + AllocGlobal, I: Read, O: Write
         return explain_code(rt.alloc(), first, second, output);
     }
     let script = script_of(rt, rt.alloc(), asking, terminals, input)?;
-    let name = asking.file.unwrap_or(NO_NAME);
+    let name = path_of(asking).unwrap_or(NO_NAME);
     if !is_listing(&asking.question) && memchr(0, script.as_slice()).is_some() {
         return Err(CommandFault::Script(name, Unread::Binary));
     }
@@ -139,9 +147,9 @@ fn end<E: Write>(errors: &mut E, outcome: Result<bool, CommandFault<'_>>) -> u8
 /// Answers what these words ask (the program's name, and what follows): writes the answer to `output`, and what is
 /// wrong with the words, the script or the question to `errors`, in one line. Gives the exit status.
 ///
-/// The script is what `rt` opens for the file that the words name, or `input` where `list` names none. The status is 0
-/// where the question was answered, 4 where a listed statement or the one that was asked for was refused, 8 where the
-/// script can't be read or the output can't be written, and 16 where the words are wrong, what they ask for isn't
+/// The script is what `rt` opens for the file that the words name, or `input` where they name none or `-`. The status
+/// is 0 where the question was answered, 4 where a listed statement or the one that was asked for was refused, 8 where
+/// the script can't be read or the output can't be written, and 16 where the words are wrong, what they ask for isn't
 /// there, the settings are out of their limits or there is no memory.
 pub fn command<R: ScriptFiles + Stopwatch + AllocGlobal, I: Read, O: Write, E: Write>(
     rt: &R,

@@ -2,8 +2,8 @@
 ghost use Rattle.std.specs.Prelude.{◌≡◌};
 ghost use Rattle.vsm_explain.specs.Status.{fault_status, IsFailure};
 
-use crate::scripts::{MOST_BYTES, Unread};
-use explain_questions::WordRefusal;
+use crate::scripts::{Excess, MOST_BYTES, MOST_COLUMNS, MOST_LINES, Unread};
+use explain_questions::{PlainText, WordRefusal};
 use std::fmt;
 use std::fmt::{Display, Formatter};
 use std::io::Write;
@@ -20,7 +20,7 @@ pub(crate) enum CommandFault<'a> {
     /// There is no memory.
     Memory,
     /// The script has more lines than the bench takes, or a longer one.
-    TooLong,
+    TooLong(Excess),
     /// The output can't be written.
     Write,
     /// The script has no such line: it has so many.
@@ -41,7 +41,7 @@ struct UnreadText<'a>(&'a str, Unread);
 
 impl Display for UnreadText<'_> {
     fn fmt<W: fmt::Write>(&self, f: &mut Formatter<W>) -> fmt::Result {
-        let name = self.0;
+        let name = PlainText(self.0);
         match self.1 {
             Unread::Read(error) => write!(f, "{name} can't be read: {error}"),
             Unread::Empty => write!(f, "{name} is empty"),
@@ -60,8 +60,15 @@ impl Display for CommandFault<'_> {
             ),
             CommandFault::Script(name, unread) => write!(f, "{}", UnreadText(name, unread)),
             CommandFault::Memory => f.write_str("there is no memory"),
-            CommandFault::TooLong => f.write_str(
-                "the script is too long: it has more than 1048576 lines, or one of more than 65536 bytes",
+            CommandFault::TooLong(Excess::Lines) => {
+                write!(
+                    f,
+                    "the script is too long: it has more than {MOST_LINES} lines"
+                )
+            }
+            CommandFault::TooLong(Excess::Bytes(line)) => write!(
+                f,
+                "line {line} is too long: it has more than {MOST_COLUMNS} bytes"
             ),
             CommandFault::Write => f.write_str("the output can't be written"),
             CommandFault::NoLine { line, lines } => write!(
@@ -90,7 +97,7 @@ fn status_of(fault: &CommandFault<'_>) -> u8
     ensures failure { IsFailure result }
 {
     match fault {
-        CommandFault::Script(_, _) | CommandFault::TooLong | CommandFault::Write => 8,
+        CommandFault::Script(_, _) | CommandFault::TooLong(_) | CommandFault::Write => 8,
         CommandFault::Words(_)
         | CommandFault::Terminal
         | CommandFault::Memory

@@ -44,12 +44,12 @@ static COMMANDS: [CommandForm; 4] = [
             WordRow {
                 name: "check",
                 kind: WordKind::Flag,
-                help: "Print the places of faults alone, as FILE:LINE:COLUMN: text",
+                help: "Print the places of faults alone, as FILE:LINE:COLUMN: text; COLUMN counts bytes",
             },
             WordRow {
                 name: "FILE",
                 kind: WordKind::Operand("FILE"),
-                help: "The script [default: standard input]",
+                help: "The script, or - [default: standard input]",
             },
         ],
     },
@@ -61,7 +61,7 @@ static COMMANDS: [CommandForm; 4] = [
             WordRow {
                 name: "FILE",
                 kind: WordKind::File,
-                help: "The script; or an answer, as S878",
+                help: "The script, or - for standard input; or an answer, as S878",
             },
             WordRow {
                 name: "LINE",
@@ -81,9 +81,14 @@ static COMMANDS: [CommandForm; 4] = [
                 help: "Print a row of CSV behind each statement",
             },
             WordRow {
+                name: "subpool",
+                kind: WordKind::Valued("T,N"),
+                help: "With --over-time: only of the subpool that task T, or with N alone task 1, sees at N",
+            },
+            WordRow {
                 name: "FILE",
-                kind: WordKind::File,
-                help: "The script",
+                kind: WordKind::Operand("FILE"),
+                help: "The script, or - [default: standard input]",
             },
             WordRow {
                 name: "LINE",
@@ -110,7 +115,7 @@ static COMMANDS: [CommandForm; 4] = [
             WordRow {
                 name: "subpool",
                 kind: WordKind::Valued("T,N"),
-                help: "Ask for the pages and free storage of subpool N of task T, or, with N alone, of task 1",
+                help: "Ask for pages and free storage of the subpool that task T, or with N alone task 1, sees at N",
             },
             WordRow {
                 name: "holds",
@@ -124,8 +129,8 @@ static COMMANDS: [CommandForm; 4] = [
             },
             WordRow {
                 name: "FILE",
-                kind: WordKind::File,
-                help: "The script",
+                kind: WordKind::Operand("FILE"),
+                help: "The script, or - [default: standard input]",
             },
             WordRow {
                 name: "ADDRESS",

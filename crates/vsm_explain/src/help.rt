@@ -8,8 +8,8 @@ pub(crate) const ABOUT: &str =
         who changed what.";
 
 pub(crate) const AFTER: &str =
-    "'vsm-explain COMMAND --help' tells the words of a command, with an example. The options of vsm may stand with each
-command: the script runs under them. EXPLAIN.md has a worked hunt for each command; vsm(1) tells of the options,
+    "'vsm-explain COMMAND --help' tells the words of a command, with an example. The options of vsm go after a
+command's name: the script runs under them. EXPLAIN.md has a worked hunt for each command; vsm(1) tells of the options,
 vsm-statements(5) what can stand in a script, vsm-messages(7) what is answered.
 
 Exit status:
@@ -24,7 +24,8 @@ pub(crate) const LIST_ABOUT: &str =
 
 pub(crate) const LIST_AFTER: &str =
     "Each line stands with its number, behind a statement its answer with the number of changes that are kept
-in brackets, under its first wrong operand what is expected there. 'x' marks a line that was not carried out.
+in brackets, under its first wrong operand what is expected there. 'x' marks a line that was not carried out. A point
+is shown for each byte that is no printing character.
 
 Example: where the file example.vsm has ' STORAGE OBTAIN,LENGHT=8', 'vsm-explain list --check example.vsm' prints the
 place of the fault alone, as compilers do, for an editor to go there.
@@ -56,11 +57,12 @@ pub(crate) const WHO_ABOUT: &str =
         and after.";
 
 pub(crate) const WHO_AFTER: &str =
-    "ADDRESS and N are written as in a script: 24582 or X'6006'. Subject for is one thing: N bytes at ADDRESS, or
-what one of the options names.
+    "ADDRESS and N are numbers as in a script: 24582 or X'6006'. ADDRESS is hexadecimal in eight digits that begin with
+0, as answers print it, and after 0x. Ask for one thing: N bytes at ADDRESS, or what one of the options names. The
+first line of the answer says what was asked for.
 
 Examples, as a shell takes them:
-  vsm-explain who example.vsm \"X'6006'\" 2      names the lines that changed the two bytes there,
+  vsm-explain who example.vsm 00006006 2       names the lines that changed the two bytes there,
   vsm-explain who --register 1,3 example.vsm   those that changed register 3 of task 1,
-  vsm-explain who --holds 24576 example.vsm    those by which the page at 24576 came to a subpool, or left it.
+  vsm-explain who --holds 0x6000 example.vsm   those by which the page at X'6000' came to a subpool, or left it.
 ";

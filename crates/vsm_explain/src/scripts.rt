@@ -31,3 +31,38 @@ pub(crate) fn read_whole<S: Read>(alloc: Global, script: &mut S) -> Result<Vec<u
         Ok(_) => Ok(bytes),
     }
 }
+
+/// The most lines of a script.
+pub(crate) const MOST_LINES: u32 = 1_048_576;
+
+/// The most bytes of a line.
+pub(crate) const MOST_COLUMNS: usize = 65_536;
+
+/// What a script has too much of.
+#[derive(Clone, Copy)]
+pub(crate) enum Excess {
+    /// It has too many lines.
+    Lines,
+    /// This line has too many bytes, and none before it.
+    Bytes(u32),
+}
+
+/// What a script has too much of that has too much of something.
+pub(crate) fn excess_of(script: &[u8]) -> Excess {
+    let mut line = 1u32;
+    let mut columns = 0usize;
+    for byte in script {
+        if line > MOST_LINES {
+            break;
+        }
+        if *byte == b'\n' {
+            line += 1;
+            columns = 0;
+        } else if columns >= MOST_COLUMNS {
+            return Excess::Bytes(line);
+        } else {
+            columns += 1;
+        }
+    }
+    Excess::Lines
+}

@@ -25,5 +25,5 @@ returns-in-Ok-Some-clause-lists g c =
     record {
       answers = h.answers ++ e.0;
       took = e.2;
-      held = holds_more settings first _ _ _ _ h.answers e.0 _ told (items_both _ _ _ _ _ _ [] _ c.put_words.ensures c.put_answer.ensures) h.held;
+      held = holds_more settings first _ _ _ _ h.answers e.0 _ told (items_both _ _ _ _ _ _ [] _ c.put_rows.ensures c.put_answer.ensures) h.held;
     }

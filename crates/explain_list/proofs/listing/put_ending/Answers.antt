@@ -14,5 +14,5 @@ returns g c =
     (λ bytes. PutsItems old new c.args.gathered.now c.put_answer-2.new.gathered
     (told_text (settings_in ending.bench) (bench_of ending.bench) bytes ending.last ++ told_text (settings_in ending.bench) (bench_of ending.bench) bytes ending.open_statement))
     c.as_slice-shown.ensures.value
-    (items_both _ _ _ _ _ _ [] _ c.put_words.ensures
-    (items_both _ _ _ _ _ _ _ _ c.put_answer.ensures (items_both _ _ _ _ _ _ [] _ c.put_words-2.ensures c.put_answer-2.ensures)))
+    (items_both _ _ _ _ _ _ [] _ c.put_rows.ensures
+    (items_both _ _ _ _ _ _ _ _ c.put_answer.ensures (items_both _ _ _ _ _ _ [] _ c.put_rows-2.ensures c.put_answer-2.ensures)))

@@ -1,12 +1,14 @@
 //! Words that go out around the answers: text that is put together in memory first.
+ghost use Rattle.std.specs.Prelude.{◌≡◌, ◌≤◌, ◌+◌, ◌++◌, length};
 
+use crate::letters::{is_plain, shown_at};
 use arrayvec::ArrayVec;
 use itoa::Buffer;
 
-/// The most bytes of words that stand together.
-const WORDS: usize = 4096;
+/// The most bytes of words that stand together: a line with the longest path that a file is opened by.
+const WORDS: usize = 4_608;
 
-/// Words that are put together: 4,096 bytes at most. What has no room is left out.
+/// Words that are put together: 4,608 bytes at most. What has no room is left out.
 #[derive(Drop)]
 pub struct Words {
     text: ArrayVec<u8, WORDS>,
@@ -31,10 +33,24 @@ impl Words {
     }
 
     /// Appends a text, or as much of it as has room.
-    pub fn add(&mut self, more: &[u8]) {
+    pub fn add(&mut self, more: &[u8])
+        ensures { length self.old.text.items + length more.now ≤ 4608
+            → self.new.text.items ≡ self.old.text.items ++ more.now }
+    {
         let room = WORDS.saturating_sub(self.text.len());
         let count = more.len().min(room);
         let _ = self.text.try_extend_from_slice(&more[..count]);
+    }
+
+    /// Appends bytes of a script as a listing shows them.
+    pub fn add_shown(&mut self, bytes: &[u8]) {
+        if bytes.iter().all(|byte| is_plain(*byte)) {
+            self.add(bytes);
+            return;
+        }
+        for at in 0..bytes.len().min(WORDS) {
+            self.add(&[shown_at(bytes, at)]);
+        }
     }
 
     /// Appends so many blanks, 80 at most.

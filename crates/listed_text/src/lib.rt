@@ -1,0 +1,8 @@
+//! Text that goes out around the answers: words that are put together, and the bytes of a script as they're shown.
+#![tactic(auto)]
+
+mod letters;
+mod words;
+
+pub use letters::column_of;
+pub use words::Words;
