@@ -12,7 +12,6 @@ from pathlib import Path
 import pytest
 from conftest import TOOLS, TOP, loaded
 from test_load import storage_of
-
 from vsmtools import bench, expectations, lines
 from vsmtools.command import Fault, guarded
 
