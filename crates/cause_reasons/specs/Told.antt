@@ -2,12 +2,13 @@
 use Rattle.std.specs.Prelude.{◌≡◌, ℕ, true, nat_lt, Bool, List, length, Option, Some, slice_get}
 use Rattle.vsm_model.specs.declared.causes.Cause.{Cause}
 use Rattle.vsm_model.specs.Causes.{Causes, first_cause}
-use Rattle.vsm_model.specs.Services.{Service}
+use Rattle.vsm_model.specs.Services.{Service, obtain}
 use Rattle.vsm_model.specs.Step.{causes}
 use Rattle.storage_core.specs.Meaning.{settings_of, state_of}
 use Rattle.storage_core.specs.declared.storage.Storage.{Storage}
 use Rattle.text_output.specs.declared.writing.Gathered.{Gathered}
 use Rattle.place_reasons.specs.Pieces.{PutsWithin}
+use Rattle.place_reasons.specs.Told.{TellsPlace}
 use Rattle.cause_reasons.specs.Words.{Words, cause_words}
 
 -- Some text follows all text before it, in which one of these stands.
@@ -26,3 +27,8 @@ TellsService s service cause old new before after =
     (full : Bool)
     → TellsCause (causes (settings_of s) full (state_of s) service) (cause_words service cause) cause old new before
     after
+
+-- Of an obtain that has no cause what is put tells where its area goes; of other services nothing is said here.
+abbrev pub TellsEffect : Storage → Service → Option (List ℕ) → Option (List ℕ) → Gathered → Gathered → Type 0
+TellsEffect s (obtain o) old new before after = TellsPlace s o old new before after
+TellsEffect s _ old new before after = Unit {0}

@@ -33,7 +33,9 @@ pub(crate) fn put_first_extent<W: Write>(
     writer: &mut W,
     storage: &Storage,
     b: Build,
-) {
+)
+    ensures { PutsSome (W.contents writer.old) (W.contents writer.new) gathered.old gathered.new }
+{
     let extent = extent_asked(b.primary, b.size, b.number, b.location);
     put_area(gathered, writer, storage, extent);
 }
@@ -68,7 +70,8 @@ pub(crate) fn put_no_cell<W: Write>(
     name: &str,
     conditional: bool,
 )
-    ensures { PutsOneOf no_cell_words (W.contents writer.old) (W.contents writer.new) gathered.old gathered.new }
+    ensures told { PutsOneOf no_cell_words (W.contents writer.old) (W.contents writer.new) gathered.old gathered.new }
+    ensures some { PutsSome (W.contents writer.old) (W.contents writer.new) gathered.old gathered.new }
 {
     put_line(gathered, writer, &[Piece::Text("it has no free cell")]);
     if conditional {

@@ -1,7 +1,8 @@
 //! Why a service is answered as it is: its first cause, or what it comes to where it has none, told.
-ghost use Rattle.std.specs.Prelude.{IfSome};
+ghost use Rattle.std.specs.Prelude.{◌≡◌, IfSome, None};
 ghost use Rattle.vsm_model.specs.Meaning.{service_in};
-ghost use Rattle.cause_reasons.specs.Told.{TellsService};
+ghost use Rattle.place_reasons.specs.Told.{PutsSome};
+ghost use Rattle.cause_reasons.specs.Told.{TellsEffect, TellsService};
 
 use crate::areas::{put_area, put_first_extent, put_no_cell};
 use crate::cells::{find_pool, put_no_pool};
@@ -25,8 +26,11 @@ pub fn put_cause<W: Write>(
     service: &Service<'_>,
     cause: Option<Cause>,
 )
-    ensures { IfSome cause (λ its. TellsService storage.now (service_in service.now) its
+    ensures told { IfSome cause (λ its. TellsService storage.now (service_in service.now) its
         (W.contents writer.old) (W.contents writer.new) gathered.old gathered.new) }
+    ensures effect { cause ≡ None → TellsEffect storage.now (service_in service.now)
+        (W.contents writer.old) (W.contents writer.new) gathered.old gathered.new }
+    ensures some { PutsSome (W.contents writer.old) (W.contents writer.new) gathered.old gathered.new }
 {
     match cause {
         Some(cause) => put_refusal(gathered, writer, storage, service, cause),
@@ -40,7 +44,11 @@ fn put_no_cause<W: Write>(
     writer: &mut W,
     storage: &Storage,
     service: &Service<'_>,
-) {
+)
+    ensures effect { TellsEffect storage.now (service_in service.now)
+        (W.contents writer.old) (W.contents writer.new) gathered.old gathered.new }
+    ensures some { PutsSome (W.contents writer.old) (W.contents writer.new) gathered.old gathered.new }
+{
     match service {
         Service::Obtain(o) => put_area(gathered, writer, storage, *o),
         Service::Release(r) => put_released(gathered, writer, storage, r.number),
@@ -64,7 +72,9 @@ fn put_no_cause<W: Write>(
 }
 
 /// Puts that an area can be released.
-fn put_released<W: Write>(gathered: &mut Gathered, writer: &mut W, storage: &Storage, number: u32) {
+fn put_released<W: Write>(gathered: &mut Gathered, writer: &mut W, storage: &Storage, number: u32)
+    ensures { PutsSome (W.contents writer.old) (W.contents writer.new) gathered.old gathered.new }
+{
     put_seen(gathered, writer, storage, number);
     put_line(
         gathered,
@@ -80,7 +90,9 @@ fn put_cell<W: Write>(
     storage: &Storage,
     name: &str,
     conditional: bool,
-) {
+)
+    ensures { PutsSome (W.contents writer.old) (W.contents writer.new) gathered.old gathered.new }
+{
     let Some(id) = find_pool(storage, name) else {
         return put_no_pool(gathered, writer, storage, name);
     };

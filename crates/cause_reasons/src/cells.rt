@@ -1,6 +1,7 @@
 //! Cell pools by their names, and why requests for their cells are answered as they are, told.
 ghost use Rattle.std.specs.Prelude.{IfSome, IsSome};
 ghost use Rattle.storage_map.specs.Cells.{cell_pool};
+ghost use Rattle.place_reasons.specs.Told.{PutsSome};
 ghost use Rattle.cause_reasons.specs.Told.{PutsOneOf};
 ghost use Rattle.cause_reasons.specs.Words.{extent_words, no_pool_words, not_in_use_words};
 
@@ -86,7 +87,8 @@ fn first_overlap(storage: &Storage, area: Run) -> Option<(CellId, Run)>
 
 /// Puts that a cell pool has an extent.
 fn put_extent<W: Write>(gathered: &mut Gathered, writer: &mut W, name: &str, extent: Run)
-    ensures { PutsOneOf extent_words (W.contents writer.old) (W.contents writer.new) gathered.old gathered.new }
+    ensures told { PutsOneOf extent_words (W.contents writer.old) (W.contents writer.new) gathered.old gathered.new }
+    ensures some { PutsSome (W.contents writer.old) (W.contents writer.new) gathered.old gathered.new }
 {
     put_line(
         gathered,
@@ -109,7 +111,8 @@ pub(crate) fn put_overlap<W: Write>(
     storage: &Storage,
     r: Release,
 )
-    ensures { PutsOneOf extent_words (W.contents writer.old) (W.contents writer.new) gathered.old gathered.new }
+    ensures told { PutsOneOf extent_words (W.contents writer.old) (W.contents writer.new) gathered.old gathered.new }
+    ensures some { PutsSome (W.contents writer.old) (W.contents writer.new) gathered.old gathered.new }
 {
     let area = area_of(r);
     match first_overlap(storage, area) {
@@ -123,7 +126,8 @@ pub(crate) fn put_overlap<W: Write>(
 
 /// Puts that there is no cell pool of the name.
 fn put_missing<W: Write>(gathered: &mut Gathered, writer: &mut W, name: &str)
-    ensures { PutsOneOf no_pool_words (W.contents writer.old) (W.contents writer.new) gathered.old gathered.new }
+    ensures told { PutsOneOf no_pool_words (W.contents writer.old) (W.contents writer.new) gathered.old gathered.new }
+    ensures some { PutsSome (W.contents writer.old) (W.contents writer.new) gathered.old gathered.new }
 {
     put_line(
         gathered,
@@ -134,7 +138,8 @@ fn put_missing<W: Write>(gathered: &mut Gathered, writer: &mut W, name: &str)
 
 /// Puts in which subpool a cell pool lies.
 fn put_where<W: Write>(gathered: &mut Gathered, writer: &mut W, name: &str, subpool: Subpool)
-    ensures { PutsOneOf no_pool_words (W.contents writer.old) (W.contents writer.new) gathered.old gathered.new }
+    ensures told { PutsOneOf no_pool_words (W.contents writer.old) (W.contents writer.new) gathered.old gathered.new }
+    ensures some { PutsSome (W.contents writer.old) (W.contents writer.new) gathered.old gathered.new }
 {
     put_line(
         gathered,
@@ -157,7 +162,8 @@ pub(crate) fn put_no_pool<W: Write>(
     storage: &Storage,
     name: &str,
 )
-    ensures { PutsOneOf no_pool_words (W.contents writer.old) (W.contents writer.new) gathered.old gathered.new }
+    ensures told { PutsOneOf no_pool_words (W.contents writer.old) (W.contents writer.new) gathered.old gathered.new }
+    ensures some { PutsSome (W.contents writer.old) (W.contents writer.new) gathered.old gathered.new }
 {
     match find_pool(storage, name) {
         Some(id) => {
@@ -186,17 +192,11 @@ fn is_free_cell(storage: &Storage, id: CellId, cell: u32) -> bool
     false
 }
 
-/// Whether a cell of the cell pool of a name is free.
-fn is_free_in(storage: &Storage, name: &str, cell: u32) -> bool {
-    match find_pool(storage, name) {
-        Some(id) => is_free_cell(storage, id, cell),
-        None => false,
-    }
-}
-
 /// Puts that a cell is free.
 fn put_free_cell<W: Write>(gathered: &mut Gathered, writer: &mut W, cell: u32)
-    ensures { PutsOneOf not_in_use_words (W.contents writer.old) (W.contents writer.new) gathered.old gathered.new }
+    ensures told { PutsOneOf not_in_use_words
+        (W.contents writer.old) (W.contents writer.new) gathered.old gathered.new }
+    ensures some { PutsSome (W.contents writer.old) (W.contents writer.new) gathered.old gathered.new }
 {
     put_line(
         gathered,
@@ -207,7 +207,9 @@ fn put_free_cell<W: Write>(gathered: &mut Gathered, writer: &mut W, cell: u32)
 
 /// Puts that an address isn't that of a cell.
 fn put_not_a_cell<W: Write>(gathered: &mut Gathered, writer: &mut W, cell: u32)
-    ensures { PutsOneOf not_in_use_words (W.contents writer.old) (W.contents writer.new) gathered.old gathered.new }
+    ensures told { PutsOneOf not_in_use_words
+        (W.contents writer.old) (W.contents writer.new) gathered.old gathered.new }
+    ensures some { PutsSome (W.contents writer.old) (W.contents writer.new) gathered.old gathered.new }
 {
     put_line(
         gathered,
@@ -227,11 +229,12 @@ pub(crate) fn put_not_in_use<W: Write>(
     name: &str,
     cell: u32,
 )
-    ensures { PutsOneOf not_in_use_words (W.contents writer.old) (W.contents writer.new) gathered.old gathered.new }
+    ensures told { PutsOneOf not_in_use_words
+        (W.contents writer.old) (W.contents writer.new) gathered.old gathered.new }
+    ensures some { PutsSome (W.contents writer.old) (W.contents writer.new) gathered.old gathered.new }
 {
-    if is_free_in(storage, name, cell) {
-        put_free_cell(gathered, writer, cell)
-    } else {
-        put_not_a_cell(gathered, writer, cell)
+    match find_pool(storage, name) {
+        Some(id) if is_free_cell(storage, id, cell) => put_free_cell(gathered, writer, cell),
+        _ => put_not_a_cell(gathered, writer, cell),
     }
 }

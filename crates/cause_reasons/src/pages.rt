@@ -16,7 +16,9 @@ pub fn put_bytes<W: Write>(
     storage: &Storage,
     address: u32,
     count: u32,
-) {
+)
+    ensures { PutsSome (W.contents writer.old) (W.contents writer.new) gathered.old gathered.new }
+{
     put_pieces(
         gathered,
         writer,
@@ -36,7 +38,8 @@ pub fn put_bytes<W: Write>(
 
 /// Puts that the page of a byte isn't assigned.
 fn put_unassigned<W: Write>(gathered: &mut Gathered, writer: &mut W, address: u32)
-    ensures { PutsOneOf not_there_words (W.contents writer.old) (W.contents writer.new) gathered.old gathered.new }
+    ensures told { PutsOneOf not_there_words (W.contents writer.old) (W.contents writer.new) gathered.old gathered.new }
+    ensures some { PutsSome (W.contents writer.old) (W.contents writer.new) gathered.old gathered.new }
 {
     put_line(
         gathered,
@@ -79,7 +82,8 @@ fn put_page<W: Write>(gathered: &mut Gathered, writer: &mut W, storage: &Storage
 
 /// Puts that bytes run past the last address.
 fn put_past_end<W: Write>(gathered: &mut Gathered, writer: &mut W)
-    ensures { PutsOneOf not_there_words (W.contents writer.old) (W.contents writer.new) gathered.old gathered.new }
+    ensures told { PutsOneOf not_there_words (W.contents writer.old) (W.contents writer.new) gathered.old gathered.new }
+    ensures some { PutsSome (W.contents writer.old) (W.contents writer.new) gathered.old gathered.new }
 {
     put_line(
         gathered,
@@ -96,7 +100,8 @@ pub(crate) fn put_not_there<W: Write>(
     address: u32,
     count: u32,
 )
-    ensures { PutsOneOf not_there_words (W.contents writer.old) (W.contents writer.new) gathered.old gathered.new }
+    ensures told { PutsOneOf not_there_words (W.contents writer.old) (W.contents writer.new) gathered.old gathered.new }
+    ensures some { PutsSome (W.contents writer.old) (W.contents writer.new) gathered.old gathered.new }
 {
     let last = address.checked_add(count.saturating_sub(1));
     match storage.subpool_of_page(address / PAGE_BYTES) {
@@ -113,7 +118,8 @@ pub(crate) fn put_not_there<W: Write>(
 
 /// Puts that the page of the last byte isn't assigned, or that there is no such byte.
 fn put_last_not_there<W: Write>(gathered: &mut Gathered, writer: &mut W, last: Option<u32>)
-    ensures { PutsOneOf not_there_words (W.contents writer.old) (W.contents writer.new) gathered.old gathered.new }
+    ensures told { PutsOneOf not_there_words (W.contents writer.old) (W.contents writer.new) gathered.old gathered.new }
+    ensures some { PutsSome (W.contents writer.old) (W.contents writer.new) gathered.old gathered.new }
 {
     match last {
         Some(last) => put_unassigned(gathered, writer, last),
@@ -147,7 +153,9 @@ pub(crate) fn put_pages<W: Write>(
     storage: &Storage,
     address: u32,
     count: u32,
-) {
+)
+    ensures { PutsSome (W.contents writer.old) (W.contents writer.new) gathered.old gathered.new }
+{
     put_page(gathered, writer, storage, address);
     let last = address.checked_add(count.saturating_sub(1));
     put_last(gathered, writer, storage, address, last);

@@ -2,6 +2,7 @@
 ghost use Rattle.std.specs.Prelude.{List, Option, ℕ};
 ghost use Rattle.vsm_model.specs.Meaning.{service_in};
 ghost use Rattle.vsm_model.specs.Services.{build, free, get, obtain, release, whole};
+ghost use Rattle.place_reasons.specs.Told.{PutsSome};
 ghost use Rattle.cause_reasons.specs.Told.{PutsOneOf};
 ghost use Rattle.cause_reasons.specs.Words.{bad_cells_words, empty_words, left_out_words, lengths_words};
 ghost use Rattle.cause_reasons.specs.Words.{misaligned_words, names_full_words, pool_exists_words, pools_full_words};
@@ -20,7 +21,8 @@ use text_output::Gathered;
 
 /// Puts that a subpool's number needs operands that are left out.
 fn put_left_out<W: Write>(gathered: &mut Gathered, writer: &mut W, number: u32)
-    ensures { PutsOneOf left_out_words (W.contents writer.old) (W.contents writer.new) gathered.old gathered.new }
+    ensures told { PutsOneOf left_out_words (W.contents writer.old) (W.contents writer.new) gathered.old gathered.new }
+    ensures some { PutsSome (W.contents writer.old) (W.contents writer.new) gathered.old gathered.new }
 {
     put_line(
         gathered,
@@ -35,7 +37,8 @@ fn put_left_out<W: Write>(gathered: &mut Gathered, writer: &mut W, number: u32)
 
 /// Puts that a subpool's number is too high.
 fn put_too_high<W: Write>(gathered: &mut Gathered, writer: &mut W, number: u32)
-    ensures { PutsOneOf too_high_words (W.contents writer.old) (W.contents writer.new) gathered.old gathered.new }
+    ensures told { PutsOneOf too_high_words (W.contents writer.old) (W.contents writer.new) gathered.old gathered.new }
+    ensures some { PutsSome (W.contents writer.old) (W.contents writer.new) gathered.old gathered.new }
 {
     put_line(
         gathered,
@@ -50,7 +53,9 @@ fn put_too_high<W: Write>(gathered: &mut Gathered, writer: &mut W, number: u32)
 
 /// Puts that no name more can be defined.
 fn put_names_full<W: Write>(gathered: &mut Gathered, writer: &mut W)
-    ensures { PutsOneOf names_full_words (W.contents writer.old) (W.contents writer.new) gathered.old gathered.new }
+    ensures told { PutsOneOf names_full_words
+        (W.contents writer.old) (W.contents writer.new) gathered.old gathered.new }
+    ensures some { PutsSome (W.contents writer.old) (W.contents writer.new) gathered.old gathered.new }
 {
     put_line(
         gathered,
@@ -61,7 +66,8 @@ fn put_names_full<W: Write>(gathered: &mut Gathered, writer: &mut W)
 
 /// Puts that a minimum is above the maximum.
 fn put_turned_lengths<W: Write>(gathered: &mut Gathered, writer: &mut W, minimum: u32, maximum: u32)
-    ensures { PutsOneOf lengths_words (W.contents writer.old) (W.contents writer.new) gathered.old gathered.new }
+    ensures told { PutsOneOf lengths_words (W.contents writer.old) (W.contents writer.new) gathered.old gathered.new }
+    ensures some { PutsSome (W.contents writer.old) (W.contents writer.new) gathered.old gathered.new }
 {
     put_line(
         gathered,
@@ -77,7 +83,8 @@ fn put_turned_lengths<W: Write>(gathered: &mut Gathered, writer: &mut W, minimum
 
 /// Puts that no byte is asked for.
 fn put_no_length<W: Write>(gathered: &mut Gathered, writer: &mut W)
-    ensures { PutsOneOf lengths_words (W.contents writer.old) (W.contents writer.new) gathered.old gathered.new }
+    ensures told { PutsOneOf lengths_words (W.contents writer.old) (W.contents writer.new) gathered.old gathered.new }
+    ensures some { PutsSome (W.contents writer.old) (W.contents writer.new) gathered.old gathered.new }
 {
     put_line(
         gathered,
@@ -88,7 +95,8 @@ fn put_no_length<W: Write>(gathered: &mut Gathered, writer: &mut W)
 
 /// Puts why the lengths are bad.
 fn put_bad_length<W: Write>(gathered: &mut Gathered, writer: &mut W, lengths: Lengths)
-    ensures { PutsOneOf lengths_words (W.contents writer.old) (W.contents writer.new) gathered.old gathered.new }
+    ensures told { PutsOneOf lengths_words (W.contents writer.old) (W.contents writer.new) gathered.old gathered.new }
+    ensures some { PutsSome (W.contents writer.old) (W.contents writer.new) gathered.old gathered.new }
 {
     match lengths {
         Lengths::Variable { maximum, minimum } if maximum < minimum => {
@@ -106,8 +114,9 @@ fn put_obtain<W: Write>(
     o: Obtain,
     cause: Cause,
 )
-    ensures { TellsService storage.now (obtain o) cause
+    ensures told { TellsService storage.now (obtain o) cause
         (W.contents writer.old) (W.contents writer.new) gathered.old gathered.new }
+    ensures some { PutsSome (W.contents writer.old) (W.contents writer.new) gathered.old gathered.new }
 {
     match cause {
         Cause::UnsupportedSubpool => put_left_out(gathered, writer, o.number),
@@ -137,7 +146,9 @@ fn put_obtain<W: Write>(
 
 /// Puts that an address stands on no doubleword.
 fn put_misaligned<W: Write>(gathered: &mut Gathered, writer: &mut W, address: u32)
-    ensures { PutsOneOf misaligned_words (W.contents writer.old) (W.contents writer.new) gathered.old gathered.new }
+    ensures told { PutsOneOf misaligned_words
+        (W.contents writer.old) (W.contents writer.new) gathered.old gathered.new }
+    ensures some { PutsSome (W.contents writer.old) (W.contents writer.new) gathered.old gathered.new }
 {
     put_line(
         gathered,
@@ -153,7 +164,8 @@ fn put_misaligned<W: Write>(gathered: &mut Gathered, writer: &mut W, address: u3
 
 /// Puts that no byte is released.
 fn put_empty<W: Write>(gathered: &mut Gathered, writer: &mut W)
-    ensures { PutsOneOf empty_words (W.contents writer.old) (W.contents writer.new) gathered.old gathered.new }
+    ensures told { PutsOneOf empty_words (W.contents writer.old) (W.contents writer.new) gathered.old gathered.new }
+    ensures some { PutsSome (W.contents writer.old) (W.contents writer.new) gathered.old gathered.new }
 {
     put_line(
         gathered,
@@ -170,8 +182,9 @@ fn put_release<W: Write>(
     r: Release,
     cause: Cause,
 )
-    ensures { TellsService storage.now (release r) cause
+    ensures told { TellsService storage.now (release r) cause
         (W.contents writer.old) (W.contents writer.new) gathered.old gathered.new }
+    ensures some { PutsSome (W.contents writer.old) (W.contents writer.new) gathered.old gathered.new }
 {
     match cause {
         Cause::UnsupportedSubpool => put_left_out(gathered, writer, r.number),
@@ -201,7 +214,8 @@ fn put_release<W: Write>(
 
 /// Puts that subpool 0 is never released whole.
 fn put_zero<W: Write>(gathered: &mut Gathered, writer: &mut W)
-    ensures { PutsOneOf zero_words (W.contents writer.old) (W.contents writer.new) gathered.old gathered.new }
+    ensures told { PutsOneOf zero_words (W.contents writer.old) (W.contents writer.new) gathered.old gathered.new }
+    ensures some { PutsSome (W.contents writer.old) (W.contents writer.new) gathered.old gathered.new }
 {
     put_line(
         gathered,
@@ -218,8 +232,9 @@ fn put_whole<W: Write>(
     number: u32,
     cause: Cause,
 )
-    ensures { TellsService storage.now (whole number) cause
+    ensures told { TellsService storage.now (whole number) cause
         (W.contents writer.old) (W.contents writer.new) gathered.old gathered.new }
+    ensures some { PutsSome (W.contents writer.old) (W.contents writer.new) gathered.old gathered.new }
 {
     match cause {
         Cause::UnsupportedSubpool => put_left_out(gathered, writer, number),
@@ -249,7 +264,8 @@ fn put_whole<W: Write>(
 
 /// Puts which number of a cell pool is bad.
 fn put_bad_cells<W: Write>(gathered: &mut Gathered, writer: &mut W, b: Build)
-    ensures { PutsOneOf bad_cells_words (W.contents writer.old) (W.contents writer.new) gathered.old gathered.new }
+    ensures told { PutsOneOf bad_cells_words (W.contents writer.old) (W.contents writer.new) gathered.old gathered.new }
+    ensures some { PutsSome (W.contents writer.old) (W.contents writer.new) gathered.old gathered.new }
 {
     put_line(
         gathered,
@@ -269,7 +285,9 @@ fn put_bad_cells<W: Write>(gathered: &mut Gathered, writer: &mut W, b: Build)
 
 /// Puts that there is a cell pool of the name.
 fn put_pool_exists<W: Write>(gathered: &mut Gathered, writer: &mut W, name: &str)
-    ensures { PutsOneOf pool_exists_words (W.contents writer.old) (W.contents writer.new) gathered.old gathered.new }
+    ensures told { PutsOneOf pool_exists_words
+        (W.contents writer.old) (W.contents writer.new) gathered.old gathered.new }
+    ensures some { PutsSome (W.contents writer.old) (W.contents writer.new) gathered.old gathered.new }
 {
     put_line(
         gathered,
@@ -284,7 +302,9 @@ fn put_pool_exists<W: Write>(gathered: &mut Gathered, writer: &mut W, name: &str
 
 /// Puts that there are as many cell pools as there can be.
 fn put_pools_full<W: Write>(gathered: &mut Gathered, writer: &mut W, storage: &Storage)
-    ensures { PutsOneOf pools_full_words (W.contents writer.old) (W.contents writer.new) gathered.old gathered.new }
+    ensures told { PutsOneOf pools_full_words
+        (W.contents writer.old) (W.contents writer.new) gathered.old gathered.new }
+    ensures some { PutsSome (W.contents writer.old) (W.contents writer.new) gathered.old gathered.new }
 {
     put_line(
         gathered,
@@ -307,8 +327,10 @@ fn put_build<W: Write>(
     asked: OfPool<'_, Build>,
     cause: Cause,
 )
-    ensures { (header : Option (List ℕ)) → TellsService storage.now (build asked.entry.0.now header asked.entry.1) cause
+    ensures told { (header : Option (List ℕ)) →
+        TellsService storage.now (build asked.entry.0.now header asked.entry.1) cause
         (W.contents writer.old) (W.contents writer.new) gathered.old gathered.new }
+    ensures some { PutsSome (W.contents writer.old) (W.contents writer.new) gathered.old gathered.new }
 {
     let (name, b) = asked;
     match cause {
@@ -345,8 +367,9 @@ fn put_get<W: Write>(
     asked: OfPool<'_, Get>,
     cause: Cause,
 )
-    ensures { TellsService storage.now (get asked.entry.0.now asked.entry.1) cause
+    ensures told { TellsService storage.now (get asked.entry.0.now asked.entry.1) cause
         (W.contents writer.old) (W.contents writer.new) gathered.old gathered.new }
+    ensures some { PutsSome (W.contents writer.old) (W.contents writer.new) gathered.old gathered.new }
 {
     let (name, g) = asked;
     match cause {
@@ -383,8 +406,9 @@ fn put_freed<W: Write>(
     asked: OfPool<'_, u32>,
     cause: Cause,
 )
-    ensures { TellsService storage.now (free asked.entry.0.now asked.entry.1) cause
+    ensures told { TellsService storage.now (free asked.entry.0.now asked.entry.1) cause
         (W.contents writer.old) (W.contents writer.new) gathered.old gathered.new }
+    ensures some { PutsSome (W.contents writer.old) (W.contents writer.new) gathered.old gathered.new }
 {
     let (name, cell) = asked;
     match cause {
@@ -421,8 +445,9 @@ pub(crate) fn put_refusal<W: Write>(
     service: &Service<'_>,
     cause: Cause,
 )
-    ensures { TellsService storage.now (service_in service.now) cause
+    ensures told { TellsService storage.now (service_in service.now) cause
         (W.contents writer.old) (W.contents writer.new) gathered.old gathered.new }
+    ensures some { PutsSome (W.contents writer.old) (W.contents writer.new) gathered.old gathered.new }
 {
     match service {
         Service::Obtain(o) => put_obtain(gathered, writer, storage, *o, cause),

@@ -14,7 +14,8 @@ use vsm_model::geometry::{PAGE_BYTES, PAGE_DOUBLEWORDS};
 
 /// Puts that a byte lies in a page of another subpool.
 fn put_in_another<W: Write>(gathered: &mut Gathered, writer: &mut W, address: u32, other: Subpool)
-    ensures { PutsOneOf foreign_words (W.contents writer.old) (W.contents writer.new) gathered.old gathered.new }
+    ensures told { PutsOneOf foreign_words (W.contents writer.old) (W.contents writer.new) gathered.old gathered.new }
+    ensures some { PutsSome (W.contents writer.old) (W.contents writer.new) gathered.old gathered.new }
 {
     put_line(
         gathered,
@@ -32,7 +33,8 @@ fn put_in_another<W: Write>(gathered: &mut Gathered, writer: &mut W, address: u3
 
 /// Puts that a byte lies in no region.
 fn put_outside<W: Write>(gathered: &mut Gathered, writer: &mut W, address: u32)
-    ensures { PutsOneOf foreign_words (W.contents writer.old) (W.contents writer.new) gathered.old gathered.new }
+    ensures told { PutsOneOf foreign_words (W.contents writer.old) (W.contents writer.new) gathered.old gathered.new }
+    ensures some { PutsSome (W.contents writer.old) (W.contents writer.new) gathered.old gathered.new }
 {
     put_line(
         gathered,
@@ -53,7 +55,8 @@ fn put_foreign<W: Write>(
     subpool: Subpool,
     r: Release,
 )
-    ensures { PutsOneOf foreign_words (W.contents writer.old) (W.contents writer.new) gathered.old gathered.new }
+    ensures told { PutsOneOf foreign_words (W.contents writer.old) (W.contents writer.new) gathered.old gathered.new }
+    ensures some { PutsSome (W.contents writer.old) (W.contents writer.new) gathered.old gathered.new }
 {
     let pages = pages_of(area_of(r));
     if let Some((page, other)) = first_page_of_another(storage, subpool, pages) {
@@ -74,7 +77,8 @@ pub(crate) fn put_not_in_subpool<W: Write>(
     storage: &Storage,
     r: Release,
 )
-    ensures { PutsOneOf foreign_words (W.contents writer.old) (W.contents writer.new) gathered.old gathered.new }
+    ensures told { PutsOneOf foreign_words (W.contents writer.old) (W.contents writer.new) gathered.old gathered.new }
+    ensures some { PutsSome (W.contents writer.old) (W.contents writer.new) gathered.old gathered.new }
 {
     match seen(storage, r.number) {
         Some(subpool) => put_foreign(gathered, writer, storage, subpool, r),
@@ -89,7 +93,8 @@ pub(crate) fn put_unseen<W: Write>(
     storage: &Storage,
     number: u32,
 )
-    ensures { PutsOneOf unseen_words (W.contents writer.old) (W.contents writer.new) gathered.old gathered.new }
+    ensures told { PutsOneOf unseen_words (W.contents writer.old) (W.contents writer.new) gathered.old gathered.new }
+    ensures some { PutsSome (W.contents writer.old) (W.contents writer.new) gathered.old gathered.new }
 {
     put_line(
         gathered,
@@ -110,7 +115,8 @@ pub(crate) fn put_owned<W: Write>(
     storage: &Storage,
     number: u32,
 )
-    ensures { PutsOneOf seen_words (W.contents writer.old) (W.contents writer.new) gathered.old gathered.new }
+    ensures told { PutsOneOf seen_words (W.contents writer.old) (W.contents writer.new) gathered.old gathered.new }
+    ensures some { PutsSome (W.contents writer.old) (W.contents writer.new) gathered.old gathered.new }
 {
     let owner = seen_or_own(storage, number).owner;
     put_line(
@@ -144,7 +150,8 @@ pub(crate) fn put_seen<W: Write>(
 
 /// Puts that a doubleword is free in a subpool.
 fn put_free_in<W: Write>(gathered: &mut Gathered, writer: &mut W, doubleword: u32, subpool: Subpool)
-    ensures { PutsOneOf free_words (W.contents writer.old) (W.contents writer.new) gathered.old gathered.new }
+    ensures told { PutsOneOf free_words (W.contents writer.old) (W.contents writer.new) gathered.old gathered.new }
+    ensures some { PutsSome (W.contents writer.old) (W.contents writer.new) gathered.old gathered.new }
 {
     put_line(
         gathered,
@@ -162,7 +169,8 @@ fn put_free_in<W: Write>(gathered: &mut Gathered, writer: &mut W, doubleword: u3
 
 /// Puts that the page of a doubleword isn't assigned.
 fn put_nobodys<W: Write>(gathered: &mut Gathered, writer: &mut W, doubleword: u32)
-    ensures { PutsOneOf free_words (W.contents writer.old) (W.contents writer.new) gathered.old gathered.new }
+    ensures told { PutsOneOf free_words (W.contents writer.old) (W.contents writer.new) gathered.old gathered.new }
+    ensures some { PutsSome (W.contents writer.old) (W.contents writer.new) gathered.old gathered.new }
 {
     put_line(
         gathered,
@@ -182,7 +190,8 @@ pub(crate) fn put_free<W: Write>(
     storage: &Storage,
     r: Release,
 )
-    ensures { PutsOneOf free_words (W.contents writer.old) (W.contents writer.new) gathered.old gathered.new }
+    ensures told { PutsOneOf free_words (W.contents writer.old) (W.contents writer.new) gathered.old gathered.new }
+    ensures some { PutsSome (W.contents writer.old) (W.contents writer.new) gathered.old gathered.new }
 {
     let subpool = seen_or_own(storage, r.number);
     let area = area_of(r);

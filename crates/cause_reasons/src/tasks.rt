@@ -1,6 +1,7 @@
 //! Why a request on tasks is answered as it is, told.
 ghost use Rattle.vsm_model.specs.Tasks.{attach_causes, detach_causes, end_task_causes};
 ghost use Rattle.storage_core.specs.Meaning.{state_of};
+ghost use Rattle.place_reasons.specs.Told.{PutsSome};
 ghost use Rattle.cause_reasons.specs.Told.{PutsOneOf, TellsCause};
 ghost use Rattle.cause_reasons.specs.Words.{attach_words, end_task_words, no_list_words, no_task_words};
 ghost use Rattle.cause_reasons.specs.Words.{not_parent_words, subtask_words, task_count_words, task_words};
@@ -32,7 +33,8 @@ fn parent_of(storage: &Storage, task: u32) -> Option<u8> {
 
 /// Puts that there is no such task.
 pub(crate) fn put_no_task<W: Write>(gathered: &mut Gathered, writer: &mut W, task: u32)
-    ensures { PutsOneOf no_task_words (W.contents writer.old) (W.contents writer.new) gathered.old gathered.new }
+    ensures told { PutsOneOf no_task_words (W.contents writer.old) (W.contents writer.new) gathered.old gathered.new }
+    ensures some { PutsSome (W.contents writer.old) (W.contents writer.new) gathered.old gathered.new }
 {
     put_line(
         gathered,
@@ -43,7 +45,9 @@ pub(crate) fn put_no_task<W: Write>(gathered: &mut Gathered, writer: &mut W, tas
 
 /// Puts that task 1 has no parent.
 fn put_no_parent<W: Write>(gathered: &mut Gathered, writer: &mut W)
-    ensures { PutsOneOf not_parent_words (W.contents writer.old) (W.contents writer.new) gathered.old gathered.new }
+    ensures told { PutsOneOf not_parent_words
+        (W.contents writer.old) (W.contents writer.new) gathered.old gathered.new }
+    ensures some { PutsSome (W.contents writer.old) (W.contents writer.new) gathered.old gathered.new }
 {
     put_line(gathered, writer, &[Piece::Text("task 1 has no parent")]);
 }
@@ -56,7 +60,9 @@ fn put_its_parent<W: Write>(
     parent: u8,
     current: u8,
 )
-    ensures { PutsOneOf not_parent_words (W.contents writer.old) (W.contents writer.new) gathered.old gathered.new }
+    ensures told { PutsOneOf not_parent_words
+        (W.contents writer.old) (W.contents writer.new) gathered.old gathered.new }
+    ensures some { PutsSome (W.contents writer.old) (W.contents writer.new) gathered.old gathered.new }
 {
     put_line(
         gathered,
@@ -79,7 +85,9 @@ pub(crate) fn put_parent<W: Write>(
     storage: &Storage,
     task: u32,
 )
-    ensures { PutsOneOf not_parent_words (W.contents writer.old) (W.contents writer.new) gathered.old gathered.new }
+    ensures told { PutsOneOf not_parent_words
+        (W.contents writer.old) (W.contents writer.new) gathered.old gathered.new }
+    ensures some { PutsSome (W.contents writer.old) (W.contents writer.new) gathered.old gathered.new }
 {
     match parent_of(storage, task) {
         None | Some(0) => put_no_parent(gathered, writer),
@@ -95,8 +103,9 @@ pub(crate) fn put_detach<W: Write>(
     task: u32,
     cause: Cause,
 )
-    ensures { TellsCause (detach_causes (state_of storage.now) task) (task_words cause) cause
+    ensures told { TellsCause (detach_causes (state_of storage.now) task) (task_words cause) cause
         (W.contents writer.old) (W.contents writer.new) gathered.old gathered.new }
+    ensures some { PutsSome (W.contents writer.old) (W.contents writer.new) gathered.old gathered.new }
 {
     match cause {
         Cause::NoTask => put_no_task(gathered, writer, task),
@@ -138,7 +147,8 @@ fn first_child(storage: &Storage) -> Option<u8> {
 
 /// Puts which subtask the current task has.
 fn put_subtask<W: Write>(gathered: &mut Gathered, writer: &mut W, current: u8, subtask: u8)
-    ensures { PutsOneOf subtask_words (W.contents writer.old) (W.contents writer.new) gathered.old gathered.new }
+    ensures told { PutsOneOf subtask_words (W.contents writer.old) (W.contents writer.new) gathered.old gathered.new }
+    ensures some { PutsSome (W.contents writer.old) (W.contents writer.new) gathered.old gathered.new }
 {
     put_line(
         gathered,
@@ -159,8 +169,9 @@ pub(crate) fn put_end<W: Write>(
     storage: &Storage,
     cause: Cause,
 )
-    ensures { TellsCause (end_task_causes (state_of storage.now)) (end_task_words cause) cause
+    ensures told { TellsCause (end_task_causes (state_of storage.now)) (end_task_words cause) cause
         (W.contents writer.old) (W.contents writer.new) gathered.old gathered.new }
+    ensures some { PutsSome (W.contents writer.old) (W.contents writer.new) gathered.old gathered.new }
 {
     let current = storage.current();
     match cause {
@@ -194,7 +205,9 @@ pub(crate) fn put_end<W: Write>(
 
 /// Puts how many tasks are there.
 pub(crate) fn put_task_count<W: Write>(gathered: &mut Gathered, writer: &mut W, storage: &Storage)
-    ensures { PutsOneOf task_count_words (W.contents writer.old) (W.contents writer.new) gathered.old gathered.new }
+    ensures told { PutsOneOf task_count_words
+        (W.contents writer.old) (W.contents writer.new) gathered.old gathered.new }
+    ensures some { PutsSome (W.contents writer.old) (W.contents writer.new) gathered.old gathered.new }
 {
     put_line(
         gathered,
@@ -208,7 +221,8 @@ pub(crate) fn put_task_count<W: Write>(gathered: &mut Gathered, writer: &mut W, 
 
 /// Puts that a byte of a list isn't there.
 fn put_no_list<W: Write>(gathered: &mut Gathered, writer: &mut W)
-    ensures { PutsOneOf no_list_words (W.contents writer.old) (W.contents writer.new) gathered.old gathered.new }
+    ensures told { PutsOneOf no_list_words (W.contents writer.old) (W.contents writer.new) gathered.old gathered.new }
+    ensures some { PutsSome (W.contents writer.old) (W.contents writer.new) gathered.old gathered.new }
 {
     put_line(
         gathered,
@@ -218,7 +232,9 @@ fn put_no_list<W: Write>(gathered: &mut Gathered, writer: &mut W)
 }
 
 /// Puts the numbers of the subpools that are given and shared.
-fn put_lists<W: Write>(gathered: &mut Gathered, writer: &mut W, storage: &Storage, a: Attach) {
+fn put_lists<W: Write>(gathered: &mut Gathered, writer: &mut W, storage: &Storage, a: Attach)
+    ensures { PutsSome (W.contents writer.old) (W.contents writer.new) gathered.old gathered.new }
+{
     let mut named = [false; SUBPOOL_NUMBERS];
     put_numbers(gathered, writer, storage, "given", a.given, &mut named);
     put_numbers(gathered, writer, storage, "shared", a.shared, &mut named);
@@ -232,8 +248,9 @@ pub(crate) fn put_attach<W: Write>(
     a: Attach,
     cause: Cause,
 )
-    ensures { TellsCause (attach_causes (state_of storage.now) a) (attach_words cause) cause
+    ensures told { TellsCause (attach_causes (state_of storage.now) a) (attach_words cause) cause
         (W.contents writer.old) (W.contents writer.new) gathered.old gathered.new }
+    ensures some { PutsSome (W.contents writer.old) (W.contents writer.new) gathered.old gathered.new }
 {
     match cause {
         Cause::TooManyTasks => put_task_count(gathered, writer, storage),
@@ -281,7 +298,9 @@ fn put_numbers<W: Write>(
     word: &str,
     passed: Passed,
     named: &mut Named,
-) {
+)
+    ensures { PutsSome (W.contents writer.old) (W.contents writer.new) gathered.old gathered.new }
+{
     match passed {
         Passed::Nothing => (),
         Passed::Number(number) => put_passed(gathered, writer, storage, word, number, named),
@@ -307,7 +326,9 @@ fn put_passed<W: Write>(
     word: &str,
     number: u32,
     named: &mut Named,
-) {
+)
+    ensures { PutsSome (W.contents writer.old) (W.contents writer.new) gathered.old gathered.new }
+{
     let text = wrong_text(number, is_again(named, number));
     put_line(
         gathered,
@@ -324,6 +345,23 @@ fn put_passed<W: Write>(
     }
 }
 
+/// Puts the number that a byte of a list names, if that byte is there.
+fn put_listed_at<W: Write>(
+    gathered: &mut Gathered,
+    writer: &mut W,
+    storage: &Storage,
+    word: &str,
+    address: u32,
+    named: &mut Named,
+)
+    ensures { PutsSome (W.contents writer.old) (W.contents writer.new) gathered.old gathered.new }
+{
+    let mut number = [0];
+    if storage.load(address, &mut number).is_ok() {
+        put_passed(gathered, writer, storage, word, u32::from(number[0]), named);
+    }
+}
+
 /// Puts the numbers of a list: its first byte says how many they are.
 fn put_listed<W: Write>(
     gathered: &mut Gathered,
@@ -332,18 +370,15 @@ fn put_listed<W: Write>(
     word: &str,
     address: u32,
     named: &mut Named,
-) {
+)
+    ensures { PutsSome (W.contents writer.old) (W.contents writer.new) gathered.old gathered.new }
+{
     let mut count = [0];
     if storage.load(address, &mut count).is_err() {
         return;
     }
     for i in 0..u32::from(count[0]) {
-        let mut number = [0];
-        if storage
-            .load(address.saturating_add(1 + i), &mut number)
-            .is_ok()
-        {
-            put_passed(gathered, writer, storage, word, u32::from(number[0]), named);
-        }
+        let at = address.saturating_add(1 + i);
+        put_listed_at(gathered, writer, storage, word, at, named);
     }
 }

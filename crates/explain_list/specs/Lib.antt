@@ -1,1 +1,4 @@
+pub mod Checked
 pub mod Listing
+pub mod Pages
+pub mod Rows

@@ -1,14 +1,15 @@
 //! What is wrong with a script, a line for each fault and each warning.
-ghost use Rattle.std.specs.Prelude.{◌≡◌, ◌≤◌, ◌⊎◌, [], Ok, length, take, drop};
+ghost use Rattle.std.specs.Prelude.{◌≡◌, ◌≤◌, ℕ, List, [], Ok, Option, length, take, drop};
 ghost use Rattle.bench_core.specs.Stands.{IsNew};
 ghost use Rattle.vsm_model.specs.declared.limits.Settings.{Settings};
 ghost use Rattle.script_steps.specs.Script.{NoFeed};
-ghost use Rattle.explain_list.specs.declared.faults.ListFault.TheVariants as fault;
-ghost use Rattle.explain_list.specs.Listing.{Listed, Checked, IsReached, ReachesLines, IsRest, Shows};
+ghost use Rattle.explain_list.specs.Checked.{Checked, HoldsChecks, IsReached, ReachesLines, StopsCheck};
+ghost use Rattle.explain_list.specs.Listing.{IsRest, Shows};
 
 use crate::faults::ListFault;
-use crate::listing::{ListingPage, listing, put_rows, rest_from, rest_line};
-use crate::pages::ListingForm;
+use crate::listing::{listing, rest_from};
+use crate::pages::{ListingPage, rest_line};
+use crate::places::{put_checks, put_file_check};
 use bench_core::Bench;
 use script_steps::{Session, TooLong, Watch};
 use std::alloc::Global;
@@ -25,7 +26,7 @@ pub enum Shown<'a> {
     Check(&'a [u8]),
 }
 
-/// Checks all lines that have a line feed, and gives the place behind the last.
+/// Checks all lines that have a line feed, and gives the place after the last.
 fn check_lines<W: Write, P: Watch>(
     session: &mut Session,
     gathered: &mut Gathered,
@@ -38,6 +39,8 @@ fn check_lines<W: Write, P: Watch>(
     ensures takes { (settings : Settings) → IsReached settings [] session.old
         → ReachesLines settings script.now session.new result }
     ensures rest { IsRest script.now result }
+    ensures holds { (first : Option (List ℕ)) → HoldsChecks name.now first (W.contents writer.old) gathered.old
+        → HoldsChecks name.now first (W.contents writer.new) gathered.new }
 {
     let mut at = 0;
     while at < script.len() {
@@ -45,7 +48,7 @@ fn check_lines<W: Write, P: Watch>(
             Err(fault) => return Err(fault),
             Ok(None) => return Ok(at),
             Ok(Some(step)) => {
-                put_rows(gathered, writer, page, ListingForm::Check(name), script);
+                put_checks(gathered, writer, page, script, name);
                 at = step.next;
             }
         }
@@ -54,7 +57,7 @@ fn check_lines<W: Write, P: Watch>(
     Ok(at)
 }
 
-/// Checks what stands behind the last line feed, and the end of the script.
+/// Checks what stands after the last line feed, and the end of the script.
 fn check_end<W: Write>(
     session: Session,
     gathered: &mut Gathered,
@@ -64,15 +67,17 @@ fn check_end<W: Write>(
     name: &[u8],
     at: usize,
 ) -> Result<bool, ListFault>
-    ensures { (settings : Settings) → IsReached settings script.now session → Checked settings script.now result }
+    ensures { (settings : Settings) (first : Option (List ℕ)) → IsReached settings script.now session
+        → HoldsChecks name.now first (W.contents writer.old) gathered.old
+        → Checked settings script.now name.now first (W.contents writer.new) result }
 {
     let before = session.stand();
     let line = rest_line(session.lines(), script, at);
     let ending = session.end();
     page.take_last(script, line, before, &ending);
-    put_rows(gathered, writer, page, ListingForm::Check(name), script);
+    put_checks(gathered, writer, page, script, name);
     page.show_open(script, &ending);
-    put_rows(gathered, writer, page, ListingForm::Check(name), script);
+    put_checks(gathered, writer, page, script, name);
     let is_refused = ending.totals.refused > 0;
     drop(ending);
     match gathered.hand_out(writer) {
@@ -82,16 +87,18 @@ fn check_end<W: Write>(
 }
 
 /// What a check is that ends at a byte that passes a bound.
-fn stop<W: Write>(gathered: &mut Gathered, writer: &mut W) -> ListFault
-    ensures { (result ≡ fault.TooLong) ⊎ (result ≡ fault.Write) }
+fn stop<W: Write>(gathered: &mut Gathered, writer: &mut W) -> Result<bool, ListFault>
+    ensures { (settings : Settings) (script name : List ℕ) (first : Option (List ℕ))
+        → StopsCheck settings script name first (W.contents writer.old) gathered.old
+        → Checked settings script name first (W.contents writer.new) result }
 {
     match gathered.hand_out(writer) {
-        Ok(()) => ListFault::TooLong,
-        Err(_) => ListFault::Write,
+        Ok(()) => Err(ListFault::TooLong),
+        Err(_) => Err(ListFault::Write),
     }
 }
 
-/// Takes what stands behind the last line feed, and checks it and the end of the script.
+/// Takes what stands after the last line feed, and checks it and the end of the script.
 fn check_rest<W: Write>(
     session: Session,
     gathered: &mut Gathered,
@@ -103,8 +110,9 @@ fn check_rest<W: Write>(
 ) -> Result<bool, ListFault>
     requires within { at ≤ length script.now }
     requires plain { NoFeed (drop at script.now) }
-    ensures { (settings : Settings) → IsReached settings (take at script.now) session
-        → Checked settings script.now result }
+    ensures { (settings : Settings) (first : Option (List ℕ)) → IsReached settings (take at script.now) session
+        → HoldsChecks name.now first (W.contents writer.old) gathered.old
+        → Checked settings script.now name.now first (W.contents writer.new) result }
 {
     let mut session = session;
     let rest = rest_from(script, at);
@@ -112,7 +120,7 @@ fn check_rest<W: Write>(
         Ok(()) => check_end(session, gathered, writer, page, script, name, at),
         Err(_) => {
             drop(session);
-            Err(stop(gathered, writer))
+            stop(gathered, writer)
         }
     }
 }
@@ -125,13 +133,13 @@ fn check_on<W: Write, P: Watch>(
     out: &mut W,
     watch: &mut P,
 ) -> Result<bool, ListFault>
-    ensures { (settings : Settings) → IsNew settings (Ok bench) → Checked settings script.now result }
+    ensures { (settings : Settings) → IsNew settings (Ok bench)
+        → Checked settings script.now name.now (W.contents out.old) (W.contents out.new) result }
 {
     let mut session = Session::new(bench);
     let mut gathered = Gathered::new();
     let mut page = ListingPage::new();
-    page.begin(ListingForm::Check(name), script);
-    gathered.put(out, page.words());
+    put_file_check(&mut gathered, out, script, name);
     match check_lines(
         &mut session,
         &mut gathered,
@@ -144,7 +152,7 @@ fn check_on<W: Write, P: Watch>(
         Ok(at) => check_rest(session, &mut gathered, out, &mut page, script, name, at),
         Err(_) => {
             drop(session);
-            Err(stop(&mut gathered, out))
+            stop(&mut gathered, out)
         }
     }
 }
@@ -158,7 +166,7 @@ fn checking<W: Write, P: Watch>(
     out: &mut W,
     watch: &mut P,
 ) -> Result<bool, ListFault>
-    ensures { Checked settings script.now result }
+    ensures { Checked settings script.now name.now (W.contents out.old) (W.contents out.new) result }
 {
     match Bench::new(alloc, settings) {
         Ok(bench) => check_on(bench, script, name, out, watch),
@@ -166,11 +174,11 @@ fn checking<W: Write, P: Watch>(
     }
 }
 
-/// Shows a script: its listing, each line with its number, behind the last line of a statement its answer, and below
-/// the first operand that is wrong a caret with what is expected; lines that aren't carried out have an `x`. Or a line
-/// for each fault and each warning alone.
+/// Shows a script: its listing, each line with its number, after the last line of a statement its answer, and below
+/// the first operand that is wrong a caret with what is expected; lines that aren't carried out have an `x`. Or only a
+/// line for each fault and each warning.
 ///
-/// Gives whether a statement was refused or faulty. `TooLong` comes behind the lines before that one; `Write` after a
+/// Gives whether a statement was refused or faulty. `TooLong` comes after the lines before that one; `Write` after a
 /// front of what is shown; `New` with nothing written.
 pub fn list<W: Write, P: Watch>(
     alloc: Global,

@@ -1,189 +1,24 @@
-//! The listing of a script: its lines, and behind each statement its answer.
-ghost use Rattle.std.specs.Prelude.{◌≡◌, ◌≤◌, ◌++◌, [], ℕ, List, Ok, Option, Some, length, take, drop};
+//! The listing of a script: its lines, and after each statement its answer.
+ghost use Rattle.std.specs.Prelude.{◌≡◌, ◌≤◌, ℕ, List, Ok, Option, length, drop};
 ghost use Rattle.vsm_model.specs.declared.limits.Settings.{Settings};
 ghost use Rattle.bench_core.specs.Stands.{IsNew, bench_of, settings_in};
-ghost use Rattle.script_steps.specs.Answers.{told_text};
-ghost use Rattle.script_steps.specs.Output.{Marked};
-ghost use Rattle.script_steps.specs.Responses.{numbered, response_text};
 ghost use Rattle.script_steps.specs.Script.{NoFeed};
-ghost use Rattle.script_steps.specs.Steps.{StepsOver, TakesStep};
-ghost use Rattle.script_steps.specs.Taken.{Took};
-ghost use Rattle.explain_list.specs.Listing.{PutsItems, Lists, ListsLine, ListsLines, IsNext, IsRest, Stops, Listed};
+ghost use Rattle.text_output.specs.Writing.{Puts};
+ghost use Rattle.explain_list.specs.Listing.{Lists, ListsLine, ListsLines, ListsRest, IsNext, IsRest, Stops, Listed};
+ghost use Rattle.explain_list.specs.Listing.{kept_text, listed_response, listed_told, mark_text};
+ghost use Rattle.explain_list.specs.Pages.{IsPage, shown_of};
+ghost use Rattle.explain_list.specs.Rows.{PutsRows};
 
 use crate::faults::ListFault;
-use crate::pages::{ListingForm, ROWS, add_file_warning, add_row, role_at};
+use crate::pages::{ListingPage, rest_line};
+use crate::rows::{put_file_row, put_line_rows};
 use bench_core::Bench;
-use listed_text::Words;
-use script_steps::{
-    Ending, FaultKind, ReaderState, Response, Session, Step, TooLong, Watch, put_behind,
-    put_response,
-};
-use statement_faults::carets::{Caret, caret_of};
-use statement_faults::lines::{OpenLines, SourceLine};
-use statement_faults::roles::{Brought, Role, role_of};
+use script_steps::{Response, Session, TooLong, Watch, put_behind, put_response};
+use statement_faults::lines::SourceLine;
 use std::alloc::Global;
 use std::io::Write;
-use text_output::Gathered;
+use text_output::{Gathered, put_decimal};
 use vsm_model::Settings;
-
-/// What a line brings, by the answer to it.
-fn brought_by(told: &Option<(u32, Response)>) -> Brought {
-    match told {
-        None => Brought::Nothing,
-        Some((_, Response::Fault(kind))) => Brought::Fault(*kind),
-        Some(_) => Brought::Answer,
-    }
-}
-
-/// What a listing carries from line to line: the lines of the statement that is open, or those that are shown, and the
-/// words of a row.
-#[derive(Drop)]
-pub(crate) struct ListingPage {
-    lines: OpenLines,
-    /// What the last of the lines is, where they are shown.
-    last: Option<Role>,
-    /// Where the statement that is shown is wrong.
-    fault: Option<(Caret, FaultKind)>,
-    words: Words,
-}
-
-impl ListingPage {
-    pub(crate) fn new() -> ListingPage {
-        ListingPage {
-            lines: OpenLines::new(),
-            last: None,
-            fault: None,
-            words: Words::new(),
-        }
-    }
-
-    /// The words that stand in front of the first line.
-    pub(crate) fn begin(&mut self, form: ListingForm, script: &[u8]) {
-        add_file_warning(&mut self.words, form, script);
-    }
-
-    pub(crate) fn words(&self) -> &[u8] {
-        self.words.as_slice()
-    }
-
-    /// Nothing is shown any more. An open statement keeps its lines.
-    fn hide(&mut self) {
-        if self.last.is_some() {
-            self.lines.clear();
-        }
-        self.last = None;
-        self.fault = None;
-    }
-
-    /// Shows the lines so far, the last of which has this role and brings this.
-    fn show(&mut self, script: &[u8], last: Role, brought: Brought) {
-        self.last = Some(last);
-        self.fault = match brought {
-            Brought::Fault(kind) => Some((caret_of(script, self.lines.as_slice(), kind), kind)),
-            _ => None,
-        };
-    }
-
-    /// Takes a line, and shows the statement that it answers; or itself, where it belongs to none.
-    fn take(&mut self, script: &[u8], line: SourceLine, role: Role, brought: Brought) {
-        self.hide();
-        let is_alone = matches!(role, Role::Aside | Role::Gone);
-        if is_alone || role == Role::First {
-            self.lines.clear();
-        }
-        self.lines.push(line);
-        if is_alone || brought != Brought::Nothing {
-            self.show(script, role, brought);
-        }
-    }
-
-    /// How many rows are shown.
-    fn rows(&self) -> usize {
-        if self.last.is_some() {
-            ROWS * self.lines.as_slice().len()
-        } else {
-            0
-        }
-    }
-
-    /// Makes the words of a row that is shown.
-    fn compose_row(&mut self, form: ListingForm, script: &[u8], row: usize) {
-        self.words.clear();
-        let lines = self.lines.as_slice();
-        let index = row / ROWS;
-        let (Some(last), Some(line)) = (self.last, lines.get(index)) else {
-            return;
-        };
-        let role = role_at(index, lines.len(), last);
-        let fault = match &self.fault {
-            Some((caret, kind)) if caret.place.line == index => Some((caret, *kind)),
-            _ => None,
-        };
-        add_row(&mut self.words, form, script, line, role, row % ROWS, fault);
-    }
-
-    /// Takes a last line without a line feed.
-    pub(crate) fn take_last(
-        &mut self,
-        script: &[u8],
-        line: SourceLine,
-        before: ReaderState,
-        ending: &Ending,
-    ) {
-        if line.start >= script.len() {
-            self.hide();
-            return;
-        }
-        let after = if ending.open_statement.is_some() {
-            ReaderState::Gathering
-        } else {
-            ReaderState::Awaiting
-        };
-        let brought = brought_by(&ending.last);
-        self.take(script, line, role_of(before, after, brought), brought);
-    }
-
-    /// Shows the statement that is open at the end.
-    pub(crate) fn show_open(&mut self, script: &[u8], ending: &Ending) {
-        self.hide();
-        if ending.open_statement.is_some() {
-            let last = if self.lines.as_slice().len() > 1 {
-                Role::Further
-            } else {
-                Role::First
-            };
-            self.show(script, last, brought_by(&ending.open_statement));
-        }
-    }
-
-    /// Takes the line that begins at a place of the script, as `Session::take_line` does, and shows what it answers.
-    pub(crate) fn take_line(
-        &mut self,
-        session: &mut Session,
-        script: &[u8],
-        at: usize,
-    ) -> Result<Option<Step>, TooLong>
-        requires { at ≤ length script.now }
-        ensures takes { (settings : Settings) (answers : List Marked)
-            → Took settings (take at script.now) answers session.old
-            → TakesStep settings script.now at answers session.new result }
-        ensures place { StepsOver script.now at result }
-    {
-        let before = session.stand();
-        let taken = session.take_line(script, at);
-        if let Ok(Some(step)) = &taken {
-            let line = SourceLine {
-                number: session.lines(),
-                start: step.start,
-                end: step.next.saturating_sub(1),
-            };
-            let brought = brought_by(&step.told);
-            let role = role_of(before, session.stand(), brought);
-            self.take(script, line, role, brought);
-        }
-        taken
-    }
-}
 
 /// What stands in a script from a place on.
 pub(crate) fn rest_from(script: &[u8], at: usize) -> &[u8]
@@ -193,54 +28,30 @@ pub(crate) fn rest_from(script: &[u8], at: usize) -> &[u8]
     &script[at..]
 }
 
-/// What stands behind the last line feed of a script, as a line behind so many.
-pub(crate) fn rest_line(lines: u32, script: &[u8], at: usize) -> SourceLine {
-    SourceLine {
-        number: lines.saturating_add(1),
-        start: at,
-        end: script.len(),
+/// Puts the lines that are shown, with what is said of them.
+fn put_rows<W: Write>(gathered: &mut Gathered, writer: &mut W, page: &ListingPage, script: &[u8])
+    ensures { IsPage script.now page.now
+        → PutsRows script.now (shown_of page.now) (W.contents writer.old) (W.contents writer.new) gathered.old
+        gathered.new }
+{
+    let lines = page.lines();
+    for index in 0..lines.len() {
+        put_line_rows(
+            gathered,
+            writer,
+            script,
+            &lines[index],
+            page.role(index),
+            page.lost(index, &lines[index]),
+            page.fault_on(index),
+        );
     }
 }
 
-/// Puts words, none of them an answer.
-fn put_words<W: Write>(gathered: &mut Gathered, writer: &mut W, words: &[u8])
-    ensures { PutsItems (W.contents writer.old) (W.contents writer.new) gathered.old gathered.new [] }
+/// What stands in front of a response: whether it's refused.
+fn mark_of(response: &Response) -> &'static [u8]
+    ensures { result.now ≡ mark_text response.now }
 {
-    gathered.put(writer, words);
-}
-
-/// Puts the rows that are shown, none of them an answer.
-pub(crate) fn put_rows<W: Write>(
-    gathered: &mut Gathered,
-    writer: &mut W,
-    page: &mut ListingPage,
-    form: ListingForm,
-    script: &[u8],
-)
-    ensures { PutsItems (W.contents writer.old) (W.contents writer.new) gathered.old gathered.new [] }
-{
-    for row in 0..page.rows() {
-        page.compose_row(form, script, row);
-        put_words(gathered, writer, page.words());
-    }
-}
-
-/// Puts the text of a response, where these bytes are shown.
-fn put_text<W: Write>(
-    gathered: &mut Gathered,
-    writer: &mut W,
-    line: u32,
-    shown: &[u8],
-    response: &Response,
-)
-    ensures { PutsItems (W.contents writer.old) (W.contents writer.new) gathered.old gathered.new
-        (numbered line (response_text shown.now response.now)) }
-{
-    put_response(gathered, writer, shown, response);
-}
-
-/// What stands in front of the text of a response.
-fn mark_of(response: &Response) -> &'static [u8] {
     if response.is_refused() {
         b"       ** "
     } else {
@@ -248,38 +59,41 @@ fn mark_of(response: &Response) -> &'static [u8] {
     }
 }
 
-/// Makes what stands behind the text of a response: the number of changes that are kept, behind one that is kept.
-fn add_kept(words: &mut Words, bench: &Bench, response: &Response) {
-    if let Response::Replied(_) = response {
-        words.add(b"   [");
-        words.add_number(bench.kept(), 0);
-        words.add(b"]");
+/// Puts what stands after the text of a response: of an accepted statement the number of changes that are kept.
+fn put_kept<W: Write>(gathered: &mut Gathered, writer: &mut W, kept: u32, response: &Response)
+    ensures { Puts (W.contents writer.old) (W.contents writer.new) gathered.old gathered.new
+        (kept_text kept response.now) }
+{
+    match response {
+        Response::Replied(_) => {
+            gathered.put(writer, b"   [");
+            put_decimal(gathered, writer, u64::from(kept));
+            gathered.put(writer, b"]\n");
+        }
+        _ => gathered.put(writer, b"\n"),
     }
-    words.add(b"\n");
 }
 
-/// Puts the answer to the statement whose first line has this number, where these bytes are shown, and the lines behind
-/// it.
+/// Puts the answer to a statement, where these bytes are shown, and the lines after it.
+#[tactic(auto, using(text_output::proofs::Gathering::puts_both))]
 fn put_response_of<W: Write>(
     gathered: &mut Gathered,
     writer: &mut W,
     bench: &Bench,
-    line: u32,
     shown: &[u8],
     response: &Response,
 )
-    ensures { PutsItems (W.contents writer.old) (W.contents writer.new) gathered.old gathered.new
-        (told_text (settings_in bench.now) (bench_of bench.now) shown.now (Some (line, response.now))) }
+    ensures { Puts (W.contents writer.old) (W.contents writer.new) gathered.old gathered.new
+        (listed_response (settings_in bench.now) (bench_of bench.now).present (length (bench_of bench.now).past)
+        shown.now response.now) }
 {
-    let mut kept = Words::new();
-    add_kept(&mut kept, bench, response);
-    put_words(gathered, writer, mark_of(response));
-    put_text(gathered, writer, line, shown, response);
-    put_words(gathered, writer, kept.as_slice());
+    gathered.put(writer, mark_of(response));
+    put_response(gathered, writer, shown, response);
+    put_kept(gathered, writer, bench.kept(), response);
     put_behind(gathered, writer, bench, response);
 }
 
-/// Puts an answer, if there is one, where these bytes are shown, and the lines behind it.
+/// Puts an answer, if there is one, where these bytes are shown, and the lines after it.
 fn put_answer<W: Write>(
     gathered: &mut Gathered,
     writer: &mut W,
@@ -287,11 +101,11 @@ fn put_answer<W: Write>(
     shown: &[u8],
     told: &Option<(u32, Response)>,
 )
-    ensures { PutsItems (W.contents writer.old) (W.contents writer.new) gathered.old gathered.new
-        (told_text (settings_in bench.now) (bench_of bench.now) shown.now told.now) }
+    ensures { Puts (W.contents writer.old) (W.contents writer.new) gathered.old gathered.new
+        (listed_told (settings_in bench.now) (bench_of bench.now) shown.now told.now) }
 {
     match told {
-        Some((line, response)) => put_response_of(gathered, writer, bench, *line, shown, response),
+        Some((_, response)) => put_response_of(gathered, writer, bench, shown, response),
         None => (),
     }
 }
@@ -308,15 +122,15 @@ fn list_line<W: Write>(
 ) -> Result<Option<usize>, TooLong>
     requires { at ≤ length script.now }
     ensures lists { (settings : Settings) (first : Option (List ℕ))
-        → Lists settings first (W.contents writer.old) gathered.old (take at script.now) session.old
-        → ListsLine settings first (W.contents writer.new) gathered.new script.now at session.new result }
+        → Lists settings script.now first (W.contents writer.old) gathered.old page.old at session.old
+        → ListsLine settings script.now first (W.contents writer.new) gathered.new page.new at session.new result }
     ensures next { IsNext script.now at result }
 {
     match page.take_line(session, script, at) {
         Err(fault) => Err(fault),
         Ok(None) => Ok(None),
         Ok(Some(step)) => {
-            put_rows(gathered, writer, page, ListingForm::Listing, script);
+            put_rows(gathered, writer, page, script);
             put_answer(
                 gathered,
                 writer,
@@ -329,7 +143,7 @@ fn list_line<W: Write>(
     }
 }
 
-/// Lists all lines that have a line feed, and gives the place behind the last.
+/// Lists all lines that have a line feed, and gives the place after the last.
 fn list_lines<W: Write, P: Watch>(
     session: &mut Session,
     gathered: &mut Gathered,
@@ -339,8 +153,8 @@ fn list_lines<W: Write, P: Watch>(
     watch: &mut P,
 ) -> Result<usize, TooLong>
     ensures lists { (settings : Settings) (first : Option (List ℕ))
-        → Lists settings first (W.contents writer.old) gathered.old [] session.old
-        → ListsLines settings first (W.contents writer.new) gathered.new script.now session.new result }
+        → Lists settings script.now first (W.contents writer.old) gathered.old page.old 0 session.old
+        → ListsLines settings script.now first (W.contents writer.new) gathered.new page.new session.new result }
     ensures rest { IsRest script.now result }
 {
     let mut at = 0;
@@ -358,7 +172,7 @@ fn list_lines<W: Write, P: Watch>(
 /// Hands out what is listed up to a byte that passes a bound.
 fn stop<W: Write>(gathered: &mut Gathered, writer: &mut W) -> Result<bool, ListFault>
     ensures { (settings : Settings) (first : Option (List ℕ)) (script : List ℕ)
-        → Stops settings first (W.contents writer.old) gathered.old script
+        → Stops settings script first (W.contents writer.old) gathered.old
         → Listed settings script first (W.contents writer.new) result }
 {
     match gathered.hand_out(writer) {
@@ -367,24 +181,27 @@ fn stop<W: Write>(gathered: &mut Gathered, writer: &mut W) -> Result<bool, ListF
     }
 }
 
-/// Puts what the end of a script brings.
-fn put_ending<W: Write>(
+/// Lists what stands after the last line feed, and the end of the script.
+fn list_end<W: Write>(
+    session: Session,
     gathered: &mut Gathered,
     writer: &mut W,
     page: &mut ListingPage,
     script: &[u8],
-    ending: &Ending,
-)
-    ensures { PutsItems (W.contents writer.old) (W.contents writer.new) gathered.old gathered.new
-        (told_text (settings_in ending.now.bench) (bench_of ending.now.bench) ending.now.shown.items ending.now.last
-        ++ told_text (settings_in ending.now.bench) (bench_of ending.now.bench) ending.now.shown.items
-        ending.now.open_statement) }
+    line: SourceLine,
+) -> Result<bool, ListFault>
+    ensures { (settings : Settings) (first : Option (List ℕ))
+        → ListsRest settings script.now first (W.contents writer.old) gathered.old page.old line session
+        → Listed settings script.now first (W.contents writer.new) result }
 {
+    let before = session.stand();
+    let ending = session.end();
     let shown = ending.shown.as_slice();
-    put_rows(gathered, writer, page, ListingForm::Listing, script);
+    page.take_last(script, line, before, &ending);
+    put_rows(gathered, writer, page, script);
     put_answer(gathered, writer, &ending.bench, shown, &ending.last);
-    page.show_open(script, ending);
-    put_rows(gathered, writer, page, ListingForm::Listing, script);
+    page.show_open(script, &ending);
+    put_rows(gathered, writer, page, script);
     put_answer(
         gathered,
         writer,
@@ -392,26 +209,6 @@ fn put_ending<W: Write>(
         shown,
         &ending.open_statement,
     );
-}
-
-/// Lists what stands behind the last line feed, and the end of the script.
-fn list_end<W: Write>(
-    session: Session,
-    gathered: &mut Gathered,
-    writer: &mut W,
-    page: &mut ListingPage,
-    script: &[u8],
-    at: usize,
-) -> Result<bool, ListFault>
-    ensures { (settings : Settings) (first : Option (List ℕ))
-        → Lists settings first (W.contents writer.old) gathered.old script.now session
-        → Listed settings script.now first (W.contents writer.new) result }
-{
-    let before = session.stand();
-    let line = rest_line(session.lines(), script, at);
-    let ending = session.end();
-    page.take_last(script, line, before, &ending);
-    put_ending(gathered, writer, page, script, &ending);
     let is_refused = ending.totals.refused > 0;
     drop(ending);
     match gathered.hand_out(writer) {
@@ -420,7 +217,7 @@ fn list_end<W: Write>(
     }
 }
 
-/// Takes what stands behind the last line feed, and lists it and the end of the script.
+/// Takes what stands after the last line feed, and lists it and the end of the script.
 fn list_rest<W: Write>(
     session: Session,
     gathered: &mut Gathered,
@@ -432,13 +229,14 @@ fn list_rest<W: Write>(
     requires within { at ≤ length script.now }
     requires plain { NoFeed (drop at script.now) }
     ensures { (settings : Settings) (first : Option (List ℕ))
-        → Lists settings first (W.contents writer.old) gathered.old (take at script.now) session
+        → Lists settings script.now first (W.contents writer.old) gathered.old page.old at session
         → Listed settings script.now first (W.contents writer.new) result }
 {
     let mut session = session;
+    let line = rest_line(session.lines(), script, at);
     let rest = rest_from(script, at);
     match session.take_bytes(rest) {
-        Ok(()) => list_end(session, gathered, writer, page, script, at),
+        Ok(()) => list_end(session, gathered, writer, page, script, line),
         Err(_) => {
             drop(session);
             stop(gathered, writer)
@@ -459,8 +257,7 @@ fn list_on<W: Write, P: Watch>(
     let mut session = Session::new(bench);
     let mut gathered = Gathered::new();
     let mut page = ListingPage::new();
-    page.begin(ListingForm::Listing, script);
-    put_words(&mut gathered, out, page.words());
+    put_file_row(&mut gathered, out, script);
     match list_lines(&mut session, &mut gathered, out, &mut page, script, watch) {
         Ok(at) => list_rest(session, &mut gathered, out, &mut page, script, at),
         Err(_) => {
@@ -470,10 +267,10 @@ fn list_on<W: Write, P: Watch>(
     }
 }
 
-/// Lists a script: each line with its number, behind the last line of a statement its answer, and below the first
+/// Lists a script: each line with its number, after the last line of a statement its answer, and below the first
 /// operand that is wrong a caret with what is expected. Lines that aren't carried out have an `x`.
 ///
-/// Gives whether a statement was refused or faulty. `TooLong` comes behind the lines before that one; `Write` after a
+/// Gives whether a statement was refused or faulty. `TooLong` comes after the lines before that one; `Write` after a
 /// front of the listing; `New` with nothing written.
 pub(crate) fn listing<W: Write, P: Watch>(
     alloc: Global,

@@ -1,168 +1,31 @@
-//! What a listing says around the answers: lines of the script, carets and warnings.
+//! The lines of the statement that is shown, and what each of them is.
+ghost use Rattle.std.specs.Prelude.{◌≡◌, ◌≤◌, ◌+◌, ◌∷◌, ◌++◌, ℕ, List, [], None, Some, true, false, IfSome};
+ghost use Rattle.std.specs.Prelude.{length, take};
+ghost use Rattle.vsm_model.specs.declared.limits.Settings.{Settings};
+ghost use Rattle.script_steps.specs.Output.{Marked};
+ghost use Rattle.script_steps.specs.Steps.{ShowsStep, StepsOver, TakesStep};
+ghost use Rattle.script_steps.specs.Taken.{Took};
+ghost use Rattle.statement_faults.specs.Places.{first_card, further_cards, MarksOperand};
+ghost use Rattle.explain_list.specs.Pages.{AreLinesOf, IsPage, IsPageAfter, TakesLast, TakesLine, line_of};
+ghost use Rattle.explain_list.specs.Pages.{open_of, shown_of};
+ghost use Rattle.explain_list.specs.Rows.{IsLineAt, IsLineBefore, IsLineStart};
 
-use listed_text::{Words, column_of};
-use script_steps::{FaultKind, fault_word};
-use statement_faults::carets::Caret;
-use statement_faults::hints::add_hint;
-use statement_faults::lines::SourceLine;
-use statement_faults::roles::Role;
-use statement_faults::warnings::{KINDS, Warned, warning_in, warning_on};
+use script_steps::{Ending, FaultKind, ReaderState, Response, Session, Step, TooLong};
+use statement_faults::carets::{Caret, caret_of};
+use statement_faults::lines::{OpenLines, SourceLine};
+use statement_faults::roles::{Brought, Role, role_of};
 
-/// The column, from 0, in which a line of the script begins in the listing.
-const MARGIN: usize = 9;
-
-/// How many bytes of a line are shown.
-const SHOWN: usize = 80;
-
-/// Where what is said goes: below the lines of a listing, or on lines of their own with the name of a file.
-#[derive(Clone, Copy)]
-pub(crate) enum ListingForm<'a> {
-    Listing,
-    Check(&'a [u8]),
-}
-
-/// Appends what a line of a file that breaks off begins with.
-fn add_position(words: &mut Words, name: &[u8], number: u32, column: usize) {
-    words.add(name);
-    words.add(b":");
-    words.add_number(number, 0);
-    words.add(b":");
-    words.add_number(column.min(100_000) as u32, 0);
-    words.add(b": ");
-}
-
-/// What is shown of a line.
-fn shown_part(bytes: &[u8]) -> &[u8] {
-    &bytes[..bytes.len().min(SHOWN)]
-}
-
-/// Appends the begin of a line that says something of a column of a line of the script: below that column, or with its
-/// place, which is counted in bytes.
-fn add_front(
-    words: &mut Words,
-    form: ListingForm,
-    script: &[u8],
-    line: &SourceLine,
-    column: usize,
-) {
-    match form {
-        ListingForm::Listing => {
-            let place = column.saturating_sub(1).min(SHOWN);
-            words.add_blanks(MARGIN);
-            words.add_blanks(column_of(shown_part(line.bytes(script)), place));
-            words.add(b"^ ");
-        }
-        ListingForm::Check(name) => add_position(words, name, line.number, column),
+/// What a line brings, by the answer to it.
+fn brought_by(told: &Option<(u32, Response)>) -> Brought {
+    match told {
+        None => Brought::Nothing,
+        Some((_, Response::Fault(kind))) => Brought::Fault(*kind),
+        Some(_) => Brought::Answer,
     }
-}
-
-/// Appends a warning on a line.
-fn add_warning(
-    words: &mut Words,
-    form: ListingForm,
-    script: &[u8],
-    line: &SourceLine,
-    warned: Warned,
-) {
-    if let Some((column, warning)) = warned {
-        add_front(words, form, script, line, column.min(SHOWN));
-        words.add(b"WARNING: ");
-        words.add(warning.text());
-        words.add(b"\n");
-    }
-}
-
-/// Appends what is wrong with the file as a whole.
-pub(crate) fn add_file_warning(words: &mut Words, form: ListingForm, script: &[u8]) {
-    if let Some(warning) = warning_on(script) {
-        if let ListingForm::Check(name) = form {
-            add_position(words, name, 1, 1);
-        }
-        words.add(b"WARNING: ");
-        words.add(warning.text());
-        words.add(b"\n");
-    }
-}
-
-/// The byte of column 72 of a line.
-fn column_72(line: &[u8]) -> u8 {
-    if line.len() > 71 { line[71] } else { b' ' }
-}
-
-/// Appends why a line isn't carried out, and which line says so.
-fn add_loss(words: &mut Words, before: &[u8], number: u32) {
-    words.add(b"NOT CARRIED OUT: line ");
-    words.add_number(number.saturating_sub(1), 0);
-    words.add(b" has '");
-    words.add_shown(&[column_72(before)]);
-    words.add(b"' in column 72");
-}
-
-/// The line in front of one.
-fn line_before(script: &[u8], line: &SourceLine) -> SourceLine {
-    let end = line.start.saturating_sub(1).min(script.len());
-    let mut start = 0;
-    for place in 0..end.min(65_536) {
-        let at = end - 1 - place;
-        if script[at] == b'\n' {
-            start = at + 1;
-            break;
-        }
-    }
-    SourceLine {
-        number: line.number.saturating_sub(1),
-        start,
-        end,
-    }
-}
-
-/// Appends a line of the script as the listing has it.
-fn add_source(words: &mut Words, script: &[u8], line: &SourceLine, role: Role) {
-    let bytes = line.bytes(script);
-    words.add_number(line.number, 7);
-    words.add(if role.is_lost() { b" x" } else { b"  " });
-    words.add_shown(shown_part(bytes));
-    if bytes.len() > SHOWN {
-        words.add(b"..");
-    }
-    if role.is_lost() {
-        words.add(b"      <== ");
-        add_loss(words, line_before(script, line).bytes(script), line.number);
-    }
-    words.add(b"\n");
-}
-
-/// Appends a line as the listing has it, or that it isn't carried out.
-fn add_line(words: &mut Words, form: ListingForm, script: &[u8], line: &SourceLine, role: Role) {
-    match form {
-        ListingForm::Listing => add_source(words, script, line, role),
-        ListingForm::Check(name) if role.is_lost() => {
-            add_position(words, name, line.number, 1);
-            add_loss(words, line_before(script, line).bytes(script), line.number);
-            words.add(b"\n");
-        }
-        ListingForm::Check(_) => (),
-    }
-}
-
-/// Appends what is wrong with a statement and what is expected, the caret of which is on this line.
-fn add_caret(
-    words: &mut Words,
-    form: ListingForm,
-    script: &[u8],
-    line: &SourceLine,
-    caret: &Caret,
-    kind: FaultKind,
-) {
-    add_front(words, form, script, line, caret.place.column);
-    words.add(fault_word(kind).as_bytes());
-    words.add(b": ");
-    add_hint(words, caret, kind);
-    words.add(b"\n");
 }
 
 /// What a line of a statement is, by its place among the statement's lines.
-pub(crate) fn role_at(index: usize, count: usize, last: Role) -> Role {
+fn role_at(index: usize, count: usize, last: Role) -> Role {
     if index.saturating_add(1) == count {
         last
     } else if index == 0 {
@@ -172,28 +35,279 @@ pub(crate) fn role_at(index: usize, count: usize, last: Role) -> Role {
     }
 }
 
-/// How many rows go with a line of the script: itself, a warning of each kind, and a caret.
-pub(crate) const ROWS: usize = KINDS + 2;
+/// Whether a line has the number after that of another.
+fn is_next(before: &SourceLine, line: &SourceLine) -> bool
+    ensures { result ≡ true → before.now.number + 1 ≡ line.now.number }
+{
+    before.number < line.number && line.number - before.number == 1
+}
 
-/// Appends one of the rows that go with a line of this role: nothing if there is no such row. The last is that of the
-/// caret of a fault, if it's on this line.
-pub(crate) fn add_row(
-    words: &mut Words,
-    form: ListingForm,
-    script: &[u8],
-    line: &SourceLine,
-    role: Role,
-    row: usize,
-    fault: Option<(&Caret, FaultKind)>,
-) {
-    if row == 0 {
-        add_line(words, form, script, line, role);
-    } else if row <= KINDS {
-        if role != Role::Aside {
-            let warned = warning_in(line.bytes(script), role.is_read(), row - 1);
-            add_warning(words, form, script, line, warned);
+/// What stands after the last line feed of a script, as a line after so many.
+pub(crate) fn rest_line(lines: u32, script: &[u8], at: usize) -> SourceLine
+    ensures number { lines ≤ 1048576 → result.number ≡ lines + 1 }
+    ensures start { result.start ≡ at }
+    ensures end { result.end ≡ length script.now }
+{
+    SourceLine {
+        number: lines.saturating_add(1),
+        start: at,
+        end: script.len(),
+    }
+}
+
+/// Where the statement of these lines is wrong, if it brings a fault.
+fn fault_of(script: &[u8], lines: &OpenLines, brought: Brought) -> Option<(Caret, FaultKind)>
+    ensures { IfSome result (λ f. MarksOperand (first_card script.now lines.now.lines.items)
+        (further_cards script.now lines.now.lines.items) f.1 f.0) }
+{
+    match brought {
+        Brought::Fault(kind) => Some((caret_of(script, lines.as_slice(), kind), kind)),
+        _ => None,
+    }
+}
+
+/// What a listing carries from line to line: the lines of the statement that is open, or those that are shown.
+#[derive(Drop)]
+pub(crate) struct ListingPage {
+    lines: OpenLines,
+    /// What the last of the lines is, if they are shown.
+    last: Option<Role>,
+    /// Where the statement that is shown is wrong.
+    fault: Option<(Caret, FaultKind)>,
+    /// The line that was taken last.
+    current: Option<SourceLine>,
+    /// The line before that.
+    before: Option<SourceLine>,
+}
+
+impl ListingPage {
+    pub(crate) fn new() -> ListingPage
+        ensures lines { (script : List ℕ) → AreLinesOf script result }
+        ensures open { open_of result ≡ [] }
+    {
+        ListingPage {
+            lines: OpenLines::new(),
+            last: None,
+            fault: None,
+            current: None,
+            before: None,
         }
-    } else if let Some((caret, kind)) = fault {
-        add_caret(words, form, script, line, caret, kind);
+    }
+
+    /// Nothing is shown any more. An open statement keeps its lines.
+    fn hide(&mut self)
+        ensures lines { (script : List ℕ) → AreLinesOf script self.old → AreLinesOf script self.new }
+        ensures open { open_of self.new ≡ open_of self.old }
+        ensures last { self.new.last ≡ None }
+        ensures fault { self.new.fault ≡ None }
+    {
+        if self.last.is_some() {
+            self.lines.clear();
+        }
+        self.last = None;
+        self.fault = None;
+    }
+
+    /// Shows the lines so far, the last of which has this role and brings this.
+    fn show(&mut self, script: &[u8], last: Role, brought: Brought)
+        ensures page { AreLinesOf script.now self.old → IsPage script.now self.new }
+        ensures lines { self.new.lines ≡ self.old.lines }
+        ensures last { self.new.last ≡ Some last }
+    {
+        self.last = Some(last);
+        self.fault = fault_of(script, &self.lines, brought);
+    }
+
+    /// Takes a line, after those that aren't shown yet.
+    fn keep(&mut self, line: SourceLine)
+        ensures lines { (script : List ℕ) → IsLineAt script line → AreLinesOf script self.old
+            → AreLinesOf script self.new }
+        ensures whole { length (open_of self.old) ≤ 9
+            → self.new.lines.lines.items ≡ open_of self.old ++ line ∷ [] }
+        ensures last { self.new.last ≡ None }
+        ensures fault { self.new.fault ≡ None }
+    {
+        self.hide();
+        self.lines.push(line);
+        self.before = self.current;
+        self.current = Some(line);
+    }
+
+    /// Whether there is no room for another line.
+    fn is_full(&self) -> bool
+        ensures { result ≡ false → length self.now.lines.lines.items ≤ 9 }
+    {
+        self.lines.as_slice().len() > 9
+    }
+
+    /// Whether the lines are shown after one of this role, which brings this.
+    fn shows(&self, role: Role, brought: Brought) -> bool
+        ensures { result ≡ false → length self.now.lines.lines.items ≤ 9 }
+    {
+        match role {
+            Role::Aside | Role::Gone => true,
+            _ => brought != Brought::Nothing || self.is_full(),
+        }
+    }
+
+    /// Takes a line, and shows the statement that it answers; or itself, if it belongs to none. No statement has more
+    /// than ten lines.
+    fn take(&mut self, script: &[u8], line: SourceLine, role: Role, brought: Brought)
+        ensures page { IsLineAt script.now line → AreLinesOf script.now self.old → IsPage script.now self.new }
+        ensures whole { length (open_of self.old) ≤ 9
+            → shown_of self.new ++ open_of self.new ≡ open_of self.old ++ line ∷ [] }
+        ensures room { length (open_of self.new) ≤ 9 }
+    {
+        self.keep(line);
+        if self.shows(role, brought) {
+            self.show(script, role, brought);
+        }
+    }
+
+    /// Takes a line that was taken, where the reader stood before it and stands after it.
+    fn take_step(
+        &mut self,
+        script: &[u8],
+        number: u32,
+        before: ReaderState,
+        after: ReaderState,
+        step: &Step,
+    )
+        ensures page { IsLineAt script.now (line_of number step.now) → AreLinesOf script.now self.old
+            → IsPage script.now self.new }
+        ensures whole { length (open_of self.old) ≤ 9
+            → shown_of self.new ++ open_of self.new ≡ open_of self.old ++ line_of number step.now ∷ [] }
+        ensures room { length (open_of self.new) ≤ 9 }
+    {
+        let line = SourceLine {
+            number,
+            start: step.start,
+            end: step.next.saturating_sub(1),
+        };
+        let brought = brought_by(&step.told);
+        self.take(script, line, role_of(before, after, brought), brought);
+    }
+
+    /// The lines that are shown.
+    pub(crate) fn lines(&self) -> &[SourceLine]
+        ensures { result.now ≡ shown_of self.now }
+    {
+        match self.last {
+            Some(_) => self.lines.as_slice(),
+            None => &[],
+        }
+    }
+
+    /// What one of these lines is.
+    pub(crate) fn role(&self, index: usize) -> Role {
+        match self.last {
+            Some(last) => role_at(index, self.lines.as_slice().len(), last),
+            None => Role::Aside,
+        }
+    }
+
+    /// Why this one of the lines isn't carried out, if it isn't: the line before it.
+    pub(crate) fn lost(&self, index: usize, line: &SourceLine) -> Option<SourceLine>
+        ensures { (script : List ℕ) → AreLinesOf script self.now
+            → IfSome result (IsLineBefore script line.now) }
+    {
+        if self.role(index).is_lost() {
+            self.line_before(line)
+        } else {
+            None
+        }
+    }
+
+    /// The fault whose caret is on this one of the lines.
+    pub(crate) fn fault_on(&self, index: usize) -> Option<(&Caret, FaultKind)>
+        ensures { IfSome result (λ f. (self.now.fault ≡ Some (f.0.now, f.1)) × (f.0.now.place.line ≡ index)) }
+    {
+        match &self.fault {
+            Some((caret, kind)) if caret.place.line == index => Some((caret, *kind)),
+            _ => None,
+        }
+    }
+
+    /// The line before this one, which was taken last.
+    fn line_before(&self, line: &SourceLine) -> Option<SourceLine>
+        ensures { (script : List ℕ) → AreLinesOf script self.now
+            → IfSome result (IsLineBefore script line.now) }
+    {
+        match self.before {
+            Some(before) if is_next(&before, line) => Some(before),
+            _ => None,
+        }
+    }
+
+    /// Takes a last line without a line feed.
+    pub(crate) fn take_last(
+        &mut self,
+        script: &[u8],
+        line: SourceLine,
+        before: ReaderState,
+        ending: &Ending,
+    )
+        ensures page { IsLineAt script.now line → AreLinesOf script.now self.old → IsPage script.now self.new }
+        ensures whole { length (open_of self.old) ≤ 9 → TakesLast script.now line self.old self.new }
+    {
+        if line.start >= script.len() {
+            self.hide();
+            return;
+        }
+        let after = if ending.open_statement.is_some() {
+            ReaderState::Gathering
+        } else {
+            ReaderState::Awaiting
+        };
+        let brought = brought_by(&ending.last);
+        self.take(script, line, role_of(before, after, brought), brought);
+    }
+
+    /// Shows the statement that is open at the end: the lines that aren't shown yet.
+    pub(crate) fn show_open(&mut self, script: &[u8], ending: &Ending)
+        ensures page { AreLinesOf script.now self.old → IsPage script.now self.new }
+        ensures whole { shown_of self.new ≡ open_of self.old }
+    {
+        self.hide();
+        if !self.lines.as_slice().is_empty() {
+            let last = if self.lines.as_slice().len() > 1 {
+                Role::Further
+            } else {
+                Role::First
+            };
+            self.show(script, last, brought_by(&ending.open_statement));
+        }
+    }
+
+    /// Takes the line that begins at a place of the script, as `Session::take_line` does, and shows what it answers.
+    pub(crate) fn take_line(
+        &mut self,
+        session: &mut Session,
+        script: &[u8],
+        at: usize,
+    ) -> Result<Option<Step>, TooLong>
+        requires { at ≤ length script.now }
+        ensures takes { (settings : Settings) (answers : List Marked)
+            → Took settings (take at script.now) answers session.old
+            → TakesStep settings script.now at answers session.new result }
+        ensures shows { (settings : Settings) (answers : List Marked)
+            → Took settings (take at script.now) answers session.old
+            → ShowsStep settings script.now answers session.new result }
+        ensures place { StepsOver script.now at result }
+        ensures page { (settings : Settings) (answers : List Marked)
+            → Took settings (take at script.now) answers session.old → IsLineStart script.now at
+            → AreLinesOf script.now self.old → IsPageAfter script.now result self.new }
+        ensures whole { TakesLine self.old self.new result }
+    {
+        let before = session.stand();
+        let number = session.lines().saturating_add(1);
+        match session.take_line(script, at) {
+            Err(fault) => Err(fault),
+            Ok(None) => Ok(None),
+            Ok(Some(step)) => {
+                self.take_step(script, number, before, session.stand(), &step);
+                Ok(Some(step))
+            }
+        }
     }
 }

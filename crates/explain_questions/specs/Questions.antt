@@ -1,15 +1,22 @@
 -- What is asked of a script, by what was read of the words.
-use Rattle.std.specs.Prelude.{◌≡◌, ◌≤◌, ◌&&◌, ◌||◌, ◌==◌, ℕ, List, [], ◌∷◌, ◌++◌, codes, drop, length}
-use Rattle.std.specs.Prelude.{if◌then◌else◌, nat_le, nat_lt, slice_index_or, ⊤, IfSome}
-use Rattle.std.specs.Prelude.{Bool, Option, Some, None, option_map}
+use Rattle.std.specs.Prelude.{◌≡◌, ◌⊎◌, ◌≤◌, ◌<◌, ◌+◌, ◌&&◌, ◌||◌, ◌==◌, ℕ, List, [], ◌∷◌, ◌++◌, codes, drop, length}
+use Rattle.std.specs.Prelude.{if◌then◌else◌, map, nat_le, nat_lt, slice_index_or, true, false, ⊤, IfSome}
+use Rattle.std.specs.Prelude.{Bool, Option, Some, None, is_some, option_map, unwrap_or}
+use Rattle.std.specs.List.{after_first, before_first, position_or_len}
+use Rattle.std.specs.Option.{option_map_or}
+use Rattle.std.specs.Str.{bytes_eq}
+use Rattle.std.specs.Char.{to_ascii_uppercase}
 use Rattle.clap.specs.Words.{Row, Text, first_of}
 use Rattle.operand_texts.specs.Values.{number_of}
+use Rattle.operand_texts.specs.Words.{is_name}
 use Rattle.vsm_bench.specs.Settings.{settings_asked}
 use Rattle.explain_questions.specs.declared.questions.About.{About}
 use Rattle.explain_questions.specs.declared.questions.About.TheVariants as about
 use Rattle.explain_questions.specs.declared.questions.Question.{Question}
 use Rattle.explain_questions.specs.declared.questions.Question.TheVariants as question
 use Rattle.explain_questions.specs.declared.questions.Asking.{Asking}
+use Rattle.explain_questions.specs.declared.refusals.WordRefusal.{WordRefusal}
+use Rattle.explain_questions.specs.declared.refusals.WordRefusal.TheVariants as refusal
 
 -- ---- numbers as in a script
 
@@ -75,8 +82,152 @@ abbrev pub IsOfFile : List Row → Question → Option Text → Type 0
 IsOfFile rows (question.Code first second) file = file ≡ None
 IsOfFile rows _ file = file ≡ first_of (codes "FILE") rows
 
--- What is asked can be asked, of the script that the words name, under the settings that they name.
-pub record Asks (rows : List Row) (asking : Asking) : Type 0 where
+-- ---- what the words of a command say
+
+-- the option is written
+abbrev pub is_set : Text → List Row → Bool
+is_set name rows = option_map_or (λ text. bytes_eq text (codes "true")) (first_of name rows) false
+
+abbrev pub is_given : Text → List Row → Bool
+is_given name rows = is_some (first_of name rows)
+
+-- a word that begins with a digit is meant as a line
+abbrev pub is_line : Text → Bool
+is_line text = nat_lt 0 (length text) && nat_le 48 (slice_index_or text 0 0) && nat_le (slice_index_or text 0 0) 57
+
+abbrev pub line_in : Text → Option ℕ
+line_in text = number_within 1 1048576 text
+
+-- the parts before a comma (44) and after it
+abbrev pub has_comma : Text → Bool
+has_comma text = nat_lt (position_or_len (λ c. c == 44) text) (length text)
+
+abbrev pub before_comma : Text → Text
+before_comma text = before_first (λ c. c == 44) text
+
+abbrev pub after_comma : Text → Text
+after_comma text = after_first (λ c. c == 44) text
+
+abbrev pub both : Option ℕ → Option ℕ → Option (ℕ × ℕ)
+both (Some a) (Some b) = Some (a, b)
+both _ _ = None
+
+-- a task and a register
+abbrev pub register_in : Text → Option (ℕ × ℕ)
+register_in text =
+    if has_comma text then both (number_within 1 255 (before_comma text)) (number_within 0 15 (after_comma text))
+    else None
+
+-- a task and the number of a subpool; without a task it's task 1
+abbrev pub seen_in : Text → Option (ℕ × ℕ)
+seen_in text =
+    if has_comma text then both (number_within 1 255 (before_comma text)) (number_within 0 127 (after_comma text))
+    else both (Some 1) (number_within 0 127 text)
+
+-- a count of bytes: one if none is written
+abbrev pub count_in : Option Text → Option ℕ
+count_in None = Some 1
+count_in (Some text) = number_within 1 256 text
+
+-- A word that may be left out says this.
+abbrev pub Says : {X : Type 0} → (Text → Option X) → Option Text → Option X → Type 0
+Says of None None = ⊤
+Says of (Some text) (Some x) = of text ≡ Some x
+Says of _ _ = ⊥
+
+-- ---- what they ask
+
+-- `why` asks of a line if its second word is meant as one, else what an answer of one or two words means.
+abbrev pub IsWhyAsked : List Row → Question → Type 0
+IsWhyAsked rows (question.Why line) =
+    (text : Text) × (first_of (codes "LINE") rows ≡ Some text) × (is_line text ≡ true) × (line_in text ≡ Some line)
+IsWhyAsked rows (question.Code first second) =
+    (first.now ≡ unwrap_or (first_of (codes "FILE") rows) [])
+    × (option_map (λ s. s.now) second ≡ first_of (codes "LINE") rows)
+    × (option_map_or is_line (first_of (codes "LINE") rows) false ≡ false)
+IsWhyAsked rows _ = ⊥
+
+-- `report` asks of the statement of a line, or of the last; with --over-time of each, of all storage or of a subpool.
+abbrev pub IsReportAsked : List Row → Question → Type 0
+IsReportAsked rows (question.Report line) =
+    (is_set (codes "over-time") rows ≡ false) × (is_given (codes "subpool") rows ≡ false)
+    × Says line_in (first_of (codes "LINE") rows) line
+IsReportAsked rows (question.OverTime subpool) =
+    (is_set (codes "over-time") rows ≡ true) × (is_given (codes "LINE") rows ≡ false)
+    × Says seen_in (first_of (codes "subpool") rows) subpool
+IsReportAsked rows _ = ⊥
+
+-- how many things `who` is asked for
+abbrev pub one_if : Bool → ℕ
+one_if b = if b then 1 else 0
+
+abbrev pub count_asked : List Row → ℕ
+count_asked rows =
+    one_if (is_set (codes "log") rows) + one_if (is_given (codes "register") rows)
+    + one_if (is_given (codes "name") rows) + one_if (is_given (codes "subpool") rows)
+    + one_if (is_given (codes "holds") rows) + one_if (is_given (codes "ADDRESS") rows)
+
+-- what it's asked for
+abbrev pub IsAboutAsked : List Row → About → Type 0
+IsAboutAsked rows (about.Bytes address count) =
+    (text : Text) × (first_of (codes "ADDRESS") rows ≡ Some text) × (address_number text ≡ Some address)
+    × (count_in (first_of (codes "COUNT") rows) ≡ Some count)
+IsAboutAsked rows (about.Register task register) =
+    (text : Text) × (first_of (codes "register") rows ≡ Some text) × (register_in text ≡ Some (task, register))
+IsAboutAsked rows (about.Name name) =
+    (text : Text) × (first_of (codes "name") rows ≡ Some text) × (is_name text ≡ true)
+    × (name.bytes ≡ map to_ascii_uppercase text)
+IsAboutAsked rows (about.Subpool task number) =
+    (text : Text) × (first_of (codes "subpool") rows ≡ Some text) × (seen_in text ≡ Some (task, number))
+IsAboutAsked rows (about.Holder address) =
+    (text : Text) × (first_of (codes "holds") rows ≡ Some text) × (address_number text ≡ Some address)
+
+-- `who` asks for one thing, or for all changes.
+abbrev pub IsWhoAsked : List Row → Question → Type 0
+IsWhoAsked rows (question.Who it) =
+    (is_set (codes "log") rows ≡ false) × (count_asked rows ≤ 1) × IsAboutAsked rows it
+IsWhoAsked rows question.Log = (is_set (codes "log") rows ≡ true) × (count_asked rows ≤ 1)
+IsWhoAsked rows _ = ⊥
+
+-- `list` asks for the listing, or for the places of faults.
+abbrev pub IsListAsked : List Row → Question → Type 0
+IsListAsked rows (question.List is_check) = is_check ≡ is_set (codes "check") rows
+IsListAsked rows _ = ⊥
+
+-- what a command asks, by its name
+pub record IsAskedBy (command : Text) (rows : List Row) (q : Question) : Type 0 where
+  pub list : command ≡ codes "list" → IsListAsked rows q
+  pub why : command ≡ codes "why" → IsWhyAsked rows q
+  pub report : command ≡ codes "report" → IsReportAsked rows q
+  pub who : command ≡ codes "who" → IsWhoAsked rows q
+
+-- ---- what is wrong with them
+
+abbrev pub IsWrongWord : {X : Type 0} → Text → (Text → Option X) → List Row → Text → Type 0
+IsWrongWord name of rows text = (first_of name rows ≡ Some text) × (of text ≡ None)
+
+abbrev pub IsWrong : List Row → WordRefusal → Type 0
+IsWrong rows (refusal.NoLine word) = ⊥
+IsWrong rows (refusal.Line word) = IsWrongWord (codes "LINE") line_in rows word.now
+IsWrong rows refusal.LineOverTime =
+    (is_set (codes "over-time") rows ≡ true) × (is_given (codes "LINE") rows ≡ true)
+IsWrong rows refusal.SubpoolAtOnce =
+    (is_set (codes "over-time") rows ≡ false) × (is_given (codes "subpool") rows ≡ true)
+IsWrong rows (refusal.Address word) =
+    IsWrongWord (codes "holds") address_number rows word.now
+    ⊎ IsWrongWord (codes "ADDRESS") address_number rows word.now
+IsWrong rows (refusal.Count word) = IsWrongWord (codes "COUNT") (number_within 1 256) rows word.now
+IsWrong rows (refusal.Register word) = IsWrongWord (codes "register") register_in rows word.now
+IsWrong rows (refusal.Name word) = (first_of (codes "name") rows ≡ Some word.now) × (is_name word.now ≡ false)
+IsWrong rows (refusal.Subpool word) = IsWrongWord (codes "subpool") seen_in rows word.now
+IsWrong rows refusal.NothingAsked = count_asked rows ≡ 0
+IsWrong rows refusal.MoreAsked = 1 < count_asked rows
+IsWrong rows refusal.Settings = settings_asked rows ≡ None
+
+-- What is asked is what the command's words ask; it can be asked, of the script that they name, under the settings that
+-- they name.
+pub record Asks (command : Text) (rows : List Row) (asking : Asking) : Type 0 where
+  pub asked : IsAskedBy command rows asking.question
   pub askable : IsAskable asking.question
   pub file : IsOfFile rows asking.question (option_map (λ s. s.now) asking.file)
   pub settings : Some asking.settings ≡ settings_asked rows

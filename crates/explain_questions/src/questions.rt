@@ -1,11 +1,20 @@
 //! Questions, as words ask them.
-ghost use Rattle.std.specs.Prelude.{◌≡◌, ◌≤◌, IfOk, IfSome, Some, option_map};
-ghost use Rattle.clap.specs.Words.{found_of, first_of, rows_of, subcommand_rows_of};
-ghost use Rattle.std.specs.Prelude.{◌<◌, ◌∷◌, ◌++◌, [], length};
+ghost use Rattle.std.specs.Prelude.{◌≡◌, ◌≤◌, IfErr, IfOk, IfSome, IsSomeAnd, OnErr, None, Some, codes, false, map};
+ghost use Rattle.std.specs.Prelude.{option_map};
+ghost use Rattle.std.specs.Char.{to_ascii_uppercase};
+ghost use Rattle.clap.specs.Words.{Row, found_of, first_of, rows_of, subcommand_rows_of};
+ghost use Rattle.std.specs.Prelude.{◌<◌, ◌∷◌, ◌++◌, ℕ, List, [], length};
 ghost use Rattle.operand_texts.specs.Values.{number_of};
+ghost use Rattle.operand_texts.specs.Words as words;
 ghost use Rattle.explain_questions.specs.Questions.{Asks, IsAskable, IsLine, IsOfFile, IsSeenThere, IsThere};
+ghost use Rattle.explain_questions.specs.Questions.{IsAboutAsked, IsAskedBy, IsListAsked, IsReportAsked, IsWhoAsked};
+ghost use Rattle.explain_questions.specs.Questions.{IsWhyAsked, IsWrong, Says, count_asked, count_in, is_given};
+ghost use Rattle.explain_questions.specs.Questions.{is_line};
+ghost use Rattle.explain_questions.specs.Questions.{both, is_set, line_in, register_in, seen_in};
 ghost use Rattle.explain_questions.specs.Questions.{address_number, hexadecimal, is_marked, is_printed, is_zero_first};
 ghost use Rattle.explain_questions.specs.Questions.{number_within, quoted};
+ghost use Rattle.explain_questions.specs.declared.questions.About.TheVariants as about;
+ghost use Rattle.explain_questions.specs.declared.refusals.WordRefusal.TheVariants as refusal;
 
 use crate::refusals::WordRefusal;
 use arrayvec::ArrayVec;
@@ -98,7 +107,10 @@ fn number_within(word: &str, least: u32, most: u32) -> Option<u32>
 
 /// The line of this number.
 fn line_of(word: &str) -> Result<u32, WordRefusal<'_>>
-    ensures { IfOk result IsLine }
+    ensures line { IfOk result (λ line. line_in word.now ≡ Some line) }
+    ensures there { IfOk result IsLine }
+    ensures wrong { OnErr result (line_in word.now ≡ None) }
+    ensures refused { IfErr result (λ e. e ≡ refusal.Line word.entry) }
 {
     match number_within(word, 1, LAST_LINE) {
         Some(line) => Ok(line),
@@ -107,10 +119,11 @@ fn line_of(word: &str) -> Result<u32, WordRefusal<'_>>
 }
 
 /// Whether a word is meant as the number of a line: it begins with a digit.
-fn is_line(word: &str) -> bool {
-    word.as_bytes()
-        .first()
-        .is_some_and(|byte| byte.is_ascii_digit())
+fn is_line(word: &str) -> bool
+    ensures { result ≡ is_line word.now }
+{
+    let text = word.as_bytes();
+    !text.is_empty() && b'0' <= text[0] && text[0] <= b'9'
 }
 
 /// X'..' with these digits.
@@ -172,7 +185,9 @@ fn address_number(text: &[u8]) -> Option<u32>
 
 /// The address that a word spells.
 fn address_of(word: &str) -> Result<u32, WordRefusal<'_>>
-    ensures { IfOk result (λ address. address_number word.now ≡ Some address) }
+    ensures address { IfOk result (λ address. address_number word.now ≡ Some address) }
+    ensures wrong { OnErr result (address_number word.now ≡ None) }
+    ensures refused { IfErr result (λ e. e ≡ refusal.Address word.entry) }
 {
     match address_number(word.as_bytes()) {
         Some(address) => Ok(address),
@@ -182,7 +197,10 @@ fn address_of(word: &str) -> Result<u32, WordRefusal<'_>>
 
 /// The count of bytes that a word spells; one where none is written.
 fn count_of(word: Option<&str>) -> Result<u32, WordRefusal<'_>>
-    ensures { IfOk result (λ n. (1 ≤ n) × (n ≤ 256)) }
+    ensures count { IfOk result (λ n. count_in (option_map (λ s. s.now) word.entry) ≡ Some n) }
+    ensures there { IfOk result (λ n. (1 ≤ n) × (n ≤ 256)) }
+    ensures refused { (rows : List Row) → option_map (λ s. s.now) word.entry ≡ first_of (codes "COUNT") rows
+        → IfErr result (IsWrong rows) }
 {
     let Some(word) = word else {
         return Ok(1);
@@ -195,7 +213,11 @@ fn count_of(word: Option<&str>) -> Result<u32, WordRefusal<'_>>
 
 /// So many bytes from an address on.
 fn bytes_of<'a>(address: &'a str, count: Option<&'a str>) -> Result<About, WordRefusal<'a>>
-    ensures { IfOk result IsThere }
+    ensures there { IfOk result IsThere }
+    ensures asked { (rows : List Row) → first_of (codes "ADDRESS") rows ≡ Some address.entry.now
+        → option_map (λ s. s.now) count.entry ≡ first_of (codes "COUNT") rows → IfOk result (IsAboutAsked rows) }
+    ensures wrong { (rows : List Row) → first_of (codes "ADDRESS") rows ≡ Some address.entry.now
+        → option_map (λ s. s.now) count.entry ≡ first_of (codes "COUNT") rows → IfErr result (IsWrong rows) }
 {
     let address = address_of(address)?;
     let count = count_of(count)?;
@@ -204,7 +226,11 @@ fn bytes_of<'a>(address: &'a str, count: Option<&'a str>) -> Result<About, WordR
 
 /// The register of a task: two numbers with a comma between them.
 fn register_of(word: &str) -> Result<About, WordRefusal<'_>>
-    ensures { IfOk result IsThere }
+    ensures there { IfOk result IsThere }
+    ensures asked { (rows : List Row) → first_of (codes "register") rows ≡ Some word.entry.now
+        → IfOk result (IsAboutAsked rows) }
+    ensures wrong { (rows : List Row) → first_of (codes "register") rows ≡ Some word.entry.now
+        → IfErr result (IsWrong rows) }
 {
     let Some((task, register)) = word.split_once(',') else {
         return Err(WordRefusal::Register(word));
@@ -221,24 +247,55 @@ fn register_of(word: &str) -> Result<About, WordRefusal<'_>>
     }
 }
 
-/// A task, and the number of a subpool that it may see: two numbers with a comma between them, or the second alone for
-/// task 1.
-fn seen_of(word: &str) -> Result<(u8, u8), WordRefusal<'_>>
-    ensures { IfOk result IsSeenThere }
+/// Two numbers below 256, if both are there.
+fn both(first: Option<u32>, second: Option<u32>) -> Option<(u8, u8)>
+    requires first { IfSome first (λ n. n ≤ 255) }
+    requires second { IfSome second (λ n. n ≤ 255) }
+    ensures both { result ≡ both first second }
+    ensures least { (least : ℕ) → IfSome first (λ n. least ≤ n) → IfSome result (λ r. least ≤ r.0) }
+    ensures most { (most : ℕ) → IfSome second (λ n. n ≤ most) → IfSome result (λ r. r.1 ≤ most) }
 {
-    let (task, number) = word.split_once(',').unwrap_or(("1", word));
-    match (
-        number_within(task, 1, LAST_TASK),
-        number_within(number, 0, LAST_SUBPOOL),
-    ) {
-        (Some(task), Some(number)) => Ok((task as u8, number as u8)),
-        _ => Err(WordRefusal::Subpool(word)),
+    match (first, second) {
+        (Some(first), Some(second)) => Some((first as u8, second as u8)),
+        _ => None,
+    }
+}
+
+/// A task, and the number of a subpool that it may see: two numbers with a comma between them, or only the second, for
+/// task 1.
+fn seen_in(word: &str) -> Option<(u8, u8)>
+    ensures seen { result ≡ seen_in word.now }
+    ensures there { IfSome result IsSeenThere }
+{
+    match word.split_once(',') {
+        Some((task, number)) => both(
+            number_within(task, 1, LAST_TASK),
+            number_within(number, 0, LAST_SUBPOOL),
+        ),
+        None => both(Some(1), number_within(word, 0, LAST_SUBPOOL)),
+    }
+}
+
+/// The task and the number of a subpool that a word spells.
+fn seen_of(word: &str) -> Result<(u8, u8), WordRefusal<'_>>
+    ensures there { IfOk result IsSeenThere }
+    ensures seen { IfOk result (λ seen. seen_in word.entry.now ≡ Some seen) }
+    ensures wrong { OnErr result (seen_in word.entry.now ≡ None) }
+    ensures refused { IfErr result (λ e. e ≡ refusal.Subpool word.entry) }
+{
+    match seen_in(word) {
+        Some(seen) => Ok(seen),
+        None => Err(WordRefusal::Subpool(word)),
     }
 }
 
 /// What the subpool has that a task sees at a number.
 fn subpool_of(word: &str) -> Result<About, WordRefusal<'_>>
-    ensures { IfOk result IsThere }
+    ensures there { IfOk result IsThere }
+    ensures asked { (rows : List Row) → first_of (codes "subpool") rows ≡ Some word.entry.now
+        → IfOk result (IsAboutAsked rows) }
+    ensures wrong { (rows : List Row) → first_of (codes "subpool") rows ≡ Some word.entry.now
+        → IfErr result (IsWrong rows) }
 {
     let (task, number) = seen_of(word)?;
     Ok(About::Subpool { task, number })
@@ -246,14 +303,22 @@ fn subpool_of(word: &str) -> Result<About, WordRefusal<'_>>
 
 /// Whose the page of an address is.
 fn holder_of(word: &str) -> Result<About, WordRefusal<'_>>
-    ensures { IfOk result IsThere }
+    ensures there { IfOk result IsThere }
+    ensures asked { (rows : List Row) → first_of (codes "holds") rows ≡ Some word.entry.now
+        → IfOk result (IsAboutAsked rows) }
+    ensures wrong { (rows : List Row) → first_of (codes "holds") rows ≡ Some word.entry.now
+        → IfErr result (IsWrong rows) }
 {
     Ok(About::Holder(address_of(word)?))
 }
 
 /// The word of a name.
 fn name_of(word: &str) -> Result<About, WordRefusal<'_>>
-    ensures { IfOk result IsThere }
+    ensures there { IfOk result IsThere }
+    ensures asked { (rows : List Row) → first_of (codes "name") rows ≡ Some word.entry.now
+        → IfOk result (IsAboutAsked rows) }
+    ensures wrong { (rows : List Row) → first_of (codes "name") rows ≡ Some word.entry.now
+        → IfErr result (IsWrong rows) }
 {
     let text = word.as_bytes();
     if is_name(text) {
@@ -273,17 +338,37 @@ fn text_of<'a>(matches: &ArgMatches<'a>, id: &str) -> Option<&'a str>
     matches.get_str(id)
 }
 
+/// Whether an option that takes no value is written.
+fn is_set(matches: &ArgMatches<'_>, id: &str) -> bool
+    ensures { result ≡ is_set id.now (rows_of (found_of matches.now)) }
+{
+    match text_of(matches, id) {
+        Some(text) => text == "true",
+        None => false,
+    }
+}
+
+/// Whether an option or operand is written.
+fn is_given(matches: &ArgMatches<'_>, id: &str) -> bool
+    ensures { result ≡ is_given id.now (rows_of (found_of matches.now)) }
+{
+    text_of(matches, id).is_some()
+}
+
 /// What `list` asks.
 fn list_asked<'a>(matches: &ArgMatches<'a>) -> AskedOfScript<'a>
+    ensures asked { IsListAsked (rows_of (found_of matches.now)) result.0 }
     ensures askable { IsAskable result.0 }
     ensures file { IsOfFile (rows_of (found_of matches.now)) result.0 (option_map (λ s. s.now) result.1) }
 {
-    let is_check = matches.get_flag("check");
+    let is_check = is_set(matches, "check");
     (Question::List { is_check }, text_of(matches, "FILE"))
 }
 
 /// What `why` asks: of a line, or of an answer where what stands behind its first word is no line.
 fn why_asked<'a>(matches: &ArgMatches<'a>) -> Result<AskedOfScript<'a>, WordRefusal<'a>>
+    ensures asked { IfOk result (λ a. IsWhyAsked (rows_of (found_of matches.now)) a.0) }
+    ensures wrong { IfErr result (IsWrong (rows_of (found_of matches.now))) }
     ensures askable { IfOk result (λ a. IsAskable a.0) }
     ensures file { IfOk result (λ a. IsOfFile (rows_of (found_of matches.now)) a.0 (option_map (λ s. s.now) a.1)) }
 {
@@ -301,7 +386,10 @@ fn why_asked<'a>(matches: &ArgMatches<'a>) -> Result<AskedOfScript<'a>, WordRefu
 
 /// The line that a word spells, where there is one.
 fn line_asked(word: Option<&str>) -> Result<Option<u32>, WordRefusal<'_>>
-    ensures { IfOk result (λ line. IfSome line IsLine) }
+    ensures there { IfOk result (λ line. IfSome line IsLine) }
+    ensures says { IfOk result (Says line_in (option_map (λ s. s.now) word.entry)) }
+    ensures wrong { (rows : List Row) → option_map (λ s. s.now) word.entry ≡ first_of (codes "LINE") rows
+        → IfErr result (IsWrong rows) }
 {
     match word {
         Some(word) => Ok(Some(line_of(word)?)),
@@ -311,7 +399,10 @@ fn line_asked(word: Option<&str>) -> Result<Option<u32>, WordRefusal<'_>>
 
 /// The task and the number of a subpool that a word spells, where there is one.
 fn seen_asked(word: Option<&str>) -> Result<Option<(u8, u8)>, WordRefusal<'_>>
-    ensures { IfOk result (λ seen. IfSome seen IsSeenThere) }
+    ensures there { IfOk result (λ seen. IfSome seen IsSeenThere) }
+    ensures says { IfOk result (Says seen_in (option_map (λ s. s.now) word.entry)) }
+    ensures wrong { (rows : List Row) → option_map (λ s. s.now) word.entry ≡ first_of (codes "subpool") rows
+        → IfErr result (IsWrong rows) }
 {
     match word {
         Some(word) => Ok(Some(seen_of(word)?)),
@@ -321,13 +412,15 @@ fn seen_asked(word: Option<&str>) -> Result<Option<(u8, u8)>, WordRefusal<'_>>
 
 /// What `report` asks.
 fn report_asked<'a>(matches: &ArgMatches<'a>) -> Result<AskedOfScript<'a>, WordRefusal<'a>>
+    ensures asked { IfOk result (λ a. IsReportAsked (rows_of (found_of matches.now)) a.0) }
+    ensures wrong { IfErr result (IsWrong (rows_of (found_of matches.now))) }
     ensures askable { IfOk result (λ a. IsAskable a.0) }
     ensures file { IfOk result (λ a. IsOfFile (rows_of (found_of matches.now)) a.0 (option_map (λ s. s.now) a.1)) }
 {
     let file = text_of(matches, "FILE");
     let line = line_asked(text_of(matches, "LINE"))?;
     let subpool = seen_asked(text_of(matches, "subpool"))?;
-    if !matches.get_flag("over-time") {
+    if !is_set(matches, "over-time") {
         return if subpool.is_some() {
             Err(WordRefusal::SubpoolAtOnce)
         } else {
@@ -341,18 +434,23 @@ fn report_asked<'a>(matches: &ArgMatches<'a>) -> Result<AskedOfScript<'a>, WordR
 }
 
 /// How many things the words ask for that lines change.
-fn asked_at_once(matches: &ArgMatches<'_>) -> u32 {
-    u32::from(matches.get_flag("log"))
-        + u32::from(text_of(matches, "register").is_some())
-        + u32::from(text_of(matches, "name").is_some())
-        + u32::from(text_of(matches, "subpool").is_some())
-        + u32::from(text_of(matches, "holds").is_some())
-        + u32::from(text_of(matches, "ADDRESS").is_some())
+fn count_asked(matches: &ArgMatches<'_>) -> u32
+    ensures { result ≡ count_asked (rows_of (found_of matches.now)) }
+{
+    u32::from(is_set(matches, "log"))
+        + u32::from(is_given(matches, "register"))
+        + u32::from(is_given(matches, "name"))
+        + u32::from(is_given(matches, "subpool"))
+        + u32::from(is_given(matches, "holds"))
+        + u32::from(is_given(matches, "ADDRESS"))
 }
 
 /// The thing that the words ask for, of which there is one at most.
 fn about_asked<'a>(matches: &ArgMatches<'a>) -> Result<About, WordRefusal<'a>>
-    ensures { IfOk result IsThere }
+    requires { is_set (codes "log") (rows_of (found_of matches.now)) ≡ false }
+    ensures there { IfOk result IsThere }
+    ensures asked { IfOk result (IsAboutAsked (rows_of (found_of matches.now))) }
+    ensures wrong { IfErr result (IsWrong (rows_of (found_of matches.now))) }
 {
     if let Some(word) = text_of(matches, "register") {
         register_of(word)
@@ -371,14 +469,16 @@ fn about_asked<'a>(matches: &ArgMatches<'a>) -> Result<About, WordRefusal<'a>>
 
 /// What `who` asks.
 fn who_asked<'a>(matches: &ArgMatches<'a>) -> Result<AskedOfScript<'a>, WordRefusal<'a>>
+    ensures asked { IfOk result (λ a. IsWhoAsked (rows_of (found_of matches.now)) a.0) }
+    ensures wrong { IfErr result (IsWrong (rows_of (found_of matches.now))) }
     ensures askable { IfOk result (λ a. IsAskable a.0) }
     ensures file { IfOk result (λ a. IsOfFile (rows_of (found_of matches.now)) a.0 (option_map (λ s. s.now) a.1)) }
 {
     let file = text_of(matches, "FILE");
-    if asked_at_once(matches) > 1 {
+    if count_asked(matches) > 1 {
         return Err(WordRefusal::MoreAsked);
     }
-    if matches.get_flag("log") {
+    if is_set(matches, "log") {
         return Ok((Question::Log, file));
     }
     let about = about_asked(matches)?;
@@ -390,6 +490,8 @@ fn question_of<'a>(
     command: &str,
     matches: &ArgMatches<'a>,
 ) -> Result<AskedOfScript<'a>, WordRefusal<'a>>
+    ensures asked { IfOk result (λ a. IsAskedBy command.now (rows_of (found_of matches.now)) a.0) }
+    ensures wrong { IfErr result (IsWrong (rows_of (found_of matches.now))) }
     ensures askable { IfOk result (λ a. IsAskable a.0) }
     ensures file { IfOk result (λ a. IsOfFile (rows_of (found_of matches.now)) a.0 (option_map (λ s. s.now) a.1)) }
 {
@@ -403,7 +505,8 @@ fn question_of<'a>(
 
 /// What the words of a command ask for, or what is wrong with them.
 fn asking_within<'a>(command: &str, matches: &ArgMatches<'a>) -> Result<Asking<'a>, WordRefusal<'a>>
-    ensures { IfOk result (Asks (rows_of (found_of matches.now))) }
+    ensures asks { IfOk result (Asks command.now (rows_of (found_of matches.now))) }
+    ensures wrong { IfErr result (IsWrong (rows_of (found_of matches.now))) }
 {
     let Some(settings) = settings_asked(matches) else {
         return Err(WordRefusal::Settings);
@@ -420,7 +523,8 @@ fn asking_within<'a>(command: &str, matches: &ArgMatches<'a>) -> Result<Asking<'
 
 /// What the words ask for that were read, or what is wrong with them. Numbers are read as in a script.
 pub fn asking_of<'a>(matches: &ArgMatches<'a>) -> Result<Asking<'a>, WordRefusal<'a>>
-    ensures { IfOk result (λ a. IfSome (subcommand_rows_of matches.now) (λ p. Asks p.1 a)) }
+    ensures asks { IfOk result (λ a. IsSomeAnd (subcommand_rows_of matches.now) (λ p. Asks p.0 p.1 a)) }
+    ensures wrong { IfErr result (λ e. IfSome (subcommand_rows_of matches.now) (λ p. IsWrong p.1 e)) }
 {
     match matches.subcommand() {
         Some((command, within)) => asking_within(command, within),

@@ -1,20 +1,14 @@
--- There are not too many runs, nor numbers in them, to be counted.
-use Rattle.std.proofs.Common.{◌≡◌, ℕ, zero, suc, ◌+◌, ◌<◌, ◌≤◌, ◌==◌, Bool, true, false, if◌then◌else◌, List, [], ◌∷◌, length, map, refl, arith}
+-- There are no more free areas than doublewords in them.
+use Rattle.std.proofs.Common.{◌≡◌, ℕ, zero, suc, ◌+◌, ◌≤◌, ◌==◌, Bool, true, false, if◌then◌else◌, List, [], ◌∷◌, length, map, refl, arith}
 use Rattle.std.specs.Prelude.{◌^◌}
 use Rattle.std.proofs.lemmas.List.{length-map}
 use Rattle.run_set.specs.Runs.{Run}
 use Rattle.vsm_model.specs.Runs.{with_first, runs}
 use Rattle.vsm_model.specs.declared.Subpool.{Subpool}
 use Rattle.subpool_storage.specs.Subpools.{Subpools}
-use Rattle.subpool_storage.specs.Extents.{run_in, extents, free_areas}
-use Rattle.storage_changes.specs.State.{StorageState}
-use Rattle.storage_changes.specs.MapLists.{unassigned_runs}
-use Rattle.storage_changes.proofs.MapSums.{sum_map, total, runs_total, passing_few}
+use Rattle.subpool_storage.specs.Extents.{run_in, free_areas}
+use Rattle.storage_changes.proofs.MapSums.{sum_map, total}
 use Rattle.explain_report.specs.Tallies.{numbers_in}
-
--- at most so many numbers in these runs, and so many runs
-abbrev pub AreFew : List Run → Type 0
-AreFew rs = (numbers_in rs ≤ 2 ^ 29) × (length rs ≤ 2 ^ 29)
 
 front_length : (k : ℕ) (xs : List (ℕ × ℕ)) → length (with_first k xs) ≤ suc (length xs)
 front_length k [] = omega arith
@@ -22,34 +16,6 @@ front_length k (x ∷ xs) = go (x.0 == suc k) where
   go : (b : Bool) → length (if b then (k, suc x.1) ∷ xs else (k, 1) ∷ x ∷ xs) ≤ suc (suc (length xs))
   go true = omega arith
   go false = omega arith
-
-few_runs : (f : ℕ → Bool) (k n : ℕ) → length (runs f k n) ≤ n
-few_runs f k zero = omega arith
-few_runs f k (suc n) = go (f k) (few_runs f (suc k) n) (front_length k (runs f (suc k) n)) where
-  go : (b : Bool) → length (runs f (suc k) n) ≤ n → length (with_first k (runs f (suc k) n)) ≤ suc (length (runs f (suc k) n))
-      → length (if b then with_first k (runs f (suc k) n) else runs f (suc k) n) ≤ suc n
-  go true h l = omega (arith, h, l)
-  go false h l = omega (arith, h)
-
-few_numbers : (f : ℕ → Bool) (n : ℕ) → numbers_in (map run_in (runs f 0 n)) ≤ n
-few_numbers f n =
-    let k : numbers_in (map run_in (runs f 0 n)) ≡ total (runs f 0 n) = sum_map (λ (r : Run). r.len) run_in (runs f 0 n) in
-    omega (arith, k, runs_total f 0 n, passing_few f 0 n)
-
-few : (f : ℕ → Bool) (n : ℕ) → n ≡ 2 ^ 29 → AreFew (map run_in (runs f 0 n))
-few f n e = (omega (arith, few_numbers f n, e), omega (arith, length-map (runs f 0 n) run_in, few_runs f 0 n, e))
-
-pub extents_few : (m : Subpools) (p : Subpool) → AreFew (extents m p)
-unfolding extents
-extents_few m p = few (m.pages p) (2 ^ 29) refl
-
-pub free_areas_few : (m : Subpools) (p : Subpool) → AreFew (free_areas m p)
-unfolding free_areas
-free_areas_few m p = few (m.free p) (2 ^ 29) refl
-
-pub unassigned_few : (m : StorageState) → AreFew (unassigned_runs m)
-unfolding unassigned_runs
-unassigned_few m = few m.unassigned (2 ^ 29) refl
 
 -- No run is empty, so there are no more runs than numbers in them.
 front_more : (k : ℕ) (xs : List (ℕ × ℕ)) → total (with_first k xs) ≡ 1 + total xs

@@ -1,5 +1,11 @@
--- Lemmas on tallies of runs, and on walks over these.
+-- Lemmas on tallies of runs.
 mod TallyLemmas
 mod Few
-mod Walked
 mod Areas
+pub mod Remaining
+pub mod Lines
+pub mod Alike
+pub mod Following
+pub mod Told
+pub mod Reached
+pub mod SameAreas

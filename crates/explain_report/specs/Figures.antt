@@ -3,7 +3,7 @@ use Rattle.std.specs.Prelude.{◌≡◌, ℕ, Bool, true, false, is_some, flat_m
 use Rattle.vsm_model.specs.declared.Subpool.{Subpool}
 use Rattle.vsm_model.specs.declared.limits.Residence.TheVariants.{Below, Above}
 use Rattle.vsm_model.specs.declared.replies.Reply.TheVariants as reply
-use Rattle.vsm_model.specs.Areas.{least_fit}
+use Rattle.vsm_model.specs.Areas.{least_fit, least_run}
 use Rattle.script_steps.specs.declared.responses.Response.{Response}
 use Rattle.script_steps.specs.declared.responses.Response.TheVariants as response
 use Rattle.storage_changes.specs.MapLists.{unassigned_runs}
@@ -47,6 +47,10 @@ pub record IsRowOf (s : Storage) (p : Subpool) (row : SubpoolRow) : Type 0 where
       IsUpTo (λ count. is_some (least_fit (state_of s) (region_on (settings_of s) Below) p count 1)) row.low.largest
   pub high_largest :
       IsUpTo (λ count. is_some (least_fit (state_of s) (region_on (settings_of s) Above) p count 1)) row.high.largest
+  pub low_unassigned :
+      IsUpTo (λ count. is_some (least_run (state_of s) (region_on (settings_of s) Below) count)) row.low.unassigned
+  pub high_unassigned :
+      IsUpTo (λ count. is_some (least_run (state_of s) (region_on (settings_of s) Above) count)) row.high.unassigned
 
 -- The row of the subpool with this number that has this owner, by whom a task sees it; none where it sees none.
 abbrev pub IsRowSeen : Storage → ℕ → Option ℕ → Option SubpoolRow → Type 0

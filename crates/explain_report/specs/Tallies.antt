@@ -2,6 +2,7 @@
 -- Assembler Services Guide, "Virtual storage management".
 use Rattle.std.specs.Prelude.{◌≡◌, ℕ, ◌+◌, ◌<◌, ◌≤◌, max, nat_lt, if◌then◌else◌, List, [], ◌∷◌, length, slice_get, Some}
 use Rattle.run_set.specs.Runs.{Run}
+pub use Rattle.run_set.specs.Sums.{low_runs, high_runs}
 use Rattle.storage_changes.specs.MapTotals.{sum_of}
 use Rattle.explain_report.specs.declared.tallies.Tally.{Tally}
 
@@ -26,14 +27,15 @@ with_runs t (r ∷ rs) = with_runs (with_run t r) rs
 abbrev pub tally_of : List Run → Tally
 tally_of rs = with_runs no_runs rs
 
--- the runs that begin before a line, and those that begin behind it
-abbrev pub low_runs : ℕ → List Run → List Run
-low_runs line [] = []
-low_runs line (r ∷ rs) = if nat_lt r.start line then r ∷ low_runs line rs else low_runs line rs
-
-abbrev pub high_runs : ℕ → List Run → List Run
-high_runs line [] = []
-high_runs line (r ∷ rs) = if nat_lt r.start line then high_runs line rs else r ∷ high_runs line rs
+-- with the runs of another tally behind them
+abbrev pub with_tally : Tally → Tally → Tally
+with_tally t u =
+    record {
+      total = t.total + u.total;
+      count = t.count + u.count;
+      longest = max t.longest u.longest;
+      at = if nat_lt t.longest u.longest then u.at else t.at;
+    }
 
 -- the numbers of all runs
 abbrev pub numbers_in : List Run → ℕ

@@ -1,7 +1,7 @@
 //! What a subpool has on each side of the 16 MB line.
 ghost use Rattle.std.specs.Prelude.{◌≡◌, is_some, true, false};
 ghost use Rattle.vsm_model.specs.declared.limits.Residence.TheVariants.{Below, Above};
-ghost use Rattle.vsm_model.specs.Areas.{least_fit};
+ghost use Rattle.vsm_model.specs.Areas.{least_fit, least_run};
 ghost use Rattle.subpool_storage.specs.Extents.{free_areas};
 ghost use Rattle.storage_changes.specs.MapTotals.{subpool_pages};
 ghost use Rattle.storage_plans.specs.Places.{IsUpTo, region_on};
@@ -47,6 +47,10 @@ pub fn row_of(storage: &Storage, subpool: Subpool) -> SubpoolRow
         (region_on (settings_of storage.now) Below) subpool count 1)) result.low.largest }
     ensures high_largest { IsUpTo (λ count. is_some (least_fit (state_of storage.now)
         (region_on (settings_of storage.now) Above) subpool count 1)) result.high.largest }
+    ensures low_unassigned { IsUpTo (λ count. is_some (least_run (state_of storage.now)
+        (region_on (settings_of storage.now) Below) count)) result.low.unassigned }
+    ensures high_unassigned { IsUpTo (λ count. is_some (least_run (state_of storage.now)
+        (region_on (settings_of storage.now) Above) count)) result.high.unassigned }
 {
     let extents = extents_of(storage, subpool);
     let free = free_areas_of(storage, subpool);

@@ -1,100 +1,211 @@
-//! Reports of a script: behind a statement, and over time.
-ghost use Rattle.std.specs.Prelude.{◌≡◌};
-ghost use Rattle.explain_report.specs.Figures.{IsAsBefore, may_change};
+//! Reports of a script: after a statement, and over time.
+ghost use Rattle.std.specs.Prelude.{◌≡◌, ◌+◌, ◌<◌, ◌≤◌, ◌⊎◌, [], Ok, Err, List, ℕ, Option, None, Some, drop, length};
+ghost use Rattle.std.specs.Prelude.{take};
+ghost use Rattle.std.specs.Io.KnownBytes.{Appends};
+ghost use Rattle.bench_core.specs.Stands.{IsNew, bench_of, settings_in};
+ghost use Rattle.vsm_model.specs.declared.limits.Settings.{Settings as SettingsIn};
+ghost use Rattle.script_steps.specs.Output.{Marked};
+ghost use Rattle.script_steps.specs.Script.{NoFeed};
+ghost use Rattle.script_steps.specs.Steps.{StepsOver};
+ghost use Rattle.script_steps.specs.Taken.{Took};
+ghost use Rattle.text_output.specs.Writing.{AppendsFront, Holds, Puts};
+ghost use Rattle.explain_report.specs.Lines.{some_line};
+ghost use Rattle.explain_report.specs.Reports.{HasLine, IsReached, IsRest, IsRestAt, IsRestOf, Reaches, ReachesLine};
+ghost use Rattle.explain_report.specs.Reports.{ReachesLines, ReachesStep, Reports, StaysTo, WritesReport};
+ghost use Rattle.explain_report.specs.Reports.{ends_by, lacks_answer, silence};
+ghost use Rattle.explain_report.specs.Said.{said_by, said_with};
+ghost use Rattle.explain_report.specs.Texts.{said_text};
+ghost use Rattle.macro_reader.specs.Roles.{IsStand};
+ghost use Rattle.macro_reader.specs.Scripts.{Mode};
+ghost use Rattle.explain_report.specs.declared.faults.ReportFault.TheVariants as fault;
 
 use crate::faults::ReportFault;
-use crate::tables::{put_figures, put_heading, put_table};
-use crate::times::{Figures, SeenSubpool, figures_of, moment_of, seen_in};
+use crate::tables::put_table;
+use crate::times::moment_of;
+use arrayvec::ArrayVec;
 use bench_core::Bench;
 use script_steps::{
-    Ending, NumberedResponse, ReaderState, Response, Session, Watch, before_feed, put_response,
+    Ending, NumberedResponse, ReaderState, Session, Step, TooLong, Watch, put_response,
 };
 use std::alloc::Global;
 use std::io::Write;
-use storage_core::Storage;
 use text_output::{Gathered, put_decimal};
-use vsm_model::{Reply, Settings};
+use vsm_model::Settings;
 
-/// A bench of its own for the script.
-fn new_session(alloc: Global, settings: Settings) -> Result<Session, ReportFault> {
-    match Bench::new(alloc, settings) {
-        Ok(bench) => Ok(Session::new(bench)),
-        Err(fault) => Err(ReportFault::New(fault)),
+/// What the last answer so far was, with its number, and the bytes that it shows.
+#[derive(Drop)]
+struct LastAnswer {
+    told: NumberedResponse,
+    shown: ArrayVec<u8, 256>,
+}
+
+impl LastAnswer {
+    /// No answer so far.
+    fn new() -> LastAnswer
+        ensures { said_by result ≡ said_text [] None }
+    {
+        LastAnswer {
+            told: None,
+            shown: ArrayVec::new(),
+        }
+    }
+
+    /// Notes an answer, if there is one, where these bytes are shown.
+    fn note(&mut self, told: &NumberedResponse, shown: &ArrayVec<u8, 256>)
+        ensures { said_by self.new ≡ said_with told.now shown.now.items (said_by self.old) }
+    {
+        if let Some(answer) = told {
+            self.told = Some(*answer);
+            self.shown.clear();
+            self.shown.try_extend_from_slice(shown.as_slice()).unwrap();
+        }
     }
 }
 
-/// Why there is no report behind a line that isn't answered, by where the reader stood before it.
-fn unanswered(before: ReaderState) -> ReportFault {
+/// Whether so many lines were taken, and no statement is open.
+fn ends_by(session: &Session, line: u32) -> bool
+    ensures { result ≡ ends_by line session.now }
+{
+    match session.stand() {
+        ReaderState::Gathering => false,
+        ReaderState::Awaiting | ReaderState::Dropping => session.lines() >= line,
+    }
+}
+
+/// Why there is no report after a line that isn't answered, by where the reader stood before it.
+fn unanswered(before: ReaderState) -> ReportFault
+    ensures { (mode : Mode) → IsStand mode before → result ≡ silence mode }
+{
     match before {
         ReaderState::Dropping => ReportFault::Dropped,
-        _ => ReportFault::Aside,
+        ReaderState::Awaiting | ReaderState::Gathering => ReportFault::Aside,
     }
 }
 
-/// Takes the lines of a script up to a line, and on to the end of its statement, with the last answer in a room. Where
-/// the script ends before, it gives the place behind the last line feed.
+/// Takes the line that begins at a place of the script, as `Session::take_line` does, and notes its answer.
+fn take_step(
+    session: &mut Session,
+    script: &[u8],
+    at: usize,
+    last: &mut LastAnswer,
+) -> Result<Option<Step>, TooLong>
+    requires { at ≤ length script.now }
+    ensures reaches { (settings : SettingsIn) (answers : List Marked)
+        → IsReached settings (take at script.now) session.old last.old answers
+        → ReachesStep settings script.now at answers session.new last.new result }
+    ensures place { StepsOver script.now at result }
+{
+    match session.take_line(script, at) {
+        Ok(Some(step)) => {
+            last.note(&step.told, session.shown_room());
+            Ok(Some(step))
+        }
+        Ok(None) => Ok(None),
+        Err(fault) => Err(fault),
+    }
+}
+
+/// Takes all lines that have a line feed, and gives the place after the last.
+fn take_all<P: Watch>(
+    session: &mut Session,
+    script: &[u8],
+    last: &mut LastAnswer,
+    watch: &mut P,
+) -> Result<usize, TooLong>
+    ensures reaches { (settings : SettingsIn) → Reaches settings [] session.old last.old
+        → ReachesLines settings script.now session.new last.new result }
+    ensures rest { IsRest script.now result }
+{
+    let mut at = 0;
+    while at < script.len() {
+        match take_step(session, script, at, last) {
+            Err(fault) => return Err(fault),
+            Ok(None) => return Ok(at),
+            Ok(Some(step)) => at = step.next,
+        }
+        watch.line(session.lines());
+    }
+    Ok(at)
+}
+
+/// Takes lines up to a line, and on to the end of its statement. If the script ends before, it gives the place after
+/// the last line feed.
 fn take_to<P: Watch>(
     session: &mut Session,
     script: &[u8],
     line: u32,
-    last: &mut NumberedResponse,
+    last: &mut LastAnswer,
     watch: &mut P,
-) -> Result<Option<usize>, ReportFault> {
+) -> Result<Option<usize>, ReportFault>
+    requires { 0 < line }
+    ensures reaches { (settings : SettingsIn) → Reaches settings [] session.old last.old
+        → ReachesLine settings script.now line session.new last.new result }
+    ensures rest { IsRestOf script.now result }
+{
     let mut at = 0;
-    'lines: while at < script.len() {
+    while at < script.len() {
         let before = session.stand();
-        let step = match session.take_line(script, at) {
-            Ok(Some(step)) => step,
-            Ok(None) => return Ok(Some(at)),
+        match take_step(session, script, at, last) {
             Err(_) => return Err(ReportFault::TooLong),
-        };
+            Ok(None) => return Ok(Some(at)),
+            Ok(Some(step)) => {
+                at = step.next;
+                if ends_by(session, line) {
+                    return if step.told.is_some() {
+                        Ok(None)
+                    } else {
+                        Err(unanswered(before))
+                    };
+                }
+            }
+        }
         watch.line(session.lines());
-        at = step.next;
-        let answered = step.told.is_some();
-        if answered {
-            *last = step.told;
-        }
-        if session.lines() >= line && session.stand() != ReaderState::Gathering {
-            return if answered {
-                Ok(None)
-            } else {
-                Err(unanswered(before))
-            };
-        }
     }
     Ok(Some(at))
 }
 
-/// Takes what stands behind the last line feed, which begins at a place. Gives how many lines the script has.
-fn take_rest(session: &mut Session, script: &[u8], at: usize) -> Result<u32, ReportFault> {
-    let rest = &script[at.min(script.len())..];
-    let size = before_feed(rest);
-    match session.take_bytes(&rest[..size]) {
-        Ok(()) => Ok(session.lines().saturating_add(u32::from(size > 0))),
-        Err(_) => Err(ReportFault::TooLong),
-    }
+/// What stands in a script from a place on.
+pub(crate) fn rest_from(script: &[u8], at: usize) -> &[u8]
+    requires { at ≤ length script.now }
+    ensures { result.now ≡ drop at script.now }
+{
+    &script[at..]
+}
+
+/// How many lines a script has, of which a session took all, and these bytes after the last line feed.
+fn lines_with(session: &Session, rest: &[u8]) -> u32
+    ensures { result ≡ session.now.lines + some_line rest.now }
+{
+    session.lines() + u32::from(!rest.is_empty())
 }
 
 /// Writes the end of a text, and says why it's the end.
-fn end_text<W: Write>(
+pub(crate) fn end_text<W: Write>(
     gathered: Gathered,
     out: &mut W,
     outcome: Result<(), ReportFault>,
-) -> Result<(), ReportFault> {
+) -> Result<(), ReportFault>
+    ensures { (first : Option (List ℕ)) (text : List ℕ) → Holds first (W.contents out.old) gathered text
+        → ((result ≡ outcome) × Appends first (W.contents out.new) text)
+        ⊎ ((result ≡ Err fault.Write) × AppendsFront first (W.contents out.new) text) }
+{
     match gathered.finish(out) {
         Ok(()) => outcome,
         Err(_) => Err(ReportFault::Write),
     }
 }
 
-/// Puts the first line of a report: which statement it stands behind, and what that was answered, where these bytes are
+/// Puts the first line of a report: which statement it follows, and what that was answered, where these bytes are
 /// shown.
-fn put_first<W: Write>(
+fn put_said<W: Write>(
     gathered: &mut Gathered,
     writer: &mut W,
     shown: &[u8],
     told: &NumberedResponse,
-) {
+)
+    ensures { Puts (W.contents writer.old) (W.contents writer.new) gathered.old gathered.new
+        (said_text shown.now told.now) }
+{
     match told {
         Some((line, response)) => {
             gathered.put(writer, b"line ");
@@ -107,83 +218,126 @@ fn put_first<W: Write>(
     }
 }
 
-/// Writes the report of a bench behind a statement, where these bytes are shown.
-fn write_report<W: Write>(
-    bench: &Bench,
-    shown: &[u8],
-    told: &NumberedResponse,
-    out: &mut W,
-) -> Result<(), ReportFault> {
+/// Writes the report of a bench after an answer.
+fn write_report<W: Write>(bench: &Bench, last: &LastAnswer, out: &mut W) -> Result<(), ReportFault>
+    ensures { WritesReport (settings_in bench.now) (bench_of bench.now).present.storage (said_by last.now)
+        (W.contents out.old) (W.contents out.new) result }
+{
     let mut gathered = Gathered::new();
-    let moment = moment_of(bench.storage());
-    put_first(&mut gathered, out, shown, told);
-    put_table(&mut gathered, out, bench.storage(), &moment);
+    let storage = bench.storage();
+    let moment = moment_of(storage);
+    put_said(&mut gathered, out, last.shown.as_slice(), &last.told);
+    put_table(&mut gathered, out, storage, &moment);
     end_text(gathered, out, Ok(()))
 }
 
-/// Reports what the end of a script left, before which its reader stood so: behind the answer that the end brought, or
-/// behind the last before it where no line is said.
+/// Whether a line is asked for, and the end of the script brought no answer.
+fn lacks_answer(line: Option<u32>, ending: &Ending) -> bool
+    ensures { result ≡ lacks_answer line ending.now.last ending.now.open_statement }
+{
+    line.is_some() && ending.last.is_none() && ending.open_statement.is_none()
+}
+
+/// Reports what the end of a script left, after the last answer. If a line is asked for, the end has to bring one.
 fn report_end<W: Write>(
-    ending: &Ending,
-    before: ReaderState,
-    has_line: bool,
-    last: &NumberedResponse,
-    out: &mut W,
-) -> Result<(), ReportFault> {
-    let told = if ending.open_statement.is_some() {
-        &ending.open_statement
-    } else if ending.last.is_some() {
-        &ending.last
-    } else if has_line {
-        return Err(unanswered(before));
-    } else {
-        last
-    };
-    write_report(&ending.bench, ending.shown.as_slice(), told, out)
-}
-
-/// Takes a script up to the end of the statement of a line, or all of it, with the last answer in a room. Gives whether
-/// all of it was taken.
-fn take_script<P: Watch>(
-    session: &mut Session,
-    script: &[u8],
+    session: Session,
     line: Option<u32>,
-    last: &mut NumberedResponse,
-    watch: &mut P,
-) -> Result<bool, ReportFault> {
-    if line == Some(0) {
-        return Err(ReportFault::NoLine(0));
+    last: LastAnswer,
+    out: &mut W,
+) -> Result<(), ReportFault>
+    ensures { (settings : SettingsIn) (script : List ℕ) → Reaches settings script session last
+        → HasLine settings script line
+        → Reports settings script line (W.contents out.old) (W.contents out.new) result }
+{
+    let before = session.stand();
+    let ending = session.end();
+    if lacks_answer(line, &ending) {
+        drop(ending);
+        return Err(unanswered(before));
     }
-    let Some(at) = take_to(session, script, line.unwrap_or(u32::MAX), last, watch)? else {
-        return Ok(false);
-    };
-    let lines = take_rest(session, script, at)?;
-    if line.unwrap_or(0) > lines {
-        return Err(ReportFault::NoLine(lines));
-    }
-    Ok(true)
+    let mut last = last;
+    last.note(&ending.last, &ending.shown);
+    last.note(&ending.open_statement, &ending.shown);
+    let outcome = write_report(&ending.bench, &last, out);
+    drop(ending);
+    outcome
 }
 
-/// Reports on a session over no bytes yet, which it lets go, with the last answer in a room.
-fn report_on<W: Write, P: Watch>(
+/// Takes what follows the last line feed, and reports what the end of the script left.
+fn report_rest<W: Write>(
     session: Session,
     script: &[u8],
+    at: usize,
     line: Option<u32>,
-    last: &mut NumberedResponse,
+    last: LastAnswer,
+    out: &mut W,
+) -> Result<(), ReportFault>
+    requires { IsRestAt script.now at }
+    ensures { (settings : SettingsIn) → Reaches settings (take at script.now) session last
+        → StaysTo settings script.now line session
+        → Reports settings script.now line (W.contents out.old) (W.contents out.new) result }
+{
+    let mut session = session;
+    let rest = rest_from(script, at);
+    match session.take_bytes(rest) {
+        Err(_) => {
+            drop(session);
+            Err(ReportFault::TooLong)
+        }
+        Ok(()) => {
+            let lines = lines_with(&session, rest);
+            if line.unwrap_or(0) > lines {
+                drop(session);
+                Err(ReportFault::NoLine(lines))
+            } else {
+                report_end(session, line, last, out)
+            }
+        }
+    }
+}
+
+/// Reports on a whole script, on a new bench.
+fn report_all<W: Write, P: Watch>(
+    bench: Bench,
+    script: &[u8],
     out: &mut W,
     watch: &mut P,
-) -> Result<(), ReportFault> {
-    let mut session = session;
-    match take_script(&mut session, script, line, last, watch) {
-        Ok(true) => {
-            let before = session.stand();
-            let ending = session.end();
-            let outcome = report_end(&ending, before, line.is_some(), last, out);
-            drop(ending);
-            outcome
+) -> Result<(), ReportFault>
+    ensures { (settings : SettingsIn) → IsNew settings (Ok bench)
+        → Reports settings script.now None (W.contents out.old) (W.contents out.new) result }
+{
+    let mut session = Session::new(bench);
+    let mut last = LastAnswer::new();
+    match take_all(&mut session, script, &mut last, watch) {
+        Ok(at) => report_rest(session, script, at, None, last, out),
+        Err(_) => {
+            drop(session);
+            Err(ReportFault::TooLong)
         }
-        Ok(false) => {
-            let outcome = write_report(session.bench(), session.shown(), last, out);
+    }
+}
+
+/// Reports after the statement of a line, on a new bench.
+fn report_at<W: Write, P: Watch>(
+    bench: Bench,
+    script: &[u8],
+    line: u32,
+    out: &mut W,
+    watch: &mut P,
+) -> Result<(), ReportFault>
+    ensures { (settings : SettingsIn) → IsNew settings (Ok bench)
+        → Reports settings script.now (Some line) (W.contents out.old) (W.contents out.new) result }
+{
+    let mut session = Session::new(bench);
+    if line == 0 {
+        drop(session);
+        return Err(ReportFault::NoLine(0));
+    }
+    let mut last = LastAnswer::new();
+    match take_to(&mut session, script, line, &mut last, watch) {
+        Ok(Some(at)) => report_rest(session, script, at, Some(line), last, out),
+        Ok(None) => {
+            let outcome = write_report(session.bench(), &last, out);
             drop(session);
             outcome
         }
@@ -194,8 +348,8 @@ fn report_on<W: Write, P: Watch>(
     }
 }
 
-/// Writes what each subpool of a script's storage has, and what is unassigned, behind the statement of a line: the
-/// last statement where no line is said.
+/// Writes what each subpool of a script's storage has, and what is unassigned, after the statement of a line: the last
+/// statement if no line is said.
 pub fn report<W: Write, P: Watch>(
     alloc: Global,
     script: &[u8],
@@ -203,133 +357,14 @@ pub fn report<W: Write, P: Watch>(
     line: Option<u32>,
     out: &mut W,
     watch: &mut P,
-) -> Result<(), ReportFault> {
-    let session = new_session(alloc, settings)?;
-    let mut last = None;
-    report_on(session, script, line, &mut last, out, watch)
-}
-
-/// Whether what was answered may have changed pages or free storage: each accepted statement but a POKE, and each step.
-fn may_change(response: &Response) -> bool
-    ensures { result ≡ may_change response.now }
+) -> Result<(), ReportFault>
+    ensures told { Reports settings script.now line (W.contents out.old) (W.contents out.new) result }
 {
-    match response {
-        Response::Replied(Reply::Stored) => false,
-        Response::Replied(_) | Response::Kept(_) => true,
-        Response::Refused(_)
-        | Response::TooFar(_)
-        | Response::TooFarAhead(_)
-        | Response::Shown
-        | Response::Map
-        | Response::Fault(_) => false,
+    match Bench::new(alloc, settings) {
+        Err(fault) => Err(ReportFault::New(fault)),
+        Ok(bench) => match line {
+            None => report_all(bench, script, out, watch),
+            Some(line) => report_at(bench, script, line, out, watch),
+        },
     }
-}
-
-/// The figures of a storage after an answer: those before it, if it changed nothing.
-fn figures_after(storage: &Storage, before: Figures, response: &Response) -> Figures
-    ensures { IsAsBefore storage.now before response.now result }
-{
-    if may_change(response) {
-        figures_of(storage, seen_in(&before))
-    } else {
-        before
-    }
-}
-
-/// Puts the row of an answer, if there is one, and gives its figures.
-fn put_answer<W: Write>(
-    gathered: &mut Gathered,
-    out: &mut W,
-    bench: &Bench,
-    before: Figures,
-    told: &NumberedResponse,
-) -> Figures {
-    let Some((line, response)) = told else {
-        return before;
-    };
-    let figures = figures_after(bench.storage(), before, response);
-    put_figures(gathered, out, *line, &figures);
-    figures
-}
-
-/// Puts the rows of what a script's end brings.
-fn put_end<W: Write>(gathered: &mut Gathered, out: &mut W, before: Figures, ending: &Ending) {
-    let figures = put_answer(gathered, out, &ending.bench, before, &ending.last);
-    let _ = put_answer(
-        gathered,
-        out,
-        &ending.bench,
-        figures,
-        &ending.open_statement,
-    );
-}
-
-/// Takes a script and puts the rows of its lines, by the figures before the first. Gives those after the last row.
-fn put_lines<W: Write, P: Watch>(
-    session: &mut Session,
-    script: &[u8],
-    first: Figures,
-    gathered: &mut Gathered,
-    out: &mut W,
-    watch: &mut P,
-) -> Result<Figures, ReportFault> {
-    let mut figures = first;
-    let mut at = 0;
-    'lines: while at < script.len() {
-        let step = match session.take_line(script, at) {
-            Ok(Some(step)) => step,
-            Ok(None) => break 'lines,
-            Err(_) => return Err(ReportFault::TooLong),
-        };
-        watch.line(session.lines());
-        at = step.next;
-        figures = put_answer(gathered, out, session.bench(), figures, &step.told);
-    }
-    let _ = take_rest(session, script, at)?;
-    Ok(figures)
-}
-
-/// Puts the rows of a script, of the whole storage or of this subpool.
-fn put_rows<W: Write, P: Watch>(
-    session: Session,
-    script: &[u8],
-    seen: Option<SeenSubpool>,
-    gathered: &mut Gathered,
-    out: &mut W,
-    watch: &mut P,
-) -> Result<(), ReportFault> {
-    let mut session = session;
-    let first = figures_of(session.bench().storage(), seen);
-    match put_lines(&mut session, script, first, gathered, out, watch) {
-        Ok(figures) => {
-            let ending = session.end();
-            put_end(gathered, out, figures, &ending);
-            drop(ending);
-            Ok(())
-        }
-        Err(fault) => {
-            drop(session);
-            Err(fault)
-        }
-    }
-}
-
-/// Writes a row for each answer of a script, as values with commas between, the first of which is the line of the
-/// statement; the first row names them. Of the whole storage: on each side of the 16 MB line the assigned pages, the
-/// unassigned ones, the runs of these and the longest; the bytes that are taken and free, and the free areas. Or, of
-/// the subpool that a task sees at a number, on each side of the line: its pages, the bytes that are taken and free in
-/// them, its free areas, and the bytes of the largest; zeros where the task sees none.
-pub fn over_time<W: Write, P: Watch>(
-    alloc: Global,
-    script: &[u8],
-    settings: Settings,
-    seen: Option<SeenSubpool>,
-    out: &mut W,
-    watch: &mut P,
-) -> Result<(), ReportFault> {
-    let session = new_session(alloc, settings)?;
-    let mut gathered = Gathered::new();
-    put_heading(&mut gathered, out, seen.is_some());
-    let outcome = put_rows(session, script, seen, &mut gathered, out, watch);
-    end_text(gathered, out, outcome)
 }

@@ -1,9 +1,10 @@
 //! Runs of pages or of doublewords in short, on both sides of the 16 MB line.
-ghost use Rattle.std.specs.Prelude.{◌≡◌, ◌+◌, ◌<◌, ◌^◌};
-ghost use Rattle.explain_report.specs.Tallies.{no_runs, with_run, low_runs, high_runs, with_runs};
-ghost use Rattle.std.specs.Prelude.{[], ◌∷◌};
+ghost use Rattle.std.specs.Prelude.{◌≡◌, ℕ, ◌+◌, ◌<◌, ◌^◌, List};
+ghost use Rattle.run_set.specs.Runs.{Run};
+ghost use Rattle.run_set.specs.Sums.{IsSumsOf, IsSidesOf};
+ghost use Rattle.explain_report.specs.Tallies.{low_runs, high_runs, tally_of, with_tally};
 
-use storage_core::Run;
+use storage_core::{SideSums, Sums};
 
 /// How many numbers and how many runs there are, and the longest of these runs with its first number: the first of
 /// those that are as long.
@@ -31,18 +32,30 @@ impl Tally {
         at: 0,
     };
 
-    /// The runs with one more behind them.
-    pub(crate) fn with_run(self, run: Run) -> Tally
-        requires total { self.total + run.len < 2 ^ 32 }
-        requires count { self.count + 1 < 2 ^ 32 }
-        ensures { result ≡ with_run self run }
+    /// The tally of the runs that come to this.
+    fn from_sums(sums: Sums) -> Tally
+        ensures { (rs : List Run) → IsSumsOf rs sums → result ≡ tally_of rs }
     {
         Tally {
-            total: self.total + run.len,
-            count: self.count + 1,
-            longest: self.longest.max(run.len),
-            at: if self.longest < run.len {
-                run.start
+            total: sums.total,
+            count: sums.count,
+            longest: sums.longest,
+            at: sums.at,
+        }
+    }
+
+    /// The runs with those of another tally behind them.
+    pub(crate) fn joined(self, behind: Tally) -> Tally
+        requires total { self.total + behind.total < 2 ^ 32 }
+        requires count { self.count + behind.count < 2 ^ 32 }
+        ensures { result ≡ with_tally self behind }
+    {
+        Tally {
+            total: self.total + behind.total,
+            count: self.count + behind.count,
+            longest: self.longest.max(behind.longest),
+            at: if self.longest < behind.longest {
+                behind.at
             } else {
                 self.at
             },
@@ -51,31 +64,15 @@ impl Tally {
 }
 
 impl SideTallies {
-    /// No runs on either side.
-    pub(crate) const NONE: SideTallies = SideTallies {
-        low: Tally::NONE,
-        high: Tally::NONE,
-    };
-
-    /// The runs with one more behind them, on the side of the line that it begins on.
-    pub(crate) fn with_run(self, line: u32, run: Run) -> SideTallies
-        requires total { self.low.total + self.high.total + run.len < 2 ^ 32 }
-        requires count { self.low.count + self.high.count + 1 < 2 ^ 32 }
-        ensures low { result.low ≡ with_runs self.low (low_runs line (run ∷ [])) }
-        ensures high { result.high ≡ with_runs self.high (high_runs line (run ∷ [])) }
-        ensures total { result.low.total + result.high.total ≡ self.low.total + self.high.total + run.len }
-        ensures count { result.low.count + result.high.count ≡ self.low.count + self.high.count + 1 }
+    /// The tallies of the runs that come to this.
+    pub(crate) fn from_sums(sums: SideSums) -> SideTallies
+        ensures low { (line : ℕ) (rs : List Run) → IsSidesOf line rs sums → result.low ≡ tally_of (low_runs line rs) }
+        ensures high { (line : ℕ) (rs : List Run) → IsSidesOf line rs sums
+            → result.high ≡ tally_of (high_runs line rs) }
     {
-        if run.start < line {
-            SideTallies {
-                low: self.low.with_run(run),
-                high: self.high,
-            }
-        } else {
-            SideTallies {
-                low: self.low,
-                high: self.high.with_run(run),
-            }
+        SideTallies {
+            low: Tally::from_sums(sums.low),
+            high: Tally::from_sums(sums.high),
         }
     }
 }

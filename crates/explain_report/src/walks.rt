@@ -1,4 +1,4 @@
-//! The runs of a storage, walked over once.
+//! What the runs of a storage come to: each subpool costs the same, however many runs it has.
 ghost use Rattle.std.specs.Prelude.{◌≡◌, ◌+◌, ◌^◌, ◌<◌, length, flat_map};
 ghost use Rattle.subpool_storage.specs.Extents.{extents, free_areas};
 ghost use Rattle.subpool_storage.specs.Order.{subpools_in_order};
@@ -10,7 +10,6 @@ ghost use Rattle.explain_report.specs.Tallies.{tally_of, with_runs, low_runs, hi
 use crate::tallies::{SideTallies, Tally};
 use storage_changes::maps::totals_are_sums;
 use storage_core::{Storage, Subpool, SubpoolPlace};
-use vsm_model::geometry::{LINE_DOUBLEWORD, LINE_PAGE};
 
 /// The extents of a subpool, in pages.
 pub(crate) fn extents_of(storage: &Storage, subpool: Subpool) -> SideTallies
@@ -19,13 +18,7 @@ pub(crate) fn extents_of(storage: &Storage, subpool: Subpool) -> SideTallies
     ensures high { result.high ≡ tally_of (high_runs 4096
         (extents (state_in_place storage.now).subpools subpool)) }
 {
-    let mut sides = SideTallies::NONE;
-    let mut place = storage.first_extent(subpool);
-    while let Some((run, behind)) = storage.next_extent(place) {
-        sides = sides.with_run(LINE_PAGE, run);
-        place = behind;
-    }
-    sides
+    SideTallies::from_sums(storage.extent_sums(storage.first_extent(subpool)))
 }
 
 /// The free areas of a subpool, in doublewords.
@@ -35,13 +28,7 @@ pub(crate) fn free_areas_of(storage: &Storage, subpool: Subpool) -> SideTallies
     ensures high { result.high ≡ tally_of (high_runs 2097152
         (free_areas (state_in_place storage.now).subpools subpool)) }
 {
-    let mut sides = SideTallies::NONE;
-    let mut place = storage.first_free_area(subpool);
-    while let Some((area, behind)) = storage.next_free_area(place) {
-        sides = sides.with_run(LINE_DOUBLEWORD, area);
-        place = behind;
-    }
-    sides
+    SideTallies::from_sums(storage.free_area_sums(storage.first_free_area(subpool)))
 }
 
 /// The runs of unassigned pages.
@@ -49,13 +36,7 @@ pub fn unassigned(storage: &Storage) -> SideTallies
     ensures low { result.low ≡ tally_of (low_runs 4096 (unassigned_runs (state_in_place storage.now))) }
     ensures high { result.high ≡ tally_of (high_runs 4096 (unassigned_runs (state_in_place storage.now))) }
 {
-    let mut sides = SideTallies::NONE;
-    let mut place = Storage::first_unassigned();
-    while let Some((run, behind)) = storage.next_unassigned(place) {
-        sides = sides.with_run(LINE_PAGE, run);
-        place = behind;
-    }
-    sides
+    SideTallies::from_sums(storage.unassigned_sums())
 }
 
 /// The runs with the free areas of the subpool before the place behind them.
@@ -68,13 +49,10 @@ fn with_free_areas(storage: &Storage, subpool_place: SubpoolPlace, before: Tally
     ensures { result ≡ with_runs before
         (free_areas (state_in_place storage.now).subpools (subpool_before storage.now subpool_place)) }
 {
-    let mut tally = before;
-    let mut place = storage.first_free_area_at(subpool_place);
-    while let Some((area, behind)) = storage.next_free_area(place) {
-        tally = tally.with_run(area);
-        place = behind;
-    }
-    tally
+    let sides = SideTallies::from_sums(storage.free_area_sums(storage.first_free_area_at(
+        subpool_place,
+    )));
+    before.joined(sides.low).joined(sides.high)
 }
 
 /// The free areas of all subpools, in doublewords: by the subpool's number and owner, and then ascending.

@@ -154,6 +154,7 @@ pub end_followed : (settings : Settings) (asked : Option AskedOf) (answers : Lis
     w ≡ with_told (reading (settings_in e.bench) asked (bench_of e.bench).present) kept e.open_statement u →
     Marked_by settings (reading settings asked) (lined settings (reading settings asked) answers) t →
     (all : List Marked) × Ended settings whole all × Marked_by settings (reading settings asked) (lined settings (reading settings asked) all) w
+    × (kept ≡ (lined settings (reading settings asked) all).kept)
 end_followed settings asked answers before kept s e given whole t u w took is brings under noted is_kept noted_too f =
     let read = reading settings asked in
     let c = bench_of e.bench in
@@ -166,6 +167,8 @@ end_followed settings asked answers before kept s e given whole t u w took is br
       brings.ended,
       subst (Marked_by settings read (lined settings read ((answers ++ brings.more) ++ brings.also))) (sym seen_too)
           (follow_more settings read (answers ++ brings.more) brings.also e.open_statement c c kept u brings.led brings.led_on brings.unended is_kept last),
+      is_kept ∙ (stands_for settings ((answers ++ brings.more) ++ brings.also) c brings.led_on).kept
+          ∙ sym (ap (λ (s : Standing Act Reply). s.kept) (lines_are_of_statements settings ((answers ++ brings.more) ++ brings.also))),
     )
 
 -- What was found is what is stated of the script.

@@ -4,3 +4,7 @@ pub mod Followed
 pub mod Tasks
 pub mod Walked
 pub mod Whole
+pub mod Places
+pub mod Backwards
+pub mod Shown
+pub mod Told

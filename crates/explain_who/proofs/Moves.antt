@@ -1,8 +1,8 @@
 -- The marks of statements follow what stands.
-use Rattle.std.proofs.Common.{◌≡◌, ℕ, zero, suc, ◌+◌, ◌-◌, ◌≤◌, min, List, [], ◌∷◌, ◌++◌, length, map, reverse, take, append_assoc, refl, sym, ap, ◌∙◌, arith}
+use Rattle.std.proofs.Common.{◌≡◌, ℕ, zero, suc, ◌+◌, ◌-◌, ◌≤◌, min, List, [], ◌∷◌, ◌++◌, length, map, reverse, take, drop, append_assoc, refl, sym, ap, ◌∙◌, arith}
 use Rattle.std.proofs.lemmas.Grind.{reverse_onto}
 use Rattle.std.proofs.lemmas.List.{length-reverse, length-append, length-map, map-append}
-use Rattle.std.proofs.Math.Seq.{take-append_seam}
+use Rattle.std.proofs.Math.Seq.{take-append_seam, drop-append_seam}
 use Rattle.vsm_model.specs.Standing.{Outcome, Stood, Standing, undo, redo, alone}
 use Rattle.explain_who.specs.declared.trail.TrailEntry.{TrailEntry}
 use Rattle.explain_who.specs.Trails.{Marks, with_mark, stepped, seen_along, in_turn, Follows, nothing_marked}
@@ -52,7 +52,7 @@ module _ {X R : Type 0} where
 
 module _ {S X R C V : Type 0} (first : S) (step : S → X → Outcome S R C) (read : S → V) where
   -- the statements behind those of another list, the newest first
-  abbrev onto : List X → List (ℕ × X) → List X
+  abbrev pub onto : List X → List (ℕ × X) → List X
   onto older [] = older
   onto older (x ∷ xs) = onto (x.1 ∷ older) xs
 
@@ -66,7 +66,7 @@ module _ {S X R C V : Type 0} (first : S) (step : S → X → Outcome S R C) (re
   seen_both older (x ∷ xs) ys =
       ap (λ zs. record { line = x.0; seen = read (alone first step (x.1 ∷ older)) } ∷ zs) (seen_both (x.1 ∷ older) xs ys)
 
-  seen_count : (older : List X) (xs : List (ℕ × X)) → length (seen_along first step read older xs) ≡ length xs
+  pub seen_count : (older : List X) (xs : List (ℕ × X)) → length (seen_along first step read older xs) ≡ length xs
   seen_count older [] = refl
   seen_count older (x ∷ xs) = ap suc (seen_count (x.1 ∷ older) xs)
 
@@ -124,6 +124,23 @@ module _ {S X R C V : Type 0} (first : S) (step : S → X → Outcome S R C) (re
       let split : t.entries ≡ before ++ seen_along first step read (onto [] old) (map (λ y. y.statement) l.undone) =
       f.entries ∙ ap (seen_along first step read []) (map-append (λ y. y.statement) (reverse l.stood) l.undone) ∙ seen_both [] old (map (λ y. y.statement) l.undone) in
       (λ i. take (sym count i) (split i)) ∙ take-append_seam before (seen_along first step read (onto [] old) (map (λ y. y.statement) l.undone))
+
+  -- and those of the statements that are undone
+  pub undone_marks : (l : Standing (ℕ × X) R) (t : Marks V) → Follows first step read l t →
+      drop t.standing t.entries ≡ seen_along first step read (onto [] (map (λ y. y.statement) (reverse l.stood))) (map (λ y. y.statement) l.undone)
+  undone_marks l t f =
+      let old : List (ℕ × X) = map (λ y. y.statement) (reverse l.stood) in
+      let before : List (TrailEntry V) = seen_along first step read [] old in
+      let after : List (TrailEntry V) = seen_along first step read (onto [] old) (map (λ y. y.statement) l.undone) in
+      let count : length before ≡ t.standing = seen_count [] old ∙ length-map (reverse l.stood) (λ y. y.statement) ∙ length-reverse l.stood ∙ sym f.standing in
+      let split : t.entries ≡ before ++ after =
+      f.entries ∙ ap (seen_along first step read []) (map-append (λ y. y.statement) (reverse l.stood) l.undone) ∙ seen_both [] old (map (λ y. y.statement) l.undone) in
+      (λ i. drop (sym count i) (split i)) ∙ drop-append_seam before after
+
+  -- the lines of marks
+  pub seen_lines : (older : List X) (xs : List (ℕ × X)) → map (λ e. e.line) (seen_along first step read older xs) ≡ map (λ x. x.0) xs
+  seen_lines older [] = refl
+  seen_lines older (x ∷ xs) = ap (λ ys. x.0 ∷ ys) (seen_lines (x.1 ∷ older) xs)
 
   pub applied_follows : (limit : ℕ) (l : Standing (ℕ × X) R) (t : Marks V) (line : ℕ) (x : X) (r : R) (seen : V) → Follows first step read l t →
       seen ≡ read (alone first step (x ∷ map (λ y. y.statement.1) l.stood)) →

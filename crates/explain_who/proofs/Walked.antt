@@ -1,12 +1,14 @@
--- Runs that are walked over: those so far in short, and what remains.
-use Rattle.std.proofs.Common.{◌≡◌, ℕ, zero, suc, ◌+◌, ◌-◌, ◌<◌, ◌≤◌, ◌==◌, Bool, true, false, if◌then◌else◌, List, [], ◌∷◌, length, map, flat_map, drop, Some, None, refl, sym, ap, ◌∙◌, arith, subst}
-use Rattle.std.specs.Prelude.{◌^◌, slice_get}
+-- What runs come to on both sides of a line, in short; and those of a subpool.
+use Rattle.std.proofs.Common.{◌≡◌, ℕ, zero, suc, ◌+◌, ◌<◌, ◌≤◌, ◌==◌, Bool, true, false, if◌then◌else◌, List, [], ◌∷◌, length, map, flat_map, refl, sym, ap, ◌∙◌, arith}
+use Rattle.std.specs.Prelude.{◌^◌}
 use Rattle.std.proofs.Props.{props}
-use Rattle.std.proofs.lemmas.List.{drop_all, length-map}
-use Rattle.std.proofs.lemmas.Option.{get_or_from_slice_get, slice_get_within}
-use Rattle.std.proofs.Math.Seq.{drop-cons}
+use Rattle.std.proofs.lemmas.List.{length-map}
 use mathlib.Core.Logic.{∥∥₁_elim}
 use Rattle.run_set.specs.Runs.{Run}
+use Rattle.run_set.specs.Sums.{IsSidesOf}
+use Rattle.run_set.specs.Sums as sums
+use Rattle.run_set.specs.declared.sums.SideSums.{SideSums}
+use Rattle.run_set.proofs.SumLemmas.{both_numbers, both_lengths}
 use Rattle.storage_changes.specs.MapLists.{pair_of, ExtentsAreShown, FreeAreasAreShown}
 use Rattle.storage_changes.proofs.MapSums.{total, runs_total, passing_few}
 use Rattle.storage_changes.specs.State.{StorageState}
@@ -21,67 +23,34 @@ use Rattle.vsm_model.specs.declared.limits.Settings.{Settings}
 use Rattle.vsm_model.specs.Map.{ascending_regions}
 use Rattle.vsm_model.specs.Regions.{settings_valid}
 use Rattle.explain_who.specs.declared.holdings.Runs.{Runs}
-use Rattle.explain_who.specs.Holdings.{numbers_in, in_short, with_run, holding_of}
-
--- the runs up to an index are in these
-pub record Walked (all : List Run) (i : ℕ) (so_far : Runs) : Type 0 where
-  pub total : so_far.total + numbers_in (map pair_of (drop i all)) ≡ numbers_in (map pair_of all)
-  pub count : so_far.count + length (drop i all) ≡ length all
-
-past_end : {A : Type 0} (xs : List A) (i : ℕ) → slice_get xs i ≡ None → length xs ≤ i
-past_end [] i e = omega arith
-past_end (x ∷ xs) zero e = cc
-past_end (x ∷ xs) (suc i) e = (let k = past_end xs i e in omega (arith, k))
-
--- the items from an index on begin with that one
-next_is : {A : Type 0} (xs : List A) (i j : ℕ) (x : A) → slice_get xs i ≡ Some x → j ≡ i + 1 → drop i xs ≡ x ∷ drop j xs
-next_is {A} xs i j x h e = let same : suc i ≡ j = omega (arith, e) in
-    drop-cons xs i x (slice_get_within xs i x h)
-    ∙ ap (λ (y : A). y ∷ drop (suc i) xs) (get_or_from_slice_get xs i x x h)
-    ∙ ap (λ (k : ℕ). x ∷ drop k xs) same
-
-pub fewer : (all : List Run) (i j : ℕ) (r : Run) → slice_get all i ≡ Some r → j ≡ i + 1 → length all - j < length all - i
-fewer all i j r h e = (let k = slice_get_within all i r h in omega (arith, k, e))
-
--- at first none was
-pub none_walked : (all : List Run) (i : ℕ) → i ≡ 0 → Walked all i (record { total = 0; count = 0 })
-none_walked all i e =
-    let P : ℕ → Type 0 = λ z. Walked all z (record { total = 0; count = 0 }) in
-    subst P (sym e) (record { total = omega arith; count = omega arith })
-
--- then one run after the other,
-pub one_walked : (all : List Run) (i j : ℕ) (r : Run) (old new : Runs) → Walked all i old → slice_get all i ≡ Some r → j ≡ i + 1 → new ≡ with_run old r.len →
-    Walked all j new
-one_walked all i j r old new h at e is =
-    let next : drop i all ≡ r ∷ drop j all = next_is all i j r at e in
-    let sum = ap (λ (xs : List Run). numbers_in (map pair_of xs)) next in
-    let size = ap (λ (xs : List Run). length xs) next in
-    let total = ap (λ (x : Runs). x.total) is in
-    let count = ap (λ (x : Runs). x.count) is in
-    record { total = omega (arith, sum, h.total, total); count = omega (arith, size, h.count, count) }
+use Rattle.explain_who.specs.Holdings.{numbers_in, in_short, holding_of}
 
 -- at most so many numbers in these runs, and so many runs
 abbrev pub AreFew : List Run → Type 0
 AreFew rs = (numbers_in (map pair_of rs) ≤ 2 ^ 29) × (length rs ≤ 2 ^ 29)
 
--- for each of which there is room,
-pub room : (all : List Run) (i : ℕ) (r : Run) (old : Runs) → AreFew all → Walked all i old → slice_get all i ≡ Some r →
-    (old.total + r.len < 2 ^ 32) × (old.count + 1 < 2 ^ 32)
-room all i r old few h at =
-    let next : drop i all ≡ r ∷ drop (i + 1) all = next_is all i (i + 1) r at refl in
-    let sum = ap (λ (xs : List Run). numbers_in (map pair_of xs)) next in
-    let size = ap (λ (xs : List Run). length xs) next in
-    (omega (arith, sum, h.total, few.0), omega (arith, size, h.count, few.1))
+-- ---- both sides of a line in short
 
--- and at the end all were.
-pub all_walked : (all : List Run) (i : ℕ) (so_far : Runs) → Walked all i so_far → slice_get all i ≡ None → so_far ≡ in_short (map pair_of all)
-all_walked all i so_far h end =
-    let none : drop i all ≡ [] = drop_all i all (past_end all i end) in
-    let sum = ap (λ (xs : List Run). numbers_in (map pair_of xs)) none in
-    let size = ap (λ (xs : List Run). length xs) none in
-    let total : so_far.total ≡ numbers_in (map pair_of all) = omega (arith, sum, h.total) in
-    let count : so_far.count ≡ length (map pair_of all) = omega (arith, size, h.count, length-map all pair_of) in
+numbers_are : (rs : List Run) → sums.numbers_in rs ≡ numbers_in (map pair_of rs)
+numbers_are [] = refl
+numbers_are (r ∷ rs) = ap (λ (n : ℕ). r.len + n) (numbers_are rs)
+
+both_numbers_in : (line : ℕ) (rs : List Run) (s : SideSums) → IsSidesOf line rs s → s.low.total + s.high.total ≡ numbers_in (map pair_of rs)
+both_numbers_in line rs s h = omega (arith, h.low.total, h.high.total, both_numbers line rs, numbers_are rs)
+
+both_counted : (line : ℕ) (rs : List Run) (s : SideSums) → IsSidesOf line rs s → s.low.count + s.high.count ≡ length rs
+both_counted line rs s h = omega (arith, h.low.count, h.high.count, both_lengths line rs)
+
+pub are_both : (line : ℕ) (rs : List Run) (s : SideSums) → IsSidesOf line rs s →
+    record { total = s.low.total + s.high.total; count = s.low.count + s.high.count } ≡ in_short (map pair_of rs)
+are_both line rs s h =
+    let total : s.low.total + s.high.total ≡ numbers_in (map pair_of rs) = both_numbers_in line rs s h in
+    let count : s.low.count + s.high.count ≡ length (map pair_of rs) = both_counted line rs s h ∙ sym (length-map rs pair_of) in
     λ i. record { total = total i; count = count i }
+
+-- and there is room for them, if they aren't too many
+pub room : (line : ℕ) (rs : List Run) (s : SideSums) → AreFew rs → IsSidesOf line rs s → (s.low.total + s.high.total < 2 ^ 32) × (s.low.count + s.high.count < 2 ^ 32)
+room line rs s few h = (omega (arith, both_numbers_in line rs s h, few.0), omega (arith, both_counted line rs s h, few.1))
 
 -- ---- there are not too many
 

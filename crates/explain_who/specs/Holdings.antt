@@ -16,9 +16,6 @@ numbers_in (r ∷ rs) = r.1 + numbers_in rs
 abbrev pub in_short : List (ℕ × ℕ) → Runs
 in_short rs = record { total = numbers_in rs; count = length rs }
 
-abbrev pub with_run : Runs → ℕ → Runs
-with_run runs length = record { total = runs.total + length; count = runs.count + 1 }
-
 -- its extents in both regions, in pages, and its free areas, in doublewords
 abbrev pub holding_of : Settings → State → Subpool → Holding
 holding_of settings s p =

@@ -5,4 +5,8 @@ pub mod Who
 pub mod Code
 pub mod Notes
 pub mod Lined
+pub mod ScriptLines
+pub mod Faults
 pub mod Traced
+pub mod Texts
+pub mod Told

@@ -1,7 +1,8 @@
 -- What is noted of an answer.
-use Rattle.std.specs.Prelude.{ℕ, ◌<◌, ◌≤◌, List, length, drop, Option, Some, None, Result, Ok, Err}
+use Rattle.std.specs.Prelude.{ℕ, List, drop, Option, Some, None, Result, Ok, Err}
 use Rattle.explain_who.specs.Trails.{Marks, with_mark, stepped}
 use Rattle.script_steps.specs.Script.{NoFeed}
+use Rattle.script_steps.specs.Steps.{IsLineOf}
 use Rattle.script_steps.specs.declared.responses.Response.{Response}
 use Rattle.script_steps.specs.declared.responses.Response.TheVariants as response
 use Rattle.explain_who.specs.declared.faults.WhoFault.{WhoFault}
@@ -20,8 +21,8 @@ with_told seen before (Some (line, response.Shown)) t = t
 with_told seen before (Some (line, response.Map)) t = t
 with_told seen before (Some (line, response.Fault kind)) t = t
 
--- The next line begins behind this one, in the script or at its end; or no line feed stands from there on.
+-- The next line begins after this one's line feed; or no line feed stands from there on.
 abbrev pub IsNextLine : List ℕ → ℕ → Result (Option ℕ) WhoFault → Type 0
-IsNextLine script at (Ok (Some next)) = (at < next) × (next ≤ length script)
+IsNextLine script at (Ok (Some next)) = IsLineOf script at next
 IsNextLine script at (Ok None) = NoFeed (drop at script)
 IsNextLine script at (Err fault) = Unit {0}

@@ -1,5 +1,5 @@
 -- A script that was followed to its end.
-use Rattle.std.specs.Prelude.{◌≡◌, ℕ, List, ◌++◌, take, Option, Some, None, Result, Ok, Err, OnOk}
+use Rattle.std.specs.Prelude.{◌≡◌, ℕ, List, [], ◌++◌, take, Option, Some, None, Result, Ok, Err}
 use Rattle.explain_who.specs.Trails as marks
 use Rattle.explain_who.specs.Trails.{marks_of}
 use Rattle.explain_who.specs.declared.trail.Trail.{Trail}
@@ -10,9 +10,11 @@ use Rattle.bench_core.specs.Machine.{statement_step}
 use Rattle.script_steps.specs.Output.{Marked}
 use Rattle.script_steps.specs.Taken.{Took, Ended}
 use Rattle.script_steps.specs.declared.session.Session.{Session}
+use Rattle.explain_who.specs.Faults.{FollowsNot}
 use Rattle.explain_who.specs.Lined.{lined_all, standing_differences}
 use Rattle.explain_who.specs.Notes.{IsNextLine}
 use Rattle.explain_who.specs.Readings.{reading}
+use Rattle.explain_who.specs.ScriptLines.{LinesBegin}
 use Rattle.explain_who.specs.Who.{Difference}
 use Rattle.explain_who.specs.declared.faults.WhoFault.{WhoFault}
 use Rattle.explain_who.specs.declared.readings.Subject.{Subject}
@@ -26,7 +28,7 @@ Follows settings asked answers trail =
     marks.Follows first_named_state (statement_step settings) (reading settings asked)
     (lined_all settings nothing_stands answers) (marks_of trail)
 
--- What a line brought is followed; or nothing was taken.
+-- What a line brought is followed; or nothing was taken; or it can't be followed.
 abbrev pub FollowsLine : Settings → Option Subject → List ℕ → ℕ → List Marked → Session → Trail Seen
     → Result (Option ℕ) WhoFault → Type 0
 FollowsLine settings asked script at answers s trail (Ok (Some next)) =
@@ -34,7 +36,7 @@ FollowsLine settings asked script at answers s trail (Ok (Some next)) =
     × Follows settings asked (answers ++ more) trail
 FollowsLine settings asked script at answers s trail (Ok None) =
     Took settings (take at script) answers s × Follows settings asked answers trail
-FollowsLine settings asked script at answers s trail (Err fault) = Unit {0}
+FollowsLine settings asked script at answers s trail (Err fault) = FollowsNot settings script fault
 
 -- A line from a place on is followed, where what stands before it is: where the next begins, and what it brought.
 pub record IsLineFollowed (asked : Option Subject) (script : List ℕ) (at : ℕ) (old new : Session) (t u : Trail Seen)
@@ -43,19 +45,33 @@ pub record IsLineFollowed (asked : Option Subject) (script : List ℕ) (at : ℕ
   pub follows : (settings : Settings) (answers : List Marked) → Took settings (take at script) answers old
       → Follows settings asked answers t → FollowsLine settings asked script at answers new u r
 
--- What stands behind the last line feed is followed to the script's end, where what stands before it is.
+-- The script is followed to its end, and so many changes are kept then; or it can't be followed.
+abbrev pub FollowsEnd : Settings → Option Subject → List ℕ → Trail Seen → Result ℕ WhoFault → Type 0
+FollowsEnd settings asked script trail (Ok kept) =
+    (all : List Marked) × Ended settings script all × Follows settings asked all trail
+    × (kept ≡ (lined_all settings nothing_stands all).kept)
+FollowsEnd settings asked script trail (Err fault) = FollowsNot settings script fault
+
+-- What stands after the last line feed is followed to the script's end, where what stands before it is.
 abbrev pub IsEndFollowed : Option Subject → List ℕ → Session → Trail Seen → Trail Seen → Result ℕ WhoFault → Type 0
 IsEndFollowed asked rest s t u r =
     (settings : Settings) (given : List ℕ) (answers : List Marked) → Took settings given answers s
-    → Follows settings asked answers t
-    → OnOk r ((all : List Marked) × Ended settings (given ++ rest) all × Follows settings asked all u)
+    → Follows settings asked answers t → FollowsEnd settings asked (given ++ rest) u r
 
--- A whole script is followed: its answers, what is read first, and its trail.
+-- A whole script is followed: its answers, what is read first, its trail, how many changes are kept after it, and where
+-- its lines begin.
 pub record IsTraced (settings : Settings) (script : List ℕ) (asked : Option Subject) (t : Traced) : Type 0 where
   pub answers : List Marked
   pub ended : Ended settings script answers
   pub first : t.first ≡ reading settings asked first_named_state
   pub follows : Follows settings asked answers t.trail
+  pub kept : t.kept ≡ (lined_all settings nothing_stands answers).kept
+  pub starts : LinesBegin script script t.starts.items []
+
+-- It is followed, or can't be.
+abbrev pub IsFollowed : Settings → List ℕ → Option Subject → Result Traced WhoFault → Type 0
+IsFollowed settings script asked (Ok t) = IsTraced settings script asked t
+IsFollowed settings script asked (Err fault) = FollowsNot settings script fault
 
 -- These lines are named: just those at whose statements the reading differs between the standing statements up to
 -- them and those before them, with both readings.

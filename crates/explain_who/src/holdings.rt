@@ -1,12 +1,14 @@
 //! What a subpool has: its pages and its free storage, in short.
-ghost use Rattle.std.specs.Prelude.{◌≡◌, ◌+◌, ◌^◌, ◌<◌, map};
+ghost use Rattle.std.specs.Prelude.{◌≡◌, ℕ, ◌+◌, ◌^◌, ◌<◌, List, map};
+ghost use Rattle.run_set.specs.Runs.{Run};
+ghost use Rattle.run_set.specs.Sums.{IsSidesOf};
 ghost use Rattle.storage_changes.specs.MapLists.{pair_of};
 ghost use Rattle.subpool_storage.specs.Extents.{extents, free_areas};
 ghost use Rattle.storage_core.specs.Meaning.{settings_of, state_in_place, state_of};
-ghost use Rattle.explain_who.specs.Holdings.{holding_of, in_short, same_holding, with_run};
+ghost use Rattle.explain_who.specs.Holdings.{holding_of, in_short, same_holding};
 
 use storage_changes::maps::runs_are_shown;
-use storage_core::{Storage, Subpool};
+use storage_core::{SideSums, Storage, Subpool};
 
 /// Runs of pages or of doublewords in short: how many numbers are in them, and how many runs there are.
 #[derive(Clone, Copy)]
@@ -42,15 +44,15 @@ impl Holding {
     }
 }
 
-/// With a run of so many numbers more.
-fn with_run(runs: Runs, length: u32) -> Runs
-    requires total { runs.total + length < 2 ^ 32 }
-    requires count { runs.count + 1 < 2 ^ 32 }
-    ensures { result ≡ with_run runs length }
+/// The runs on both sides of the line.
+fn both(sums: SideSums) -> Runs
+    requires total { sums.low.total + sums.high.total < 2 ^ 32 }
+    requires count { sums.low.count + sums.high.count < 2 ^ 32 }
+    ensures { (line : ℕ) (rs : List Run) → IsSidesOf line rs sums → result ≡ in_short (map pair_of rs) }
 {
     Runs {
-        total: runs.total + length,
-        count: runs.count + 1,
+        total: sums.low.total + sums.high.total,
+        count: sums.low.count + sums.high.count,
     }
 }
 
@@ -58,26 +60,14 @@ fn with_run(runs: Runs, length: u32) -> Runs
 fn extents_of(storage: &Storage, subpool: Subpool) -> Runs
     ensures { result ≡ in_short (map pair_of (extents (state_in_place storage.now).subpools subpool)) }
 {
-    let mut runs = Runs { total: 0, count: 0 };
-    let mut place = storage.first_extent(subpool);
-    while let Some((run, behind)) = storage.next_extent(place) {
-        runs = with_run(runs, run.len);
-        place = behind;
-    }
-    runs
+    both(storage.extent_sums(storage.first_extent(subpool)))
 }
 
 /// The free areas of a subpool, in doublewords.
 fn free_areas_of(storage: &Storage, subpool: Subpool) -> Runs
     ensures { result ≡ in_short (map pair_of (free_areas (state_in_place storage.now).subpools subpool)) }
 {
-    let mut runs = Runs { total: 0, count: 0 };
-    let mut place = storage.first_free_area(subpool);
-    while let Some((area, behind)) = storage.next_free_area(place) {
-        runs = with_run(runs, area.len);
-        place = behind;
-    }
-    runs
+    both(storage.free_area_sums(storage.first_free_area(subpool)))
 }
 
 /// What a subpool has: nothing where there is no such subpool.

@@ -7,6 +7,7 @@ mod holdings;
 pub mod laws;
 mod output;
 mod readings;
+mod shown_lines;
 mod texts;
 mod tracing;
 mod trail;

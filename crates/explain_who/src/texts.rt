@@ -1,70 +1,57 @@
-//! The lines of output.
+//! What is asked for, and what is read, as text.
+ghost use Rattle.std.specs.Prelude.{◌≡◌, ◌+◌, ◌-◌, ◌*◌, ◌/◌, ◌^◌, ◌<◌};
+ghost use Rattle.text_output.specs.Writing.{Puts};
+ghost use Rattle.script_steps.specs.Responses.{shown_text};
+ghost use Rattle.vsm_model.specs.Regions.{among, in_a_region};
+ghost use Rattle.explain_who.specs.Texts.{asked_text, counted, holding_text, is_outside, numbered, outside_text};
+ghost use Rattle.explain_who.specs.Texts.{holder_text, pages_text, plural, question_text, runs_text, seen_text};
+ghost use Rattle.explain_who.specs.Texts.{taken_text};
+ghost use Rattle.explain_who.specs.Texts.{word_text};
 
 use crate::holdings::{Holding, Runs};
 use crate::readings::{Seen, Subject};
-use arrayvec::ArrayVec;
 use std::io::Write;
 use text_output::{Gathered, put_byte, put_decimal, put_hexadecimal};
-use vsm_model::Subpool;
-use vsm_model::geometry::PAGE_BYTES;
+use vsm_model::geometry::{HIGH_PAGE, LOW_PAGE, PAGE_BYTES, PAGE_K};
+use vsm_model::{Settings, Subpool};
 
-/// The columns that a statement is given, at least.
-const COLUMNS: usize = 44;
-
-/// A line of the script, without its line feed, and without blanks at its ends; 71 columns of it at most.
-fn shown_line<'a>(script: &'a [u8], starts: &[usize], line: u32) -> &'a [u8] {
-    let Some(index) = line.checked_sub(1) else {
-        return b"";
-    };
-    let Some(start) = starts.get(index as usize) else {
-        return b"";
-    };
-    let Some(rest) = script.get(*start..) else {
-        return b"";
-    };
-    let end = rest
-        .iter()
-        .take(71)
-        .position(|c| *c == b'\n' || *c == b'\r')
-        .unwrap_or(rest.len().min(71));
-    rest[..end].trim_ascii()
+/// Puts the plural's letter if there isn't one of it.
+#[tactic(auto, using(text_output::proofs::Gathering::puts_none))]
+fn put_plural<W: Write>(gathered: &mut Gathered, writer: &mut W, n: u64)
+    ensures { Puts (W.contents writer.old) (W.contents writer.new) gathered.old gathered.new (plural n) }
+{
+    if n != 1 {
+        gathered.put(writer, b"s");
+    }
 }
 
-/// Puts a byte as it is where it is a printing character, else a point.
-fn put_character<W: Write>(gathered: &mut Gathered, writer: &mut W, byte: u8) {
-    let shown = if byte >= 32 && byte < 127 { byte } else { b'.' };
-    gathered.put(writer, &[shown]);
-}
-
-/// Puts the number of a line and the line, in a column.
-pub(crate) fn put_line<W: Write>(
-    gathered: &mut Gathered,
-    writer: &mut W,
-    script: &[u8],
-    starts: &[usize],
-    line: u32,
-) {
-    gathered.put(writer, b"line ");
-    put_decimal(gathered, writer, u64::from(line));
+/// Puts a number, and after it what it counts: the word, and an `s` if there isn't one of it.
+#[tactic(auto, using(text_output::proofs::Gathering::puts_both))]
+pub(crate) fn put_count<W: Write>(gathered: &mut Gathered, writer: &mut W, n: u64, word: &[u8])
+    ensures { Puts (W.contents writer.old) (W.contents writer.new) gathered.old gathered.new (counted n word.now) }
+{
+    put_decimal(gathered, writer, n);
     gathered.put(writer, b" ");
-    let text = shown_line(script, starts, line);
-    for byte in text {
-        put_character(gathered, writer, *byte);
-    }
-    for _ in text.len()..COLUMNS {
-        gathered.put(writer, b" ");
-    }
-    gathered.put(writer, b" | ");
+    gathered.put(writer, word);
+    put_plural(gathered, writer, n);
 }
 
 /// Puts some words, and a number after them.
-fn put_numbered<W: Write>(gathered: &mut Gathered, writer: &mut W, words: &[u8], number: u8) {
+#[tactic(auto, using(text_output::proofs::Gathering::puts_both))]
+fn put_numbered<W: Write>(gathered: &mut Gathered, writer: &mut W, words: &[u8], number: u8)
+    ensures { Puts (W.contents writer.old) (W.contents writer.new) gathered.old gathered.new
+        (numbered words.now number) }
+{
     gathered.put(writer, words);
     put_decimal(gathered, writer, u64::from(number));
 }
 
 /// Puts what is asked for, addresses in hexadecimal digits.
-pub(crate) fn put_asked<W: Write>(gathered: &mut Gathered, writer: &mut W, asked: &Subject) {
+#[tactic(auto, using(text_output::proofs::Gathering::puts_both))]
+fn put_asked<W: Write>(gathered: &mut Gathered, writer: &mut W, asked: &Subject)
+    ensures { Puts (W.contents writer.old) (W.contents writer.new) gathered.old gathered.new
+        (asked_text asked.now) }
+{
     match asked {
         Subject::Bytes { address, count } => {
             put_count(gathered, writer, u64::from(*count), b"byte");
@@ -90,71 +77,169 @@ pub(crate) fn put_asked<W: Write>(gathered: &mut Gathered, writer: &mut W, asked
     }
 }
 
-/// Puts bytes as PEEK shows them, two hexadecimal digits each.
-fn put_bytes<W: Write>(gathered: &mut Gathered, writer: &mut W, bytes: &ArrayVec<u8, 256>) {
-    gathered.put(writer, b"D=");
-    for byte in bytes.as_slice() {
-        put_byte(gathered, writer, *byte);
+/// Whether a page is one of so many from the first on.
+fn is_among(first: u32, count: u32, page: u32) -> bool
+    requires { first + count < 2 ^ 32 }
+    ensures { result ≡ among first count page }
+{
+    first <= page && page < first + count
+}
+
+/// Whether an address lies in a region.
+fn is_in_a_region(settings: Settings, address: u32) -> bool
+    ensures { result ≡ in_a_region settings (address / 4096) }
+{
+    let page = address / PAGE_BYTES;
+    is_among(HIGH_PAGE, settings.high_k / PAGE_K, page)
+        || is_among(LOW_PAGE, settings.low_k / PAGE_K, page)
+}
+
+/// Whether an address is asked for that is in neither region.
+fn is_outside(settings: Settings, asked: &Subject) -> bool
+    ensures { result ≡ is_outside settings asked.now }
+{
+    match asked {
+        Subject::Bytes { address, .. } => !is_in_a_region(settings, *address),
+        Subject::Holder(address) => !is_in_a_region(settings, *address),
+        Subject::Register { .. } | Subject::Name(_) | Subject::Subpool { .. } => false,
     }
 }
 
-/// Puts a word, or these words where there is none.
-fn put_word<W: Write>(gathered: &mut Gathered, writer: &mut W, word: Option<u32>, none: &[u8]) {
+/// Puts that the address is in neither region if it isn't.
+#[tactic(auto, using(text_output::proofs::Gathering::puts_none))]
+fn put_outside<W: Write>(
+    gathered: &mut Gathered,
+    writer: &mut W,
+    settings: Settings,
+    asked: &Subject,
+)
+    ensures { Puts (W.contents writer.old) (W.contents writer.new) gathered.old gathered.new
+        (outside_text settings asked.now) }
+{
+    if is_outside(settings, asked) {
+        gathered.put(writer, b", in neither region");
+    }
+}
+
+/// Puts what is asked for, and that it's in neither region if it isn't.
+#[tactic(auto, using(text_output::proofs::Gathering::puts_both))]
+pub(crate) fn put_question<W: Write>(
+    gathered: &mut Gathered,
+    writer: &mut W,
+    settings: Settings,
+    asked: &Subject,
+)
+    ensures { Puts (W.contents writer.old) (W.contents writer.new) gathered.old gathered.new
+        (question_text settings asked.now) }
+{
+    put_asked(gathered, writer, asked);
+    put_outside(gathered, writer, settings, asked);
+    gathered.put(writer, b"\n");
+}
+
+/// Puts a word, or these words if there is none.
+fn put_word<W: Write>(gathered: &mut Gathered, writer: &mut W, word: Option<u32>, none: &[u8])
+    ensures { Puts (W.contents writer.old) (W.contents writer.new) gathered.old gathered.new
+        (word_text word none.now) }
+{
     match word {
         Some(word) => put_hexadecimal(gathered, writer, 8, word),
         None => gathered.put(writer, none),
     }
 }
 
-/// Puts a number, and behind it what it counts: the word, and an `s` where there isn't one of it.
-pub(crate) fn put_count<W: Write>(gathered: &mut Gathered, writer: &mut W, n: u64, word: &[u8]) {
-    put_decimal(gathered, writer, n);
-    gathered.put(writer, b" ");
-    gathered.put(writer, word);
-    if n != 1 {
-        gathered.put(writer, b"s");
-    }
-}
-
-/// Puts how many runs there are, behind how much is in them.
-fn put_runs<W: Write>(gathered: &mut Gathered, writer: &mut W, runs: Runs, word: &[u8]) {
+/// Puts how many runs there are, after how much is in them.
+#[tactic(auto, using(text_output::proofs::Gathering::puts_both))]
+fn put_runs<W: Write>(gathered: &mut Gathered, writer: &mut W, runs: Runs, word: &[u8])
+    ensures { Puts (W.contents writer.old) (W.contents writer.new) gathered.old gathered.new
+        (runs_text runs word.now) }
+{
     gathered.put(writer, b" in ");
     put_count(gathered, writer, u64::from(runs.count), word);
 }
 
-/// Puts what a subpool has: its pages with their extents, the bytes that are taken, and those that are free.
-fn put_holding<W: Write>(gathered: &mut Gathered, writer: &mut W, holding: Holding) {
-    if holding.pages.count == 0 {
-        gathered.put(writer, b"no pages");
-        return;
-    }
-    let pages = u64::from(holding.pages.total);
-    let free = 8 * u64::from(holding.free.total);
-    let taken = (u64::from(PAGE_BYTES) * pages).saturating_sub(free);
-    put_count(gathered, writer, pages, b"page");
-    put_runs(gathered, writer, holding.pages, b"extent");
+/// The bytes of a subpool that are free.
+fn free_bytes(holding: Holding) -> u64
+    ensures { result ≡ 8 * holding.free.total }
+{
+    8 * u64::from(holding.free.total)
+}
+
+/// The bytes of a subpool that are taken.
+fn taken_bytes(holding: Holding) -> u64
+    ensures { result ≡ 4096 * holding.pages.total - 8 * holding.free.total }
+{
+    let pages = u64::from(PAGE_BYTES) * u64::from(holding.pages.total);
+    pages.saturating_sub(free_bytes(holding))
+}
+
+/// Puts the bytes of a subpool that are taken, and those that are free.
+#[tactic(auto, using(text_output::proofs::Gathering::puts_both))]
+fn put_taken<W: Write>(gathered: &mut Gathered, writer: &mut W, holding: Holding)
+    ensures { Puts (W.contents writer.old) (W.contents writer.new) gathered.old gathered.new (taken_text holding) }
+{
     gathered.put(writer, b", ");
-    put_decimal(gathered, writer, taken);
+    put_decimal(gathered, writer, taken_bytes(holding));
     gathered.put(writer, b" taken, ");
-    put_decimal(gathered, writer, free);
+    put_decimal(gathered, writer, free_bytes(holding));
     gathered.put(writer, b" free");
+}
+
+/// Puts what a subpool with pages has: these with their extents, the bytes that are taken, and those that are free.
+#[tactic(auto, using(text_output::proofs::Gathering::puts_both))]
+fn put_pages<W: Write>(gathered: &mut Gathered, writer: &mut W, holding: Holding)
+    ensures { Puts (W.contents writer.old) (W.contents writer.new) gathered.old gathered.new (pages_text holding) }
+{
+    put_count(gathered, writer, u64::from(holding.pages.total), b"page");
+    put_runs(gathered, writer, holding.pages, b"extent");
+    put_taken(gathered, writer, holding);
     put_runs(gathered, writer, holding.free, b"area");
 }
 
+/// Puts what a subpool has.
+fn put_holding<W: Write>(gathered: &mut Gathered, writer: &mut W, holding: Holding)
+    ensures { Puts (W.contents writer.old) (W.contents writer.new) gathered.old gathered.new
+        (holding_text holding) }
+{
+    if holding.pages.count == 0 {
+        gathered.put(writer, b"no pages");
+    } else {
+        put_pages(gathered, writer, holding);
+    }
+}
+
 /// Puts a subpool with the task that it belongs to.
-fn put_holder<W: Write>(gathered: &mut Gathered, writer: &mut W, subpool: Subpool) {
+#[tactic(auto, using(text_output::proofs::Gathering::puts_both))]
+fn put_holder<W: Write>(gathered: &mut Gathered, writer: &mut W, subpool: Subpool)
+    ensures { Puts (W.contents writer.old) (W.contents writer.new) gathered.old gathered.new
+        (holder_text subpool) }
+{
     gathered.put(writer, b"subpool ");
     put_decimal(gathered, writer, u64::from(subpool.number));
     gathered.put(writer, b" of task ");
     put_decimal(gathered, writer, u64::from(subpool.owner));
 }
 
+/// Puts bytes as PEEK shows them, two hexadecimal digits each.
+fn put_bytes<W: Write>(gathered: &mut Gathered, writer: &mut W, bytes: &[u8])
+    ensures { Puts (W.contents writer.old) (W.contents writer.new) gathered.old gathered.new
+        (shown_text bytes.now) }
+{
+    gathered.put(writer, b"D=");
+    for byte in bytes {
+        put_byte(gathered, writer, *byte);
+    }
+}
+
 /// Puts what is read.
-pub(crate) fn put_seen<W: Write>(gathered: &mut Gathered, writer: &mut W, seen: &Seen) {
+#[tactic(auto, using(text_output::proofs::Gathering::puts_none))]
+pub(crate) fn put_seen<W: Write>(gathered: &mut Gathered, writer: &mut W, seen: &Seen)
+    ensures { Puts (W.contents writer.old) (W.contents writer.new) gathered.old gathered.new (seen_text seen.now) }
+{
     match seen {
         Seen::Nothing => (),
         Seen::Bytes(None) => gathered.put(writer, b"ABEND S0C4"),
-        Seen::Bytes(Some(bytes)) => put_bytes(gathered, writer, bytes),
+        Seen::Bytes(Some(bytes)) => put_bytes(gathered, writer, bytes.as_slice()),
         Seen::Register(word) => put_word(gathered, writer, *word, b"no task"),
         Seen::Name(word) => put_word(gathered, writer, *word, b"not defined"),
         Seen::Held(None) => gathered.put(writer, b"no task"),

@@ -1,10 +1,10 @@
 //! A script is followed on a bench: which of its statements stand, and what is read behind each.
-ghost use Rattle.std.specs.Prelude.{◌≡◌, ◌≤◌, drop, length, IfOk, OnOk};
+ghost use Rattle.std.specs.Prelude.{◌≡◌, ◌≤◌, [], ◌∷◌, ◌++◌, drop, length, OnOk};
 ghost use Rattle.explain_who.specs.Trails.{marks_of};
 ghost use Rattle.script_steps.specs.Script.{NoFeed};
 ghost use Rattle.explain_who.specs.Readings.{read_of};
 ghost use Rattle.explain_who.specs.Notes.{with_told};
-ghost use Rattle.explain_who.specs.Traced.{IsEndFollowed, IsLineFollowed, IsTraced};
+ghost use Rattle.explain_who.specs.Traced.{IsEndFollowed, IsFollowed, IsLineFollowed};
 
 use crate::faults::WhoFault;
 use crate::readings::{Seen, Subject, read};
@@ -59,7 +59,9 @@ fn note(
 }
 
 /// Notes where a line begins.
-fn note_start(starts: &mut Vec<usize>, at: usize) -> Result<(), AllocError> {
+fn note_start(starts: &mut Vec<usize>, at: usize) -> Result<(), AllocError>
+    ensures { OnOk result (starts.new.items ≡ starts.old.items ++ at ∷ []) }
+{
     starts.push(at)?;
     Ok(())
 }
@@ -98,7 +100,8 @@ fn follow_line(
     asked: &Option<Subject>,
 ) -> Result<Option<usize>, WhoFault>
     requires { at ≤ length script.now }
-    ensures { IsLineFollowed asked.now script.now at session.old session.new trail.old trail.new result }
+    ensures follows { IsLineFollowed asked.now script.now at session.old session.new trail.old trail.new result }
+    ensures starts { OnOk result (starts.new.items ≡ starts.old.items ++ at ∷ []) }
 {
     match note_start(starts, at) {
         Ok(()) => follow_at(session, trail, script, at, asked),
@@ -148,7 +151,7 @@ fn follow_end(
 }
 
 /// What stands in a script from a place on.
-fn rest_from(script: &[u8], at: usize) -> &[u8]
+pub(crate) fn rest_from(script: &[u8], at: usize) -> &[u8]
     requires { at ≤ length script.now }
     ensures { result.now ≡ drop at script.now }
 {
@@ -163,7 +166,7 @@ pub fn follow<P: Watch>(
     asked: &Option<Subject>,
     watch: &mut P,
 ) -> Result<Traced, WhoFault>
-    ensures { IfOk result (IsTraced settings script.now asked.now) }
+    ensures { IsFollowed settings script.now asked.now result }
 {
     let bench = match Bench::new(alloc, settings) {
         Ok(bench) => bench,

@@ -1,11 +1,16 @@
 -- What is told of the cause that the bench finds.
-use Rattle.std.proofs.Common.{◌≡◌, inl, inr, ℕ, Bool, true, false, List, Option, Some, None, length, nat_lt, refl, sym, subst, ◌∙◌}
-use Rattle.std.specs.Prelude.{Ok, IfSome}
+use Rattle.std.proofs.Common.{◌≡◌, ◌↔◌, inl, inr, ℕ, Bool, true, false, List, Option, Some, None, length, nat_lt, refl, sym, ap, subst, ◌∙◌}
+use Rattle.std.specs.Prelude.{Ok, IfSome, unwrap_or}
 use Rattle.vsm_model.specs.declared.causes.Cause.{Cause}
 use Rattle.vsm_model.specs.declared.limits.Settings.{Settings}
 use Rattle.vsm_model.specs.Causes.{first_cause}
 use Rattle.vsm_model.specs.Names.{NamedState, is_one_too_many}
-use Rattle.vsm_model.specs.Services.{Service}
+use Rattle.vsm_model.specs.declared.services.Obtain.{Obtain}
+use Rattle.vsm_model.specs.Areas.{Place}
+use Rattle.vsm_model.specs.Obtaining.{longest, obtain_causes}
+use Rattle.vsm_model.specs.Services.{Service, obtain}
+use Rattle.vsm_model.specs.declared.causes.Cause.TheVariants.{NoStorage}
+use Rattle.vsm_model.specs.State.{State}
 use Rattle.vsm_model.specs.Step.{causes}
 use Rattle.macro_statements.specs.Requests.{Act, Asked, act, peek, map_asked, back, forward}
 use Rattle.vsm_machine.specs.Causes.{is_conditional_get}
@@ -14,9 +19,12 @@ use Rattle.storage_core.specs.Meaning.{settings_of, state_of}
 use Rattle.storage_core.specs.declared.storage.Storage.{Storage}
 use Rattle.text_output.specs.declared.writing.Gathered.{Gathered}
 use Rattle.bench_core.specs.Causes.{IsFirstCause}
-use Rattle.place_reasons.specs.Told.{PutsSome}
-use Rattle.cause_reasons.specs.Told.{PutsOneOf, TellsCause}
-use Rattle.explain_why.specs.Told.{TellsFirstCause, TellsRequest}
+use Rattle.place_reasons.specs.Places.{asks_for_place}
+use Rattle.place_reasons.specs.Told.{PutsSome, TellsPlace, place_text}
+use Rattle.place_reasons.proofs.Endings.{ending_both, place_behind}
+use Rattle.place_reasons.proofs.NoPlace.{no_place_is_want_of_storage}
+use Rattle.cause_reasons.specs.Told.{PutsOneOf, TellsCause, TellsEffect}
+use Rattle.explain_why.specs.Told.{TellsAct, TellsArea, TellsFirstCause, TellsItsPlace, TellsRequest}
 use Rattle.cause_reasons.specs.Words.{cause_words}
 use Rattle.cause_reasons.proofs.OneOf.{then_one}
 
@@ -34,7 +42,7 @@ module _ (settings : Settings) (m : NamedState) (x : Act) where
   first_of service = first_cause (causes settings (is_one_too_many m.names (name_asked x)) m.storage service)
 
   -- a name that isn't defined
-  pub unknown_told : (old new : Option (List ℕ)) (a b : Gathered) → service_asked m x ≡ None → TellsFirstCause settings m x old new a b
+  unknown_told : (old new : Option (List ℕ)) (a b : Gathered) → service_asked m x ≡ None → TellsFirstCause settings m x old new a b
   unknown_told old new a b none service cause asked plain first has = absurd (none_is_some (service_asked m x) service none asked)
 
   -- no cause
@@ -60,21 +68,87 @@ module _ (settings : Settings) (m : NamedState) (x : Act) where
       (told full here (subst (λ k. nat_lt 0 (length (cause_words its k)) ≡ true) (sym cause_is)
       (subst (λ y. nat_lt 0 (length (cause_words y cause)) ≡ true) (sym same) has)))))
 
+-- ---- the place of an area
+
+some_is_none : {X : Type 0} (o : Option X) (x : X) → o ≡ Some x → o ≡ None → ⊥
+some_is_none o x e f = none_is_some o x f e
+
+-- there is a greatest number
+longest_is : (x : Option ℕ) (k fewest : ℕ) → (x ≡ None → ⊥) → k ≡ unwrap_or x fewest → x ≡ Some k
+longest_is None k fewest some e = absurd (some refl)
+longest_is (Some y) k fewest some e = ap Some (sym e)
+
+not_none : (A B : Type 0) → (A ↔ B) → (B → ⊥) → A → ⊥
+not_none A B (to, from) none a = none (to a)
+
+place_is : (s : Storage) (o : Obtain) (full : Bool) (old new : Option (List ℕ)) (a b : Gathered)
+    → first_cause (obtain_causes (settings_of s) full (state_of s) o) ≡ None → TellsPlace s o old new a b
+    → TellsItsPlace (settings_of s) (state_of s) o old new a b
+place_is s o full old new a b first told =
+    let law = no_place_is_want_of_storage (settings_of s) full (state_of s) o (inl first) in
+    let found = told law.0 in
+    let rows = obtain_causes (settings_of s) full (state_of s) o in
+    let some = not_none (longest (settings_of s) (state_of s) o ≡ None) (first_cause rows ≡ Some NoStorage) law.1
+    (none_is_some (first_cause rows) NoStorage first) in
+    (found.0, (found.1, longest_is (longest (settings_of s) (state_of s) o) found.1 _ some found.3, found.2), found.5)
+
+module _ (settings : Settings) (m : NamedState) (x : Act) where
+  pub unknown_area : (old new : Option (List ℕ)) (a b : Gathered) → service_asked m x ≡ None → TellsArea settings m x old new a b
+  unknown_area old new a b none o asked first = absurd (none_is_some (service_asked m x) (obtain o) none asked)
+
+  found_area : (s : Storage) (its : Service) (found : Option Cause) (old now new : Option (List ℕ)) (a b d : Gathered)
+      → settings_of s ≡ settings → state_of s ≡ m.storage → service_asked m x ≡ Some its → IsFirstCause settings m x (Ok found) → PutsSome old now a b
+      → (found ≡ None → TellsEffect s its now new b d) → TellsArea settings m x old new a d
+  found_area s its None old now new a b d under stands is found some effect o asked first =
+      let full = is_one_too_many m.names (name_asked x) in
+      let same = same_service (service_asked m x) its (obtain o) is asked in
+      let told : TellsPlace s o now new b d = subst (λ y. TellsEffect s y now new b d) same (effect refl) in
+      let here : first_cause (obtain_causes (settings_of s) full (state_of s) o) ≡ None =
+      subst (λ k. first_cause (obtain_causes k full (state_of s) o) ≡ None) (sym under)
+      (subst (λ t. first_cause (obtain_causes settings full t o) ≡ None) (sym stands) first) in
+      subst (λ t. TellsItsPlace settings t o old new a d) stands
+      (subst (λ k. TellsItsPlace k (state_of s) o old new a d) under
+      (place_is s o full old new a d here (place_behind s o old now new a b d some told)))
+  found_area s its (Some c) old now new a b d under stands is (found, found_is, holds) some effect o asked first =
+      let same = same_service (service_asked m x) found (obtain o) found_is asked in
+      absurd (none_is_some (first_of settings m x (obtain o)) c first (subst (λ y. first_of settings m x y ≡ Some c) same (holds (inl refl))))
+
 -- what was found
-pub found_told : (s : Storage) (settings : Settings) (m : NamedState) (x : Act) (its : Service) (found : Option Cause) (old now new : Option (List ℕ)) (a b d : Gathered)
+found_cause : (s : Storage) (settings : Settings) (m : NamedState) (x : Act) (its : Service) (found : Option Cause) (old now new : Option (List ℕ)) (a b d : Gathered)
     → settings_of s ≡ settings → state_of s ≡ m.storage → service_asked m x ≡ Some its → IsFirstCause settings m x (Ok found) → PutsSome old now a b
     → IfSome found (λ c. (full : Bool) → TellsCause (causes (settings_of s) full (state_of s) its) (cause_words its c) c now new b d) → TellsFirstCause settings m x old new a d
-found_told s settings m x its None old now new a b d under stands is found some told = none_told settings m x old new a d found
-found_told s settings m x its (Some c) old now new a b d under stands is found some told =
+found_cause s settings m x its None old now new a b d under stands is found some told = none_told settings m x old new a d found
+found_cause s settings m x its (Some c) old now new a b d under stands is found some told =
     cause_told settings m x its c old now new a b d is found some
     (λ full. subst (λ t. TellsCause (causes settings full t its) (cause_words its c) c now new b d) stands
     (subst (λ t. TellsCause (causes t full (state_of s) its) (cause_words its c) c now new b d) under (told full)))
 
+pub found_told : (s : Storage) (settings : Settings) (m : NamedState) (x : Act) (its : Service) (found : Option Cause) (old now new : Option (List ℕ)) (a b d : Gathered)
+    → settings_of s ≡ settings → state_of s ≡ m.storage → service_asked m x ≡ Some its → IsFirstCause settings m x (Ok found) → PutsSome old now a b
+    → IfSome found (λ c. (full : Bool) → TellsCause (causes (settings_of s) full (state_of s) its) (cause_words its c) c now new b d)
+    → (found ≡ None → TellsEffect s its now new b d) → TellsAct settings m x old new a d
+found_told s settings m x its found old now new a b d under stands is holds some told effect = record {
+  cause = found_cause s settings m x its found old now new a b d under stands is holds some told;
+  area = found_area settings m x s its found old now new a b d under stands is holds some effect;
+}
+
+-- a name that isn't defined
+pub unknown_act : (settings : Settings) (m : NamedState) (x : Act) (old new : Option (List ℕ)) (a b : Gathered) → service_asked m x ≡ None → TellsAct settings m x old new a b
+unknown_act settings m x old new a b none =
+    record { cause = unknown_told settings m x old new a b none; area = unknown_area settings m x old new a b none }
+
 -- the same behind some text
+place_more : (settings : Settings) (s : State) (o : Obtain) (old now new : Option (List ℕ)) (a b d : Gathered) → PutsSome old now a b
+    → TellsItsPlace settings s o now new b d → TellsItsPlace settings s o old new a d
+place_more settings s o old now new a b d some (its, is, ending) = (its, is, ending_both old now new a b d (place_text its) some ending)
+
 pub told_behind : (settings : Settings) (m : NamedState) (x : Asked) (old now new : Option (List ℕ)) (a b d : Gathered) → PutsSome old now a b
     → TellsRequest settings m x now new b d → TellsRequest settings m x old new a d
-told_behind settings m (act x) old now new a b d some told =
-    λ valid service cause asked plain first has. then_one (cause_words service cause) old now new a b d some (told valid service cause asked plain first has)
+told_behind settings m (act x) old now new a b d some told = λ valid. record {
+  cause = λ service cause asked plain first has.
+      then_one (cause_words service cause) old now new a b d some ((told valid).cause service cause asked plain first has);
+  area = λ o asked first. place_more settings m.storage o old now new a b d some ((told valid).area o asked first);
+}
 told_behind settings m (peek address len) old now new a b d some told = told
 told_behind settings m map_asked old now new a b d some told = told
 told_behind settings m (back n) old now new a b d some told = told

@@ -1,12 +1,15 @@
 -- The statement of a line, where it's found, and that it's told.
-use Rattle.std.proofs.Common.{◌≡◌, ◌≢◌, inl, inr, ℕ, zero, suc, ◌+◌, ◌-◌, ◌<◌, ◌≤◌, List, [], ◌∷◌, ◌++◌, length, map, take, get_or, Option, Some, None, Result, Ok, Err, IfOk, IfSome, refl, sym, ap, subst, ◌∙◌, arith, zero-add}
+use Rattle.std.proofs.Common.{◌≡◌, ◌≢◌, inl, inr, ℕ, zero, suc, ◌+◌, ◌-◌, ◌<◌, ◌≤◌, Bool, List, [], ◌∷◌, ◌++◌, append_assoc, length, map, take, get_or, Option, Some, None, Result, Ok, Err, IfOk, IfSome, refl, sym, ap, subst, ◌∙◌, arith, zero-add}
 use Rattle.std.specs.Prelude.{OnOk}
 use Rattle.std.proofs.lemmas.List.{length-append, length-take-le}
 use Rattle.std.proofs.KnownBytes.{Appends-nil}
 use Rattle.std.specs.Io.KnownBytes.{Appends}
 use Rattle.std.specs.List.{flat_map}
 use Rattle.vsm_model.specs.declared.limits.Settings.{Settings}
+use Rattle.vsm_model.specs.declared.services.Obtain.{Obtain}
+use Rattle.vsm_model.specs.Areas.{Place}
 use Rattle.vsm_model.specs.Names.{NamedState}
+use Rattle.vsm_model.specs.State.{State}
 use Rattle.vsm_model.specs.Standing.{nothing_stands}
 use Rattle.macro_reader.specs.Roles.{IsStand}
 use Rattle.macro_reader.specs.Scripts.{Between, Mode, awaiting, dropping, gathering}
@@ -22,13 +25,14 @@ use Rattle.script_steps.specs.declared.steps.Step.{Step}
 use Rattle.script_steps.proofs.Standings.{stands_for}
 use Rattle.text_output.specs.Writing.{Holds, IsEmpty}
 use Rattle.text_output.specs.declared.writing.Gathered.{Gathered}
-use Rattle.text_output.proofs.Gathering.{empty_holds}
-use Rattle.place_reasons.specs.Told.{PutsSome}
+use Rattle.text_output.proofs.Gathering.{empty_holds, puts_both}
+use Rattle.place_reasons.specs.Told.{PutsSome, place_text}
 use Rattle.cause_reasons.specs.Told.{PutsOneOf}
 use Rattle.cause_reasons.specs.Words.{Words, cause_words}
 use Rattle.cause_reasons.proofs.OneOf.{one_then}
 use Rattle.explain_why.specs.Explained.{IsExplained, IsFound, IsLineStart, IsPlaceOf, IsStatementAt, TakesLine, WritesAhead, WritesOneOf, WritesRequest}
-use Rattle.explain_why.specs.Told.{TellsAhead, TellsRequest}
+use Rattle.explain_why.specs.Answers.{WritesAnswer}
+use Rattle.explain_why.specs.Told.{IsItsPlace, TellsAhead, TellsItsPlace, TellsRequest}
 use Rattle.explain_why.specs.declared.ahead.NextStatement as ahead
 use Rattle.explain_why.specs.declared.ahead.NextStatement.TheVariants as variant
 use Rattle.explain_why.specs.declared.faults.WhyFault.{WhyFault}
@@ -124,12 +128,31 @@ one_written words old now later new a b c none one some finish =
       (front, behind, finish old (front ++ (all.1 ++ behind)) (all.3.2 old [] (empty_holds old old a [] none (Appends-nil old)))),
     )
 
+-- the place of an area
+area_written : (settings : Settings) (s : State) (o : Obtain) (old now later new : Option (List ℕ)) (a b c : Gathered) → IsEmpty a →
+    TellsItsPlace settings s o old now a b → PutsSome now later b c →
+    ((first : Option (List ℕ)) (text : List ℕ) → Holds first later c text → Appends first new text) →
+    (its : Place) × IsItsPlace settings s o its × ((front : List ℕ) × (behind : List ℕ) × Appends old new (front ++ (place_text its ++ behind)))
+area_written settings s o old now later new a b c none (its, is, (front, puts)) (text, some) finish =
+    let all = puts_both old now later a b c (front ++ place_text its) text puts some in (
+      its,
+      is,
+      (
+        front,
+        text,
+        subst (Appends old new) (append_assoc front (place_text its) text)
+            (finish old ((front ++ place_text its) ++ text) (all old [] (empty_holds old old a [] none (Appends-nil old)))),
+      ),
+    )
+
 request_written : (settings : Settings) (m : NamedState) (x : Asked) (old now later new : Option (List ℕ)) (a b c : Gathered) → IsEmpty a →
     TellsRequest settings m x old now a b → PutsSome now later b c →
     ((first : Option (List ℕ)) (text : List ℕ) → Holds first later c text → Appends first new text) → WritesRequest settings m x old new
-request_written settings m (act x) old now later new a b c none told some finish =
-    λ valid service cause asked plain first has.
-    one_written (cause_words service cause) old now later new a b c none (told valid service cause asked plain first has) some finish
+request_written settings m (act x) old now later new a b c none told some finish = λ valid. record {
+  cause = λ service cause asked plain first has.
+      one_written (cause_words service cause) old now later new a b c none ((told valid).cause service cause asked plain first has) some finish;
+  area = λ o asked first. area_written settings m.storage o old now later new a b c none ((told valid).area o asked first) some finish;
+}
 request_written settings m (peek address len) old now later new a b c none told some finish = tt
 request_written settings m map_asked old now later new a b c none told some finish = tt
 request_written settings m (back n) old now later new a b c none told some finish = tt
@@ -146,14 +169,14 @@ ahead_written settings m variant.Aside old now later new a b c none told some fi
 
 -- ---- and so the statement of the line is told
 
-pub on_ok : {X E : Type 0} (P Q : Type 0) (r : Result X E) → (P → Q) → OnOk r P → OnOk r Q
-on_ok P Q (Ok x) f h = f h
-on_ok P Q (Err e) f h = h
+pub both_ok : {X E : Type 0} (P : Type 0) (Q R : X → Type 0) (r : Result X E) → ((x : X) → P → Q x → R x) → OnOk r P → IfOk r Q → IfOk r R
+both_ok P Q R (Ok x) f p q = f x p q
+both_ok P Q R (Err e) f p q = q
 
 pub explained : (settings : Settings) (script : List ℕ) (line : ℕ) (s : Session) (place : LinePlace) (old new : Option (List ℕ)) → place.at ≤ length script →
-    IsFound settings script line s place → WritesAhead (settings_in s.bench) (bench_of s.bench).present place.ahead.asked old new →
-    IsExplained settings script line old new
-explained settings script line s place old new inside found told =
+    (found : IsFound settings script line s place) → (refused : Bool) → WritesAhead (settings_in s.bench) (bench_of s.bench).present place.ahead.asked old new →
+    WritesAnswer settings script found.before place.first line old new refused → IsExplained settings script line old new refused
+explained settings script line s place old new inside found refused told answer =
     let took = found.took in
     let its = found.its.statement in
     let none : took.rest ≡ [] = none_behind script place.at (flat_map with_feed took.lines) took.rest inside found.starts took.within.cut took.within.unended.0 in
@@ -179,4 +202,5 @@ explained settings script line s place old new inside found told =
       to = omega (arith, its.to, its.ahead.count, took.count);
       tells = subst (λ m. WritesAhead settings m place.ahead.asked old new) present
           (subst (λ k. WritesAhead k (bench_of s.bench).present place.ahead.asked old new) took.under told);
+      answer = subst (λ n. WritesAnswer settings script found.before n line old new refused) (its.numbered ∙ ap (λ n. n + 1) took.count) answer;
     }

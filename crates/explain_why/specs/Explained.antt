@@ -1,12 +1,14 @@
 -- What is written of the statement of a line, for a whole script.
-use Rattle.std.specs.Prelude.{◌≡◌, ◌⊎◌, ℕ, ◌+◌, ◌-◌, ◌<◌, ◌≤◌, true, false, nat_lt, List, [], ◌++◌, length}
-use Rattle.std.specs.Prelude.{Option, Some, drop, map, slice_get, slice_index, take}
+use Rattle.std.specs.Prelude.{◌≡◌, ◌⊎◌, ℕ, ◌+◌, ◌-◌, ◌<◌, ◌≤◌, Bool, true, false, nat_lt, List, [], ◌++◌, length}
+use Rattle.std.specs.Prelude.{Option, Some, None, drop, map, slice_get, slice_index, take}
 use Rattle.std.specs.Io.KnownBytes.{Appends}
 use Rattle.vsm_model.specs.declared.causes.Cause.{Cause}
 use Rattle.vsm_model.specs.declared.limits.Settings.{Settings}
 use Rattle.vsm_model.specs.Causes.{first_cause}
 use Rattle.vsm_model.specs.Names.{NamedState, is_one_too_many}
-use Rattle.vsm_model.specs.Services.{Service}
+use Rattle.vsm_model.specs.declared.services.Obtain.{Obtain}
+use Rattle.vsm_model.specs.Areas.{Place}
+use Rattle.vsm_model.specs.Services.{Service, obtain}
 use Rattle.vsm_model.specs.Standing.{nothing_stands}
 use Rattle.vsm_model.specs.Step.{causes}
 use Rattle.macro_reader.specs.Columns.{Line}
@@ -19,7 +21,10 @@ use Rattle.script_steps.specs.Script.{columns, Within}
 use Rattle.script_steps.specs.Taken.{Took, answers_of}
 use Rattle.script_steps.specs.declared.session.Session.{Session}
 use Rattle.cause_reasons.specs.Words.{Words, cause_words}
+use Rattle.place_reasons.specs.Told.{place_text}
 use Rattle.explain_why.specs.Ahead.{AreFirst, Asks, IsAhead}
+use Rattle.explain_why.specs.Answers.{WritesAnswer}
+use Rattle.explain_why.specs.Told.{IsItsPlace}
 use Rattle.explain_why.specs.declared.ahead.NextStatement as ahead
 use Rattle.explain_why.specs.declared.ahead.NextStatement.TheVariants as variant
 use Rattle.explain_why.specs.declared.lines.LinePlace.{LinePlace}
@@ -38,9 +43,21 @@ WritesFirstCause settings m x old new =
     → first_cause (causes settings (is_one_too_many m.names (name_asked x)) m.storage service) ≡ Some cause
     → nat_lt 0 (length (cause_words service cause)) ≡ true → WritesOneOf (cause_words service cause) old new
 
+-- If an obtain has no cause, the place of its area is written.
+abbrev pub WritesArea : Settings → NamedState → Act → Option (List ℕ) → Option (List ℕ) → Type 0
+WritesArea settings m x old new =
+    (o : Obtain) → service_asked m x ≡ Some (obtain o)
+    → first_cause (causes settings (is_one_too_many m.names (name_asked x)) m.storage (obtain o)) ≡ None
+    → (its : Place) × IsItsPlace settings m.storage o its
+    × ((front : List ℕ) × (behind : List ℕ) × Appends old new (front ++ (place_text its ++ behind)))
+
+pub record WritesAct (settings : Settings) (m : NamedState) (x : Act) (old new : Option (List ℕ)) : Type 0 where
+  pub cause : WritesFirstCause settings m x old new
+  pub area : WritesArea settings m x old new
+
 -- Of a request that is a statement which can be written; of others nothing is said here.
 abbrev pub WritesRequest : Settings → NamedState → Asked → Option (List ℕ) → Option (List ℕ) → Type 0
-WritesRequest settings m (act x) old new = IsValidAct x → WritesFirstCause settings m x old new
+WritesRequest settings m (act x) old new = IsValidAct x → WritesAct settings m x old new
 WritesRequest settings m _ old new = Unit {0}
 
 abbrev pub WritesAhead : Settings → NamedState → ahead.NextStatement → Option (List ℕ) → Option (List ℕ) → Type 0
@@ -54,6 +71,7 @@ IsLineStart script at = (at ≡ 0) ⊎ (slice_index script (at - 1) ≡ 10)
 -- A statement begins at this place, on a line of this number, and has a line of that number.
 pub record IsStatementAt (script : List ℕ) (at first line : ℕ) (place : LinePlace) : Type 0 where
   pub begins : place.at ≡ at
+  pub numbered : place.first ≡ first
   pub bears : place.ahead.asked ≡ variant.Aside → ⊥
   pub ahead : IsAhead (drop at script) place.ahead
   pub from : first ≤ line
@@ -79,9 +97,11 @@ pub record IsFound (settings : Settings) (script : List ℕ) (line : ℕ) (s : S
   pub its : IsPlaceOf s script place.at line place
 
 -- The statement of a line in a script is told: the lines before it are whole parts, which were answered so; its own are
--- the next, of which the line is one; and by what they ask for, what is written tells the statement's first cause in
--- the state of the statements that stand before it, run alone.
-pub record IsExplained (settings : Settings) (script : List ℕ) (line : ℕ) (old new : Option (List ℕ)) : Type 0 where
+-- the next, of which the line is one; and by what they ask for, what is written tells the statement's first cause, or
+-- the place of its area, in the state of the statements that stand before it, run alone. It ends in the answer, and
+-- says whether that is a refusal.
+pub record IsExplained (settings : Settings) (script : List ℕ) (line : ℕ) (old new : Option (List ℕ)) (refused : Bool) :
+    Type 0 where
   pub place : ℕ
   pub lines : List (List ℕ)
   pub within : Within (take place script) lines []
@@ -98,3 +118,4 @@ pub record IsExplained (settings : Settings) (script : List ℕ) (line : ℕ) (o
   pub from : length lines < line
   pub to : line ≤ length lines + length own
   pub tells : WritesAhead settings (alone_now settings (stands_all settings nothing_stands before)) asked old new
+  pub answer : WritesAnswer settings script before (length lines + 1) line old new refused

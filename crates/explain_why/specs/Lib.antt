@@ -1,3 +1,4 @@
 pub mod Ahead
 pub mod Told
+pub mod Answers
 pub mod Explained

@@ -1,7 +1,8 @@
 //! Why a statement is answered as it is: its first cause, or the place of its area, with the numbers that decide.
 ghost use Rattle.macro_statements.specs.Requests.{act_in, asked_in, IsValidAct};
 ghost use Rattle.bench_core.specs.Stands.{bench_of, settings_in};
-ghost use Rattle.explain_why.specs.Told.{TellsFirstCause, TellsRequest};
+ghost use Rattle.place_reasons.specs.Told.{PutsSome};
+ghost use Rattle.explain_why.specs.Told.{TellsAct, TellsRequest};
 
 use crate::headings::{put_heading, put_number};
 use bench_core::Bench;
@@ -18,8 +19,9 @@ pub(crate) fn put_reasons<W: Write>(
     bench: &Bench,
     request: &Request,
 )
-    ensures { TellsRequest (settings_in bench.now) (bench_of bench.now).present (asked_in request.now)
+    ensures told { TellsRequest (settings_in bench.now) (bench_of bench.now).present (asked_in request.now)
         (W.contents writer.old) (W.contents writer.new) gathered.old gathered.new }
+    ensures some { PutsSome (W.contents writer.old) (W.contents writer.new) gathered.old gathered.new }
 {
     match request {
         Request::Act(statement) => put_act(gathered, writer, bench, statement),
@@ -50,9 +52,10 @@ pub(crate) fn put_reasons<W: Write>(
 
 /// Puts what a statement asks for, and why it's answered as it is.
 fn put_act<W: Write>(gathered: &mut Gathered, writer: &mut W, bench: &Bench, statement: &Statement)
-    ensures { IsValidAct (act_in statement.now) → TellsFirstCause (settings_in bench.now)
+    ensures told { IsValidAct (act_in statement.now) → TellsAct (settings_in bench.now)
         (bench_of bench.now).present (act_in statement.now)
         (W.contents writer.old) (W.contents writer.new) gathered.old gathered.new }
+    ensures some { PutsSome (W.contents writer.old) (W.contents writer.new) gathered.old gathered.new }
 {
     if statement.valid() {
         put_statement(gathered, writer, bench, statement);
@@ -66,7 +69,9 @@ fn put_peek<W: Write>(
     bench: &Bench,
     address: Value,
     count: u32,
-) {
+)
+    ensures { PutsSome (W.contents writer.old) (W.contents writer.new) gathered.old gathered.new }
+{
     if !address.valid() {
         return;
     }
@@ -80,7 +85,9 @@ fn put_peek<W: Write>(
 }
 
 /// Puts how many changes a step can go over, with the words for one and for more.
-fn put_step<W: Write>(gathered: &mut Gathered, writer: &mut W, n: u32, one: &str, more: &str) {
+fn put_step<W: Write>(gathered: &mut Gathered, writer: &mut W, n: u32, one: &str, more: &str)
+    ensures { PutsSome (W.contents writer.old) (W.contents writer.new) gathered.old gathered.new }
+{
     let text = if n == 1 { one } else { more };
     put_line(gathered, writer, &[Piece::Number(n), Piece::Text(text)]);
 }
@@ -93,8 +100,9 @@ fn put_statement<W: Write>(
     statement: &Statement,
 )
     requires { IsValidAct (act_in statement.now) }
-    ensures { TellsFirstCause (settings_in bench.now) (bench_of bench.now).present (act_in statement.now)
+    ensures told { TellsAct (settings_in bench.now) (bench_of bench.now).present (act_in statement.now)
         (W.contents writer.old) (W.contents writer.new) gathered.old gathered.new }
+    ensures some { PutsSome (W.contents writer.old) (W.contents writer.new) gathered.old gathered.new }
 {
     let mut room = [0; 4];
     let Some(service) = bench.service_of(statement, &mut room) else {

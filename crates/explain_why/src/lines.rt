@@ -1,24 +1,29 @@
 //! Why a line of a script is answered as it is.
-ghost use Rattle.std.specs.Prelude.{◌≡◌, ◌≤◌, [], IfOk, IfSome, OnOk, drop, length};
+ghost use Rattle.std.specs.Prelude.{◌≡◌, ◌≤◌, ◌++◌, [], List, ℕ, IfOk, IfSome, OnOk, codes, decimal, drop, length};
+ghost use Rattle.std.specs.Prelude.{take};
 ghost use Rattle.vsm_model.specs.declared.limits.Settings.{Settings};
+ghost use Rattle.script_steps.specs.Output.{Marked};
+ghost use Rattle.script_steps.specs.Responses.{response_text};
 ghost use Rattle.script_steps.specs.Script.{NoFeed};
 ghost use Rattle.script_steps.specs.Taken.{Took};
+ghost use Rattle.text_output.specs.Writing.{Puts};
 ghost use Rattle.bench_core.specs.Stands.{bench_of, settings_in};
 ghost use Rattle.place_reasons.specs.Told.{PutsSome};
 ghost use Rattle.explain_why.specs.Explained.{IsExplained, IsFound, IsPlaceOf, IsStatementAt, TakesLine};
 ghost use Rattle.explain_why.specs.Explained.{WritesAhead};
-ghost use Rattle.explain_why.specs.Told.{TellsAhead};
+ghost use Rattle.explain_why.specs.Answers.{PutsAnswer, WritesAnswer, answer_text, first_text, goes_on_text};
+ghost use Rattle.explain_why.specs.Answers.{no_memory_text, note_text, tells_refusal};
+ghost use Rattle.explain_why.specs.Told.{PutsBeginning, TellsAhead};
 
 use crate::ahead::{Ahead, NextStatement, read_ahead};
 use crate::causes::put_reasons;
 use crate::faults::WhyFault;
 use crate::headings::put_fault_heading;
 use bench_core::{Bench, Refusal};
-use place_reasons::{Piece, put_pieces};
 use script_steps::{LINES, NumberedResponse, ReaderState, Response, Session, Watch, put_response};
 use std::alloc::Global;
 use std::io::Write;
-use text_output::Gathered;
+use text_output::{Gathered, put_decimal};
 use vsm_model::Settings;
 
 /// The lines that a statement has at most.
@@ -125,32 +130,33 @@ fn seek<P: Watch>(
     Err(WhyFault::TooLong)
 }
 
-/// Puts that a line goes on with a statement, where it isn't the first.
+/// Puts the line that goes on with a statement.
+fn put_further<W: Write>(gathered: &mut Gathered, writer: &mut W, line: u32)
+    ensures { Puts (W.contents writer.old) (W.contents writer.new) gathered.old gathered.new
+        (codes " (line " ++ (decimal line ++ codes " goes on with it)")) }
+{
+    gathered.put(writer, b" (line ");
+    put_decimal(gathered, writer, u64::from(line));
+    gathered.put(writer, b" goes on with it)");
+}
+
+/// Puts that a line goes on with a statement, if it isn't the first.
 fn put_goes_on<W: Write>(gathered: &mut Gathered, writer: &mut W, first: u32, line: u32)
-    ensures { PutsSome (W.contents writer.old) (W.contents writer.new) gathered.old gathered.new }
+    ensures { Puts (W.contents writer.old) (W.contents writer.new) gathered.old gathered.new
+        (goes_on_text first line) }
 {
     if line != first {
-        put_pieces(
-            gathered,
-            writer,
-            &[
-                Piece::Text(" (line "),
-                Piece::Number(line),
-                Piece::Text(" goes on with it)"),
-            ],
-        );
+        put_further(gathered, writer, line);
     }
 }
 
 /// Puts the number of a statement's first line.
 fn put_first<W: Write>(gathered: &mut Gathered, writer: &mut W, first: u32, line: u32)
-    ensures { PutsSome (W.contents writer.old) (W.contents writer.new) gathered.old gathered.new }
+    ensures { Puts (W.contents writer.old) (W.contents writer.new) gathered.old gathered.new
+        (first_text first line) }
 {
-    put_pieces(
-        gathered,
-        writer,
-        &[Piece::Text("line "), Piece::Number(first)],
-    );
+    gathered.put(writer, b"line ");
+    put_decimal(gathered, writer, u64::from(first));
     put_goes_on(gathered, writer, first, line);
     gathered.put(writer, b": ");
 }
@@ -163,8 +169,10 @@ fn put_why<W: Write>(
     line: u32,
     place: &LinePlace,
 )
-    ensures { TellsAhead (settings_in bench.now) (bench_of bench.now).present place.now.ahead.asked
+    ensures told { TellsAhead (settings_in bench.now) (bench_of bench.now).present place.now.ahead.asked
         (W.contents writer.old) (W.contents writer.new) gathered.old gathered.new }
+    ensures begins { PutsBeginning (W.contents writer.old) (W.contents writer.new) gathered.old gathered.new
+        (first_text place.now.first line) }
 {
     put_first(gathered, writer, place.first, line);
     match &place.ahead.asked {
@@ -177,15 +185,33 @@ fn put_why<W: Write>(
     }
 }
 
-/// Puts that a statement got no memory, where that is its answer.
-fn put_no_memory<W: Write>(gathered: &mut Gathered, writer: &mut W, response: &Response)
-    ensures { PutsSome (W.contents writer.old) (W.contents writer.new) gathered.old gathered.new }
+/// Puts that a statement got no memory, if that is why it's refused.
+fn put_note<W: Write>(gathered: &mut Gathered, writer: &mut W, why: Refusal)
+    ensures { Puts (W.contents writer.old) (W.contents writer.new) gathered.old gathered.new (note_text why) }
 {
-    if let Response::Refused(Refusal::NoMemory) = response {
-        gathered.put(
+    match why {
+        Refusal::NoMemory => gathered.put(
             writer,
             b"  no rule refuses it: the program got no memory for it, and that alone is why\n",
-        );
+        ),
+        Refusal::Name | Refusal::Abend(_) => (),
+    }
+}
+
+/// Puts that a statement got no memory, if that is its answer.
+fn put_no_memory<W: Write>(gathered: &mut Gathered, writer: &mut W, response: &Response)
+    ensures { Puts (W.contents writer.old) (W.contents writer.new) gathered.old gathered.new
+        (no_memory_text response.now) }
+{
+    match response {
+        Response::Refused(why) => put_note(gathered, writer, *why),
+        Response::Replied(_)
+        | Response::Kept(_)
+        | Response::TooFar(_)
+        | Response::TooFarAhead(_)
+        | Response::Shown
+        | Response::Map
+        | Response::Fault(_) => (),
     }
 }
 
@@ -196,7 +222,8 @@ fn put_answered<W: Write>(
     shown: &[u8],
     response: &Response,
 )
-    ensures { PutsSome (W.contents writer.old) (W.contents writer.new) gathered.old gathered.new }
+    ensures { Puts (W.contents writer.old) (W.contents writer.new) gathered.old gathered.new
+        (codes "  answered: " ++ (response_text shown.now response.now ++ codes "\n")) }
 {
     gathered.put(writer, b"  answered: ");
     put_response(gathered, writer, shown, response);
@@ -210,18 +237,24 @@ fn put_answer<W: Write>(
     shown: &[u8],
     told: &NumberedResponse,
 ) -> bool
-    ensures { PutsSome (W.contents writer.old) (W.contents writer.new) gathered.old gathered.new }
+    ensures text { Puts (W.contents writer.old) (W.contents writer.new) gathered.old gathered.new
+        (answer_text shown.now told.now) }
+    ensures refused { result ≡ tells_refusal told.now }
 {
-    let Some((_, response)) = told else {
-        gathered.put(writer, b"  answered: nothing\n");
-        return false;
-    };
-    put_no_memory(gathered, writer, response);
-    put_answered(gathered, writer, shown, response);
-    response.is_refused()
+    match told {
+        Some((_, response)) => {
+            put_no_memory(gathered, writer, response);
+            put_answered(gathered, writer, shown, response);
+            response.is_refused()
+        }
+        None => {
+            gathered.put(writer, b"  answered: nothing\n");
+            false
+        }
+    }
 }
 
-/// Puts what the end of the script is answered, where the statement isn't answered before: the first of two answers.
+/// Takes what is left of the script, which has no line feed, and puts the first of the answers that the end brings.
 /// Says whether it's a refusal.
 fn put_answer_at_end<W: Write>(
     gathered: &mut Gathered,
@@ -230,22 +263,29 @@ fn put_answer_at_end<W: Write>(
     rest: &[u8],
 ) -> Result<bool, WhyFault>
     requires { NoFeed rest.now }
-    ensures { OnOk result (PutsSome (W.contents writer.old) (W.contents writer.new) gathered.old gathered.new) }
+    ensures some { OnOk result (PutsSome (W.contents writer.old) (W.contents writer.new) gathered.old gathered.new) }
+    ensures answer { (settings : Settings) (given : List ℕ) (before : List Marked) → Took settings given before session
+        → IfOk result (PutsAnswer settings (given ++ rest.now) before
+        (W.contents writer.old) (W.contents writer.new) gathered.old gathered.new) }
 {
     let mut session = session;
-    if session.take_bytes(rest).is_err() {
-        drop(session);
-        return Err(WhyFault::TooLong);
+    match session.take_bytes(rest) {
+        Ok(()) => {
+            let ending = session.end();
+            let told = ending.last.or(ending.open_statement);
+            let refused = put_answer(gathered, writer, ending.shown.as_slice(), &told);
+            drop(ending);
+            Ok(refused)
+        }
+        Err(_) => {
+            drop(session);
+            Err(WhyFault::TooLong)
+        }
     }
-    let ending = session.end();
-    let told = ending.last.or(ending.open_statement);
-    let refused = put_answer(gathered, writer, ending.shown.as_slice(), &told);
-    drop(ending);
-    Ok(refused)
 }
 
-/// Carries out the statement that begins at a place, before which the session stands, and puts its answer. Says whether
-/// it's a refusal.
+/// Takes the script from a place on, before which the session stands, up to the next answer, and puts that. Says
+/// whether it's a refusal.
 fn put_answer_at<W: Write>(
     gathered: &mut Gathered,
     writer: &mut W,
@@ -254,14 +294,20 @@ fn put_answer_at<W: Write>(
     at: usize,
 ) -> Result<bool, WhyFault>
     requires { at ≤ length script.now }
-    ensures { OnOk result (PutsSome (W.contents writer.old) (W.contents writer.new) gathered.old gathered.new) }
+    ensures some { OnOk result (PutsSome (W.contents writer.old) (W.contents writer.new) gathered.old gathered.new) }
+    ensures answer { (settings : Settings) (before : List Marked) → Took settings (take at script.now) before session
+        → IfOk result (PutsAnswer settings script.now before
+        (W.contents writer.old) (W.contents writer.new) gathered.old gathered.new) }
 {
     let mut session = session;
     let mut at = at;
-    for _ in 0..STATEMENT_LINES {
+    while at < script.len() {
         let step = match session.take_line(script, at) {
             Ok(Some(step)) => step,
-            Ok(None) => return put_answer_at_end(gathered, writer, session, &script[at..]),
+            Ok(None) => {
+                let rest = rest_from(script, at);
+                return put_answer_at_end(gathered, writer, session, rest);
+            }
             Err(_) => {
                 drop(session);
                 return Err(WhyFault::TooLong);
@@ -274,8 +320,7 @@ fn put_answer_at<W: Write>(
         }
         at = step.next;
     }
-    drop(session);
-    Ok(put_answer(gathered, writer, &[], &None))
+    put_answer_at_end(gathered, writer, session, &[])
 }
 
 /// Writes why the statement at a place, before which the session stands, is answered as it is. `true` where it's
@@ -288,8 +333,12 @@ fn tell<W: Write>(
     out: &mut W,
 ) -> Result<bool, WhyFault>
     requires { place.now.at ≤ length script.now }
-    ensures { OnOk result (WritesAhead (settings_in session.bench) (bench_of session.bench).present
+    ensures told { OnOk result (WritesAhead (settings_in session.bench) (bench_of session.bench).present
         place.now.ahead.asked (W.contents out.old) (W.contents out.new)) }
+    ensures answer { (settings : Settings) (before : List Marked)
+        → Took settings (take place.now.at script.now) before session
+        → IfOk result (WritesAnswer settings script.now before place.now.first line
+        (W.contents out.old) (W.contents out.new)) }
 {
     let mut gathered = Gathered::new();
     put_why(&mut gathered, out, session.bench(), line, place);
@@ -315,7 +364,7 @@ pub fn why<W: Write, P: Watch>(
     out: &mut W,
     watch: &mut P,
 ) -> Result<bool, WhyFault>
-    ensures { OnOk result (IsExplained settings script.now line (W.contents out.old) (W.contents out.new)) }
+    ensures { IfOk result (IsExplained settings script.now line (W.contents out.old) (W.contents out.new)) }
 {
     let bench = match Bench::new(alloc, settings) {
         Ok(bench) => bench,

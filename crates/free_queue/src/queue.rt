@@ -6,8 +6,9 @@ ghost use Rattle.run_set.specs.Counts.{joins};
 ghost use Rattle.run_set.specs.RunSet.{place_index};
 ghost use Rattle.run_set.specs.Runs.{inside, AreRunsOf, IsCover, IsEndFrom};
 ghost use Rattle.run_set.specs.Fits.{Fits, IsLeastFit, IsLongest};
+ghost use Rattle.run_set.specs.Sums.{IsSidesOf};
 
-use run_set::{Cover, Run, RunPlace, RunSet};
+use run_set::{Cover, Run, RunPlace, RunSet, SideSums};
 use vsm_elements::Elements;
 
 /// So many doublewords (8 bytes each), from the doubleword of this number on. Doubleword `d` has the
@@ -139,6 +140,15 @@ impl FreeQueue {
         ensures { IsLongest (λ d. is_free elements.now self.now d) region result boundary }
     {
         self.set.longest(elements, boundary, region)
+    }
+
+    /// What the free areas come to, in doublewords, that begin before a doubleword, and those that don't, which come
+    /// after these. It costs some descents, however many areas there are.
+    pub fn sums(&self, elements: &Elements, line: u32) -> SideSums
+        requires { IsFreeQueue elements.now self.now }
+        ensures { IsSidesOf line (areas elements.now self.now) result }
+    {
+        self.set.sums(elements, line)
     }
 
     /// The place before the first free area of any subpool.

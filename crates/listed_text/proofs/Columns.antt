@@ -1,6 +1,6 @@
 -- The column of the next byte.
-use Rattle.std.proofs.Common.{◌≡◌, ◌+◌, ◌∙◌, ℕ, suc, Bool, true, false, if◌then◌else◌, List, ap, subst, sym, arith}
-use Rattle.listed_text.specs.Letters.{column_of, continues}
+use Rattle.std.proofs.Common.{◌≡◌, ◌+◌, ◌∙◌, ℕ, suc, Bool, true, false, if◌then◌else◌, List, [], ◌∷◌, ◌++◌, ap, subst, sym, arith}
+use Rattle.listed_text.specs.Letters.{column_of, continues, shown_at, shown_to}
 
 next : (i : ℕ) → suc i ≡ i + 1
 next i = omega arith
@@ -18,3 +18,9 @@ column_more line i column more b e n is h = is ∙ ap (λ k. k + 1) h ∙ column
 pub column_same : (line : List ℕ) (i column more : ℕ) (b : Bool) → b ≡ continues line (i + 1) → b ≡ true → more ≡ column → column ≡ column_of line i
     → more ≡ column_of line (i + 1)
 column_same line i column more b e n is h = is ∙ h ∙ column_next line i true (sym n ∙ e)
+
+-- one byte more is shown
+pub shown_next : (line : List ℕ) (i : ℕ) (text more : List ℕ) (byte : ℕ) → text ≡ shown_to line i → byte ≡ shown_at line i → more ≡ text ++ byte ∷ []
+    → more ≡ shown_to line (i + 1)
+shown_next line i text more byte e b is =
+    is ∙ (λ k. e k ++ b k ∷ []) ∙ ap (shown_to line) (next i)

@@ -1,7 +1,7 @@
 -- The bytes of a line as a listing shows them, and the columns that they have there (RFC 3629, "UTF-8 definition" and
 -- "Syntax of UTF-8 Byte Sequences").
 use Rattle.std.specs.Prelude.{ℕ, zero, suc, ◌+◌, ◌-◌, Bool, ◌&&◌, ◌||◌, ◌==◌, nat_le, nat_lt, if◌then◌else◌, List}
-use Rattle.std.specs.Prelude.{slice_index_or}
+use Rattle.std.specs.Prelude.{[], ◌∷◌, ◌++◌, length, slice_index_or}
 
 -- how many bytes a letter has that begins with this one; 1 where none does
 abbrev pub letter_bytes : ℕ → ℕ
@@ -54,3 +54,11 @@ shown_at line at =
     if is_plain (slice_index_or line at 0) || nat_lt 1 (letter_at line at) || continues line at
     then slice_index_or line at 0
     else 46
+
+-- The first bytes of a line as they're shown, so many; and all of them.
+abbrev pub shown_to : List ℕ → ℕ → List ℕ
+shown_to line zero = []
+shown_to line (suc n) = shown_to line n ++ shown_at line n ∷ []
+
+abbrev pub shown : List ℕ → List ℕ
+shown line = shown_to line (length line)

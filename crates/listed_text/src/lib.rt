@@ -2,7 +2,9 @@
 #![tactic(auto)]
 
 mod letters;
+mod puts;
 mod words;
 
 pub use letters::column_of;
+pub use puts::{put_blanks, put_column, put_shown};
 pub use words::Words;

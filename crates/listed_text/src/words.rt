@@ -3,7 +3,6 @@ ghost use Rattle.std.specs.Prelude.{◌≡◌, ◌≤◌, ◌+◌, ◌++◌, len
 
 use crate::letters::{is_plain, shown_at};
 use arrayvec::ArrayVec;
-use itoa::Buffer;
 
 /// The most bytes of words that stand together: a line with the longest path that a file is opened by.
 const WORDS: usize = 4_608;
@@ -51,18 +50,5 @@ impl Words {
         for at in 0..bytes.len().min(WORDS) {
             self.add(&[shown_at(bytes, at)]);
         }
-    }
-
-    /// Appends so many blanks, 80 at most.
-    pub fn add_blanks(&mut self, count: usize) {
-        self.add(&[b' '; 80][..count.min(80)]);
-    }
-
-    /// Appends a number in decimal digits, behind blanks where it has fewer digits than the width.
-    pub fn add_number(&mut self, number: u32, width: usize) {
-        let mut buffer = Buffer::new();
-        let digits = buffer.format(number).as_bytes();
-        self.add_blanks(width.saturating_sub(digits.len()));
-        self.add(digits);
     }
 }

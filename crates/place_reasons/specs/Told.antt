@@ -1,11 +1,11 @@
 -- What is told of the place of an area: lines of text that end in the place, or in that there is none.
 use Rattle.std.specs.Prelude.{◌≡◌, ◌↔◌, ℕ, ◌*◌, ◌-◌, ◌^◌, min, Bool, true, not, List, [], ◌++◌, Option, Some, None}
-use Rattle.std.specs.Prelude.{codes}
+use Rattle.std.specs.Prelude.{codes, unwrap_or}
 use Rattle.vsm_model.specs.declared.services.Obtain.{Obtain}
 use Rattle.vsm_model.specs.Areas.{Place, Inside, Fresh, Nowhere, is_nowhere}
 use Rattle.vsm_model.specs.Obtaining.{longest, place_for}
 use Rattle.vsm_model.specs.Regions.{doublewords}
-use Rattle.vsm_model.specs.Services.{maximum, minimum}
+use Rattle.vsm_model.specs.Services.{minimum}
 use Rattle.vsm_model.specs.Texts.{hexadecimal}
 use Rattle.storage_plans.specs.Reasons.{side_place}
 use Rattle.storage_plans.specs.declared.reasons.SideReason.{SideReason}
@@ -49,13 +49,13 @@ pub record TellsSide (old new : Option (List ℕ)) (before after : Gathered) (it
   pub place : PutsEnding old new before after (found_text its)
   pub found : answer ≡ not (is_nowhere its)
 
--- Where a request comes to look for a place, what is put ends in the place that the plain machine gives to so many
--- doublewords, as many as it asks for where that is one length; or in that there is none, just where the request has no
--- longest length with one.
+-- If a request comes to look for a place, what is put ends in the place that the plain machine gives to as many
+-- doublewords as it gives the request: the greatest number that has a place, or its fewest if none has; or in that
+-- there is none, just if the request has no such number.
 abbrev pub TellsPlace : Storage → Obtain → Option (List ℕ) → Option (List ℕ) → Gathered → Gathered → Type 0
 TellsPlace s o old new before after =
     asks_for_place o ≡ true
     → (its : Place) × (count : ℕ) × (its ≡ place_for (settings_of s) (state_of s) o count)
-    × (minimum o.lengths ≡ maximum o.lengths → count ≡ doublewords (minimum o.lengths))
+    × (count ≡ unwrap_or (longest (settings_of s) (state_of s) o) (doublewords (minimum o.lengths)))
     × ((is_nowhere its ≡ true) ↔ (longest (settings_of s) (state_of s) o ≡ None))
     × PutsEnding old new before after (place_text its)

@@ -10,3 +10,5 @@ pub mod DiscardLemmas
 pub mod SearchLemmas
 pub mod CutOutLemmas
 pub mod PutLemmas
+pub mod TotalLemmas
+pub mod OneLemmas

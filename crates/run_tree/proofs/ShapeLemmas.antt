@@ -1,5 +1,5 @@
 -- What a shape holds, and that it is read off the elements.
-use Rattle.std.proofs.Common.{◌≡◌, ℕ, zero, suc, ◌+◌, ◌<◌, ◌≤◌, true, false, inl, inr, max, List, [], ◌∷◌, ◌++◌, length, refl, sym, ap, ◌∙◌, arith, IsSome, length-append}
+use Rattle.std.proofs.Common.{◌≡◌, ℕ, zero, suc, ◌+◌, ◌%◌, ◌^◌, ◌<◌, ◌≤◌, true, false, inl, inr, max, List, [], ◌∷◌, ◌++◌, length, refl, sym, ap, ◌∙◌, arith, IsSome, length-append}
 use Rattle.std.specs.Prelude.{slice_index_or}
 use Rattle.std.proofs.lemmas.Bool.Decides.{eqb_tells}
 use Rattle.vsm_elements.specs.declared.element.Element.{Element}
@@ -11,7 +11,7 @@ use Rattle.vsm_elements.proofs.ChainLemmas.{not_both}
 use Rattle.vsm_elements.proofs.ChainCalls.{element_is, some_of}
 use Rattle.run_tree.specs.declared.run.Run.{Run}
 use Rattle.run_tree.specs.declared.tree.RunTree.{RunTree}
-use Rattle.run_tree.specs.Shape.{Shape, leaf, node, runs_in, ids_in, size, top, written, Held, grown, longest, IsTreeOf}
+use Rattle.run_tree.specs.Shape.{Shape, leaf, node, runs_in, ids_in, size, top, written, Held, grown, longest, total, IsTreeOf}
 use Rattle.run_tree.proofs.Lists.{in_left, in_last, in_middle, in_parts}
 
 pub positive : (s : Store) (i : ℕ) → IsSome (at s i) → 0 < i
@@ -68,3 +68,11 @@ length-runs (node l id r q) = omega (arith, length-append (runs_in l) (r ∷ run
 
 pub longest_node : (room : Run → ℕ) (xs : List Run) (x : Run) (ys : List Run) (n : ℕ) → max (max (longest room xs) (room x)) (longest room ys) ≡ n → n ≡ longest room (xs ++ x ∷ ys)
 longest_node room xs x ys n e = omega (arith, e, longest-append room xs (x ∷ ys))
+
+-- the numbers of a list in parts, and what a word has of them
+pub total-append : (xs ys : List Run) → total (xs ++ ys) ≡ total xs + total ys
+total-append [] ys = omega arith
+total-append (x ∷ xs) ys = omega (arith, total-append xs ys)
+
+pub total_node : (xs : List Run) (x : Run) (ys : List Run) (a b n : ℕ) → a ≡ total xs % 2 ^ 32 → b ≡ total ys % 2 ^ 32 → (a + x.len + b) % 2 ^ 32 ≡ n → n ≡ total (xs ++ x ∷ ys) % 2 ^ 32
+total_node xs x ys a b n e f g = omega (arith, e, f, g, total-append xs (x ∷ ys))

@@ -1,5 +1,5 @@
 -- Trees of elements: what a node opens to, what is joined, and that a tree stays whose elements are as they were.
-use Rattle.std.proofs.Common.{◌≡◌, ℕ, zero, suc, ◌+◌, ◌-◌, ◌<◌, ◌≤◌, true, List, [], ◌∷◌, ◌++◌, length, take, drop, get_or, max, Some, Option, refl, sym, ap, ◌∙◌, arith, IsSome, subst, inl, inr, length-append}
+use Rattle.std.proofs.Common.{◌≡◌, ℕ, zero, suc, ◌+◌, ◌-◌, ◌%◌, ◌^◌, ◌<◌, ◌≤◌, true, List, [], ◌∷◌, ◌++◌, length, take, drop, get_or, max, Some, Option, refl, sym, ap, ◌∙◌, arith, IsSome, subst, inl, inr, length-append}
 use Rattle.std.specs.Prelude.{unwrap_or}
 use Rattle.std.proofs.lemmas.List.{nil_from_length}
 use Rattle.std.proofs.lemmas.Bool.Decides.{eqb_tells}
@@ -13,11 +13,11 @@ use Rattle.run_tree.specs.declared.run.Run.{Run}
 use Rattle.run_tree.specs.declared.tree.RunTree.{RunTree}
 use Rattle.run_tree.specs.declared.shape.RunNode.{RunNode}
 use Rattle.run_tree.specs.declared.shape.Rooms.{Rooms}
-use Rattle.run_tree.specs.Shape.{Shape, leaf, node, runs_in, ids_in, size, top, written, grown, longest, plain, paged, IsTreeOf}
+use Rattle.run_tree.specs.Shape.{Shape, leaf, node, runs_in, ids_in, size, top, written, grown, longest, plain, paged, total, IsTreeOf}
 use Rattle.run_tree.specs.Nodes.{IsLinked, AreRooms}
 use Rattle.run_tree.specs.Trees.{fitted, runs, owned, IsTree, Opens, Joins}
 use Rattle.run_tree.proofs.Lists.{in_parts, in_left, in_right, out_cons, distinct_left, distinct_right, not_middle}
-use Rattle.run_tree.proofs.ShapeLemmas.{longest_node, size_node, Held-same, live_in, read_off, length-runs}
+use Rattle.run_tree.proofs.ShapeLemmas.{longest_node, total_node, size_node, Held-same, live_in, read_off, length-runs}
 
 -- from a shape
 
@@ -153,11 +153,11 @@ opens_linked s h e x some a = go (grown s h.count h.root) x where
   go (node l id r q) t =
       let is : element s h.root ≡ e = element_is s h.root e a in
       let w : e ≡ written l r q = top_is s h l id r q e t a in
-      let P : Element → Type 0 = λ z. take 2 z.words ≡ get_or z.words 0 0 ∷ get_or z.words 1 0 ∷ [] in
+      let P : Element → Type 0 = λ z. take 3 z.words ≡ get_or z.words 0 0 ∷ get_or z.words 1 0 ∷ get_or z.words 2 0 ∷ [] in
       record {
         next = ap (λ (z : Element). z.next) is;
-        front = ap (λ (z : Element). take 2 z.words) is ∙ subst P (sym w) refl;
-        end = ap (λ (z : Element). drop 6 z.words) (is ∙ w);
+        front = ap (λ (z : Element). take 3 z.words) is ∙ subst P (sym w) refl;
+        end = ap (λ (z : Element). drop 7 z.words) (is ∙ w);
       }
 
 pub top_live : (s : Store) (h : RunTree) → IsTree s h → 0 < h.count → IsSome (at s h.root)
@@ -170,27 +170,31 @@ top_live s h x some = go (grown s h.count h.root) x where
 pub left_fits : (s : Store) (h : RunTree) (e : Element) → IsTree s h → 0 < h.count → at s h.root ≡ Some e → get_or e.words 1 0 + 1 ≤ h.count
 left_fits s h e x some a = let o : Opens s h (opened h e) = opens s h e x some a in omega (arith, o.count, some)
 
--- what the top says of the longest runs
+-- what the top says of the longest runs, and of the numbers of all
 pub top_rooms : (s : Store) (h : RunTree) (e : Element) → IsTree s h → 0 < h.count → at s h.root ≡ Some e
-    → (get_or e.words 4 0 ≡ longest plain (runs s h)) × (get_or e.words 5 0 ≡ longest paged (runs s h))
+    → (get_or e.words 4 0 ≡ longest plain (runs s h)) × (get_or e.words 5 0 ≡ longest paged (runs s h)) × (get_or e.words 6 0 ≡ total (runs s h) % 2 ^ 32)
 unfolding IsTree
 top_rooms s h e x some a = go (grown s h.count h.root) x where
-  go : (y : Shape) → IsTreeOf s h y → (get_or e.words 4 0 ≡ longest plain (runs s h)) × (get_or e.words 5 0 ≡ longest paged (runs s h))
+  go : (y : Shape) → IsTreeOf s h y → (get_or e.words 4 0 ≡ longest plain (runs s h)) × (get_or e.words 5 0 ≡ longest paged (runs s h)) × (get_or e.words 6 0 ≡ total (runs s h) % 2 ^ 32)
   go leaf t = absurd (omega (arith, t.count, some))
   go (node l id r q) t =
       let k : e ≡ written l r q = top_is s h l id r q e t a in
-      let f : runs s h ≡ runs_in l ++ r ∷ runs_in q = runs_are s h (node l id r q) t in
-      (ap (λ (z : Element). get_or z.words 4 0) k ∙ sym (ap (longest plain) f), ap (λ (z : Element). get_or z.words 5 0) k ∙ sym (ap (longest paged) f))
+      let f : runs s h ≡ runs_in l ++ r ∷ runs_in q = runs_are s h (node l id r q) t in (
+        ap (λ (z : Element). get_or z.words 4 0) k ∙ sym (ap (longest plain) f),
+        ap (λ (z : Element). get_or z.words 5 0) k ∙ sym (ap (longest paged) f),
+        ap (λ (z : Element). get_or z.words 6 0) k ∙ sym (ap (λ (rs : List Run). total rs % 2 ^ 32) f),
+      )
 
 -- an element becomes a node
 
 module _ (s t : Store) (left : RunTree) (id : ℕ) (run : Run) (right : RunTree)
     (tl : IsTree s left) (tq : IsTree s right) (distinct : Distinct (owned s left ++ id ∷ owned s right)) (live : IsSome (at s id)) where
-  pub joins : (p g : ℕ) (h : RunTree) → p ≡ longest plain (runs s left ++ run ∷ runs s right) → g ≡ longest paged (runs s left ++ run ∷ runs s right)
-      → Updates s t id (Some (record { next = left.root; words = right.root ∷ left.count ∷ run.start ∷ run.len ∷ p ∷ g ∷ 0 ∷ [] })) → t.spare ≡ s.spare
+  pub joins : (p g n : ℕ) (h : RunTree) → p ≡ longest plain (runs s left ++ run ∷ runs s right) → g ≡ longest paged (runs s left ++ run ∷ runs s right)
+      → n ≡ total (runs s left ++ run ∷ runs s right) % 2 ^ 32
+      → Updates s t id (Some (record { next = left.root; words = right.root ∷ left.count ∷ run.start ∷ run.len ∷ p ∷ g ∷ n ∷ [] })) → t.spare ≡ s.spare
       → h.root ≡ id → h.count ≡ left.count + right.count + 1 → Joins s t left id run right h
   unfolding owned IsTree
-  joins p g h ep eg up spare root count =
+  joins p g n h ep eg en up spare root count =
       let l : Shape = grown s left.count left.root in
       let q : Shape = grown s right.count right.root in
       let a : left.root ≡ top l = tl.root in
@@ -198,7 +202,7 @@ module _ (s t : Store) (left : RunTree) (id : ℕ) (run : Run) (right : RunTree)
       let c : left.count ≡ size l = tl.count in
       let rl : runs s left ≡ runs_in l = read_runs s left tl in
       let rq : runs s right ≡ runs_in q = read_runs s right tq in
-      let same : ◌≡◌ {A = Element} (record { next = left.root; words = right.root ∷ left.count ∷ run.start ∷ run.len ∷ p ∷ g ∷ 0 ∷ [] }) (written l run q) = cc in
+      let same : ◌≡◌ {A = Element} (record { next = left.root; words = right.root ∷ left.count ∷ run.start ∷ run.len ∷ p ∷ g ∷ n ∷ [] }) (written l run q) = cc in
       let x : IsTreeOf t h (node l id run q) = record {
         root = root;
         count = count ∙ omega (arith, c, tq.count, size_node l id run q);
@@ -220,33 +224,38 @@ module _ (s t : Store) (left : RunTree) (id : ℕ) (run : Run) (right : RunTree)
         as_many = up.as_many;
       }
 
--- a node has another run, or other trees below it with the same tops
+-- a node has other trees below it with the same tops
 
 pub linked_kept : (s u : Store) (n : RunNode) → at u n.id ≡ at s n.id → IsLinked s n → IsLinked u n
 linked_kept s u n e l =
     let is : element u n.id ≡ element s n.id = ap (λ (o : Option Element). unwrap_or o blank) e in
     record {
       next = ap (λ (z : Element). z.next) is ∙ l.next;
-      front = ap (λ (z : Element). take 2 z.words) is ∙ l.front;
-      end = ap (λ (z : Element). drop 6 z.words) is ∙ l.end;
+      front = ap (λ (z : Element). take 3 z.words) is ∙ l.front;
+      end = ap (λ (z : Element). drop 7 z.words) is ∙ l.end;
     }
 
 module _ (before behind over : Rooms) (xs : List Run) (r : Run) (ys : List Run) (b : AreRooms before xs) (c : AreRooms behind ys)
-    (p : over.plain ≡ max (max before.plain (plain r)) behind.plain) (g : over.paged ≡ max (max before.paged (paged r)) behind.paged) where
+    (p : over.plain ≡ max (max before.plain (plain r)) behind.plain) (g : over.paged ≡ max (max before.paged (paged r)) behind.paged)
+    (n : over.total ≡ (before.total + r.len + behind.total) % 2 ^ 32) where
   pub over_rooms : AreRooms over (xs ++ r ∷ ys)
-  over_rooms = (longest_node plain xs r ys over.plain (omega (arith, p, b.0, c.0)), longest_node paged xs r ys over.paged (omega (arith, g, b.1, c.1)))
+  over_rooms = (
+    longest_node plain xs r ys over.plain (omega (arith, p, b.0, c.0)),
+    longest_node paged xs r ys over.paged (omega (arith, g, b.1, c.1)),
+    total_node xs r ys before.total behind.total over.total b.2 c.2 (sym n),
+  )
 
-pub renews : (s t : Store) (n : RunNode) (run : Run) (rooms : Rooms) → IsTree s n.left → IsTree s n.right → Distinct (owned s n.left ++ n.id ∷ owned s n.right) → IsSome (at s n.id) → IsLinked s n
-    → AreRooms rooms (runs s n.left ++ run ∷ runs s n.right) → Updates s t n.id (Some (with_four (element s n.id) 2 (run.start ∷ run.len ∷ rooms.plain ∷ rooms.paged ∷ []))) → t.spare ≡ s.spare
-    → Joins s t n.left n.id run n.right (record { root = n.id; count = n.left.count + n.right.count + 1 })
-renews s t n run rooms tl tq distinct live l are up spare =
-    let four : List ℕ = run.start ∷ run.len ∷ rooms.plain ∷ rooms.paged ∷ [] in
+pub renews : (s t : Store) (n : RunNode) (rooms : Rooms) → IsTree s n.left → IsTree s n.right → Distinct (owned s n.left ++ n.id ∷ owned s n.right) → IsSome (at s n.id) → IsLinked s n
+    → AreRooms rooms (runs s n.left ++ n.run ∷ runs s n.right) → Updates s t n.id (Some (with_four (element s n.id) 3 (n.run.len ∷ rooms.plain ∷ rooms.paged ∷ rooms.total ∷ []))) → t.spare ≡ s.spare
+    → Joins s t n.left n.id n.run n.right (record { root = n.id; count = n.left.count + n.right.count + 1 })
+renews s t n rooms tl tq distinct live l are up spare =
+    let four : List ℕ = n.run.len ∷ rooms.plain ∷ rooms.paged ∷ rooms.total ∷ [] in
     let P : Element → Type 0 = λ z. Updates s t n.id (Some z) in
-    let same : ◌≡◌ {A = Element} (with_four (element s n.id) 2 four) (record { next = n.left.root; words = n.right.root ∷ n.left.count ∷ run.start ∷ run.len ∷ rooms.plain ∷ rooms.paged ∷ 0 ∷ [] }) =
-    ap (λ (z : ℕ). record { next = z; words = take 2 ((element s n.id).words) ++ four ++ drop 6 ((element s n.id).words) }) l.next
-    ∙ ap (λ (z : List ℕ). record { next = n.left.root; words = z ++ four ++ drop 6 ((element s n.id).words) }) l.front
-    ∙ ap (λ (z : List ℕ). record { next = n.left.root; words = (n.right.root ∷ n.left.count ∷ []) ++ four ++ z }) l.end in
-    joins s t n.left n.id run n.right tl tq distinct live rooms.plain rooms.paged _ are.0 are.1 (subst P same up) spare refl refl
+    let same : ◌≡◌ {A = Element} (with_four (element s n.id) 3 four) (record { next = n.left.root; words = n.right.root ∷ n.left.count ∷ n.run.start ∷ n.run.len ∷ rooms.plain ∷ rooms.paged ∷ rooms.total ∷ [] }) =
+    ap (λ (z : ℕ). record { next = z; words = take 3 ((element s n.id).words) ++ four ++ drop 7 ((element s n.id).words) }) l.next
+    ∙ ap (λ (z : List ℕ). record { next = n.left.root; words = z ++ four ++ drop 7 ((element s n.id).words) }) l.front
+    ∙ ap (λ (z : List ℕ). record { next = n.left.root; words = (n.right.root ∷ n.left.count ∷ n.run.start ∷ []) ++ four ++ z }) l.end in
+    joins s t n.left n.id n.run n.right tl tq distinct live rooms.plain rooms.paged rooms.total _ are.0 are.1 are.2 (subst P same up) spare refl refl
 
 pub no_runs : (s : Store) (h : RunTree) → IsTree s h → h.count ≡ 0 → runs s h ≡ []
 no_runs s h t e = nil_from_length (runs s h) (length-tree s h t ∙ e)

@@ -1,6 +1,6 @@
 -- A tree of elements: each node has its run, the list before it and the list behind it, and writes into its element
--- how many are before it and how long the longest of all its runs is.
-use Rattle.std.specs.Prelude.{◌≡◌, ℕ, zero, suc, ◌+◌, ◌-◌, ◌*◌, ◌/◌, max, Bool, true, false, List, [], ◌∷◌, ◌++◌}
+-- how many are before it, how long the longest of all its runs is, and how many numbers these have.
+use Rattle.std.specs.Prelude.{◌≡◌, ℕ, zero, suc, ◌+◌, ◌-◌, ◌*◌, ◌/◌, ◌%◌, ◌^◌, max, Bool, true, false, List, [], ◌∷◌, ◌++◌}
 use Rattle.std.specs.Prelude.{length, Some, slice_index_or}
 use Rattle.vsm_elements.specs.declared.element.Element.{Element}
 use Rattle.vsm_elements.specs.Store.{Store, at, Distinct}
@@ -46,12 +46,17 @@ abbrev pub longest : (Run → ℕ) → List Run → ℕ
 longest room [] = 0
 longest room (r ∷ rs) = max (room r) (longest room rs)
 
--- what stands in the element of a node
+-- the numbers of all of them
+abbrev pub total : List Run → ℕ
+total [] = 0
+total (r ∷ rs) = r.len + total rs
+
+-- what stands in the element of a node: of the numbers what a word has of them
 abbrev pub written : Shape → Run → Shape → Element
 written l r q = record {
   next = top l;
   words = top q ∷ size l ∷ r.start ∷ r.len ∷ longest plain (runs_in l ++ r ∷ runs_in q) ∷
-      longest paged (runs_in l ++ r ∷ runs_in q) ∷ 0 ∷ [];
+      longest paged (runs_in l ++ r ∷ runs_in q) ∷ total (runs_in l ++ r ∷ runs_in q) % 2 ^ 32 ∷ [];
 }
 
 abbrev pub Held : Store → Shape → Type 0

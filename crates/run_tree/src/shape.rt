@@ -1,6 +1,6 @@
-ghost use Rattle.std.specs.Prelude.{◌≡◌, max, ◌+◌, ◌<◌, ◌∷◌, ◌++◌, IsSome, []};
+ghost use Rattle.std.specs.Prelude.{◌≡◌, max, ◌+◌, ◌%◌, ◌^◌, ◌<◌, ◌∷◌, ◌++◌, IsSome, []};
 ghost use Rattle.vsm_elements.specs.Store.{Store, at, Distinct};
-ghost use Rattle.run_tree.specs.Shape.{longest, plain, paged, room_of};
+ghost use Rattle.run_tree.specs.Shape.{longest, plain, paged, room_of, total};
 
 use crate::run::Run;
 use crate::tree::RunTree;
@@ -15,11 +15,13 @@ pub(crate) struct RunNode {
     pub(crate) right: RunTree,
 }
 
-// How much room the longest run has, from its first number and from its first number on a page.
+// How much room the longest run has, from its first number and from its first number on a page; and how many numbers
+// all runs have, as far as a word has it: without what goes beyond 2^32.
 #[derive(Clone, Copy)]
 pub(crate) struct Rooms {
     pub(crate) plain: u32,
     pub(crate) paged: u32,
+    pub(crate) total: u32,
 }
 
 // How many numbers a page has.
@@ -43,14 +45,16 @@ pub(crate) fn room(run: Run, paged: bool) -> u32
 }
 
 impl Rooms {
-    // The most room of two lists and a run between them.
+    // The most room of two lists and a run between them, and their numbers.
     fn around(self, run: Run, behind: Rooms) -> Rooms
         ensures plain { result.plain ≡ max (max self.plain (plain run)) behind.plain }
         ensures paged { result.paged ≡ max (max self.paged (paged run)) behind.paged }
+        ensures total { result.total ≡ (self.total + run.len + behind.total) % 2 ^ 32 }
     {
         Rooms {
             plain: self.plain.max(run.len).max(behind.plain),
             paged: self.paged.max(paged_room(run)).max(behind.paged),
+            total: self.total.wrapping_add(run.len).wrapping_add(behind.total),
         }
     }
 }
@@ -96,27 +100,32 @@ impl RunTree {
         }
     }
 
-    // The most room of the tree's runs.
+    // The most room of the tree's runs, and their numbers.
     pub(crate) fn rooms(self, elements: &Elements) -> Rooms
         requires tree { IsTree elements.now self }
         ensures plain { result.plain ≡ longest plain (runs elements.now self) }
         ensures paged { result.paged ≡ longest paged (runs elements.now self) }
+        ensures total { result.total ≡ total (runs elements.now self) % 2 ^ 32 }
     {
         if self.count == 0 {
-            return Rooms { plain: 0, paged: 0 };
+            return Rooms {
+                plain: 0,
+                paged: 0,
+                total: 0,
+            };
         }
         let words = elements.get(self.root).words;
         Rooms {
             plain: words[4],
             paged: words[5],
+            total: words[6],
         }
     }
 
-    // The node has this run, over trees with this most room each. What else its element says stays.
+    // The node's element says anew what it and the trees below it have, which have this each. Its run stays.
     pub(crate) fn renew(
         elements: &mut Elements,
         node: RunNode,
-        run: Run,
         before: Rooms,
         behind: Rooms,
     ) -> Rooms
@@ -127,12 +136,55 @@ impl RunTree {
         requires linked { IsLinked elements.old node }
         requires before { AreRooms before (runs elements.old node.left) }
         requires behind { AreRooms behind (runs elements.old node.right) }
-        ensures joins { Joins elements.old elements.new node.left node.id run node.right
+        ensures joins { Joins elements.old elements.new node.left node.id node.run node.right
             (record { root = node.id; count = node.left.count + node.right.count + 1 }) }
-        ensures rooms { AreRooms result (runs elements.old node.left ++ run ∷ runs elements.old node.right) }
+        ensures rooms { AreRooms result
+            (runs elements.old node.left ++ node.run ∷ runs elements.old node.right) }
     {
+        let rooms = before.around(node.run, behind);
+        elements.set_four(
+            node.id,
+            3,
+            [node.run.len, rooms.plain, rooms.paged, rooms.total],
+        );
+        rooms
+    }
+
+    // A live element says what a node over two trees does, and what it and they have.
+    pub(crate) fn fill(
+        elements: &mut Elements,
+        left: RunTree,
+        id: Id,
+        run: Run,
+        right: RunTree,
+    ) -> Rooms
+        requires left { IsTree elements.old left }
+        requires right { IsTree elements.old right }
+        requires distinct { Distinct (owned elements.old left ++ id ∷ owned elements.old right) }
+        requires live { IsSome (at elements.old id) }
+        ensures joins { Joins elements.old elements.new left id run right
+            (record { root = id; count = left.count + right.count + 1 }) }
+        ensures rooms { AreRooms result (runs elements.old left ++ run ∷ runs elements.old right) }
+    {
+        let before = left.rooms(elements);
+        let behind = right.rooms(elements);
         let rooms = before.around(run, behind);
-        elements.set_four(node.id, 2, [run.start, run.len, rooms.plain, rooms.paged]);
+        let words = [
+            right.root,
+            left.count,
+            run.start,
+            run.len,
+            rooms.plain,
+            rooms.paged,
+            rooms.total,
+        ];
+        elements.set(
+            id,
+            Element {
+                next: left.root,
+                words,
+            },
+        );
         rooms
     }
 
@@ -151,25 +203,7 @@ impl RunTree {
         ensures { Joins elements.old elements.new left id run right result }
     {
         elements.ids_in_range();
-        let before = left.rooms(elements);
-        let behind = right.rooms(elements);
-        let rooms = before.around(run, behind);
-        let words = [
-            right.root,
-            left.count,
-            run.start,
-            run.len,
-            rooms.plain,
-            rooms.paged,
-            0,
-        ];
-        elements.set(
-            id,
-            Element {
-                next: left.root,
-                words,
-            },
-        );
+        let _rooms = RunTree::fill(elements, left, id, run, right);
         RunTree {
             root: id,
             count: left.count + right.count + 1,

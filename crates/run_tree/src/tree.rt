@@ -1,8 +1,8 @@
-ghost use Rattle.std.specs.Prelude.{◌≡◌, ℕ, ◌+◌, ◌<◌, ◌≤◌, ◌++◌, ◌∷◌, [], Some, IsSome, false, Bool, slice_get};
+ghost use Rattle.std.specs.Prelude.{◌≡◌, ℕ, ◌+◌, ◌%◌, ◌^◌, ◌<◌, ◌≤◌, ◌++◌, ◌∷◌, [], Some, IsSome, false, Bool, slice_get};
 ghost use Rattle.std.specs.Prelude.{slice_set, take, drop, length};
 ghost use Rattle.vsm_elements.specs.Store.{Store, Distinct, at, among};
 ghost use Rattle.vsm_elements.specs.Ownership.{Leaves};
-ghost use Rattle.run_tree.specs.Shape.{longest, room_of};
+ghost use Rattle.run_tree.specs.Shape.{longest, room_of, total};
 
 use crate::run::Run;
 use crate::shape::{Rooms, room};
@@ -127,7 +127,7 @@ impl RunTree {
         }
     }
 
-    // The run at `k` is another one. It answers the most room of the tree's runs then.
+    // The run at `k` is another one. It answers the most room of the tree's runs then, and their numbers.
     fn rewrite(self, elements: &mut Elements, k: u32, run: Run) -> Rooms
         requires tree { IsTree elements.old self }
         requires place { k < self.count }
@@ -139,16 +139,24 @@ impl RunTree {
         if k < middle {
             let before = node.left.rewrite(elements, k, run);
             let behind = node.right.rooms(elements);
-            RunTree::renew(elements, node, node.run, before, behind)
+            RunTree::renew(elements, node, before, behind)
         } else if k == middle {
-            let before = node.left.rooms(elements);
-            let behind = node.right.rooms(elements);
-            RunTree::renew(elements, node, run, before, behind)
+            RunTree::fill(elements, node.left, node.id, run, node.right)
         } else {
             let before = node.left.rooms(elements);
             let behind = node.right.rewrite(elements, k - middle - 1, run);
-            RunTree::renew(elements, node, node.run, before, behind)
+            RunTree::renew(elements, node, before, behind)
         }
+    }
+
+    // The run of a tree of one is another one: that needs no descent.
+    fn rewrite_one(self, elements: &mut Elements, run: Run)
+        requires tree { IsTree elements.old self }
+        requires one { self.count ≡ 1 }
+        ensures { Writes elements.old elements.new self 0 run }
+    {
+        let none = RunTree::empty();
+        let _rooms = RunTree::fill(elements, none, self.root, run, none);
     }
 
     /// A list without runs.
@@ -202,7 +210,11 @@ impl RunTree {
         ensures owned { Leaves elements.old elements.new (owned elements.old self) (owned elements.new self) }
         ensures spares { elements.new.spare ≡ elements.old.spare }
     {
-        let _rooms = self.rewrite(elements, k, run);
+        if self.count == 1 {
+            self.rewrite_one(elements, run);
+        } else {
+            let _rooms = self.rewrite(elements, k, run);
+        }
     }
 
     /// The run at `k`.
@@ -328,6 +340,32 @@ impl RunTree {
         let before = node.left.most_room(elements, from, middle, paged);
         let behind = node.right.most_room(elements, 0, to - middle - 1, paged);
         before.max(room(node.run, paged)).max(behind)
+    }
+
+    /// How many numbers the first `k` runs have, without what goes beyond 2^32.
+    pub fn total_before(self, elements: &Elements, k: u32) -> u32
+        requires tree { IsTree elements.now self }
+        requires place { k ≤ self.count }
+        ensures { result ≡ total (take k (runs elements.now self)) % 2 ^ 32 }
+    {
+        let mut tree = self;
+        let mut rest = k;
+        let mut numbers = 0u32;
+        while rest > 0 {
+            let node = tree.open(elements);
+            let middle = node.left.count;
+            if rest <= middle {
+                tree = node.left;
+            } else {
+                let before = node.left.rooms(elements);
+                numbers = numbers
+                    .wrapping_add(before.total)
+                    .wrapping_add(node.run.len);
+                rest = rest - middle - 1;
+                tree = node.right;
+            }
+        }
+        numbers
     }
 
     /// Gives back every element of the tree.

@@ -25,7 +25,7 @@ same_statement : (x y : Act) → Some (Apply x) ≡ Some (Apply y) → x ≡ y
 same_statement x y e = cc
 
 -- the text of a response to a call is the same whatever is shown
-call_text : (call : Call Act) (answer : Answer Reply Why) (kept : ℕ) (bytes others : List ℕ) →
+pub call_text : (call : Call Act) (answer : Answer Reply Why) (kept : ℕ) (bytes others : List ℕ) →
     response_text bytes (response_to call answer kept) ≡ response_text others (response_to call answer kept)
 call_text call (Replied reply) kept bytes others = refl
 call_text call (RefusedFor why) kept bytes others = refl
@@ -38,7 +38,7 @@ call_text (Forward m) (TooFar n) kept bytes others = refl
 call_text Look (TooFar n) kept bytes others = refl
 
 -- that of a reading has its bytes
-reading_text : (r : Result (List ℕ) Why) (bytes : List ℕ) → AreShown r bytes → response_text bytes (reading_response r) ≡ response_text (bytes_of r) (reading_response r)
+pub reading_text : (r : Result (List ℕ) Why) (bytes : List ℕ) → AreShown r bytes → response_text bytes (reading_response r) ≡ response_text (bytes_of r) (reading_response r)
 reading_text (Ok read) bytes h = ap (λ xs. response_text xs response.Shown) h
 reading_text (Err why) bytes h = refl
 

@@ -103,6 +103,11 @@ Shows settings answers (m ∷ []) bytes =
     ShowsRead settings (stands_all settings nothing_stands answers) m.answer.what bytes
 Shows settings answers _ bytes = Unit {0}
 
+-- The totals of a script with these answers.
+abbrev pub Counts : Settings → List Marked → RunTotals → Type 0
+Counts settings answers totals =
+    (totals.statements ≡ length answers) × (totals.refused ≡ refusals settings nothing_stands answers)
+
 -- What the end of a script brings: the answers to a last line without a line feed, and then to an open statement, which
 -- leaves the bench as it was.
 pub record EndBrings (settings : Settings) (given : List ℕ) (answers : List Marked) (e : Ending) : Type 0 where
@@ -111,11 +116,8 @@ pub record EndBrings (settings : Settings) (given : List ℕ) (answers : List Ma
   pub last : Brings settings answers more e.last
   pub shows : Shows settings answers more e.shown.items
   pub unended : Brings settings (answers ++ more) also e.open_statement
+  pub shows_on : Shows settings (answers ++ more) also e.shown.items
   pub led : Led settings (answers ++ more) (bench_of e.bench)
   pub led_on : Led settings ((answers ++ more) ++ also) (bench_of e.bench)
   pub ended : Ended settings given ((answers ++ more) ++ also)
-
--- The totals of a script with these answers.
-abbrev pub Counts : Settings → List Marked → RunTotals → Type 0
-Counts settings answers totals =
-    (totals.statements ≡ length answers) × (totals.refused ≡ refusals settings nothing_stands answers)
+  pub counts : Counts settings ((answers ++ more) ++ also) e.totals

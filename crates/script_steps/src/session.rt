@@ -54,6 +54,13 @@ impl Session {
         self.shown.as_slice()
     }
 
+    /// The room of these bytes.
+    pub fn shown_room(&self) -> &ArrayVec<u8, 256>
+        ensures { result.now ≡ self.now.shown }
+    {
+        &self.shown
+    }
+
     /// How many lines have ended: 1,048,576 at most.
     pub fn lines(&self) -> u32
         ensures { result ≡ self.now.lines }

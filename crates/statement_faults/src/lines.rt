@@ -1,5 +1,5 @@
 //! The lines of a script.
-ghost use Rattle.std.specs.Prelude.{◌≡◌, ◌≤◌, length};
+ghost use Rattle.std.specs.Prelude.{◌≡◌, ◌≤◌, ◌⊎◌, ◌++◌, ◌∷◌, [], length};
 ghost use Rattle.std.specs.Str.Lines.{strip_carriage_return};
 ghost use Rattle.statement_faults.specs.Places.{line_in};
 
@@ -51,25 +51,35 @@ pub struct OpenLines {
 
 impl OpenLines {
     /// No lines.
-    pub fn new() -> OpenLines {
+    pub fn new() -> OpenLines
+        ensures { result.lines.items ≡ [] }
+    {
         OpenLines {
             lines: ArrayVec::new(),
         }
     }
 
     /// Takes all lines out.
-    pub fn clear(&mut self) {
+    pub fn clear(&mut self)
+        ensures { self.new.lines.items ≡ [] }
+    {
         self.lines.clear();
     }
 
     /// Puts a line behind the others; an eleventh is left out.
-    pub fn push(&mut self, line: SourceLine) {
+    pub fn push(&mut self, line: SourceLine)
+        ensures whole { length self.old.lines.items ≤ 9
+            → self.new.lines.items ≡ self.old.lines.items ++ line ∷ [] }
+        ensures some { (self.new.lines.items ≡ self.old.lines.items ++ line ∷ [])
+            ⊎ (self.new.lines.items ≡ self.old.lines.items) }
+    {
         let _ = self.lines.try_push(line);
     }
 
     /// The lines so far, in their order.
     pub fn as_slice(&self) -> &[SourceLine]
-        ensures { length result.now ≤ 10 }
+        ensures few { length result.now ≤ 10 }
+        ensures value { result.now ≡ self.now.lines.items }
     {
         self.lines.as_slice()
     }

@@ -1,18 +1,17 @@
 -- Extents and free areas that are walked over: where one ends, and that none comes behind the last.
 use Rattle.std.proofs.Common.{◌≡◌, ℕ, zero, suc, ◌+◌, ◌^◌, ◌<◌, ◌≤◌, List, [], ◌∷◌, Some, None, refl, sym, ap, ◌∙◌, arith}
 use Rattle.std.proofs.Props.{props}
-use Rattle.std.specs.Prelude.{slice_get, option_map, Option, IfSome}
+use Rattle.std.specs.Prelude.{slice_get}
 use mathlib.Core.Logic.{∥∥₁_elim}
 use Rattle.run_set.specs.Runs.{Run}
 use Rattle.run_set.specs.RunSet.{place_index}
-use Rattle.run_set.specs.declared.places.RunPlace.{RunPlace}
 use Rattle.descriptor_queue.specs.Extents as queue
 use Rattle.descriptor_queue.specs.Pages.{page_runs}
 use Rattle.descriptor_queue.specs.Laws.{PagesStand}
 use Rattle.free_queue.specs.FreeQueue as free_queue
 use Rattle.vsm_model.specs.declared.Subpool.{Subpool}
 use Rattle.subpool_storage.specs.Extents.{extents, free_areas}
-use Rattle.storage_changes.specs.MapLists.{ExtentsEndInRegions, FreeAreasEndInRegions, UnassignedEndInRegions, UnassignedAreOne, unassigned_runs}
+use Rattle.storage_changes.specs.MapLists.{ExtentsEndInRegions, FreeAreasEndInRegions, UnassignedAreOne, unassigned_runs}
 use Rattle.storage_core.specs.declared.storage.Storage.{Storage}
 use Rattle.storage_core.specs.declared.walks.ExtentPlace.{ExtentPlace}
 use Rattle.storage_core.specs.declared.walks.FreeAreaPlace.{FreeAreaPlace}
@@ -58,16 +57,3 @@ module _ (law : FreeAreasEndInRegions) (s : Storage) where
 pub unassigned_are : UnassignedAreOne → PagesStand → (s : Storage) → page_runs s.parts.elements s.parts.unassigned ≡ unassigned_runs (state_in_place s)
 unassigned_are one stand s =
     one (state_in_place s) (page_runs s.parts.elements s.parts.unassigned) (stand s.parts.elements s.parts.unassigned s.held.stands.unassigned).0
-
--- and each ends before the last page
-pub unassigned_ends : UnassignedEndInRegions → UnassignedAreOne → PagesStand → (s : Storage) (i : ℕ) (r : Run)
-    → Some r ≡ slice_get (page_runs s.parts.elements s.parts.unassigned) i → r.start + r.len < 2 ^ 20
-unassigned_ends law one stand s i r e = ∥∥₁_elim s.held.sound (hlevel props)
-    (λ sound. law (settings_of s) (state_in_place s) i r s.held.valid sound
-    (ap (λ (l : List Run). slice_get l i) (sym (unassigned_are one stand s)) ∙ sym e))
-
--- where each run that may be the result ends so, the result does
-pub some_ends : (found : Option (Run × RunPlace)) (at : Option Run) → option_map (λ r. r.0) found ≡ at
-    → ((r : Run) → Some r ≡ at → r.start + r.len < 2 ^ 20) → IfSome found (λ r. r.0.start + r.0.len < 2 ^ 20)
-some_ends None at e ends = tt
-some_ends (Some r) at e ends = ends r.0 e

@@ -2,9 +2,7 @@
 -- Assembler Services Guide, "Virtual storage management", "Subpool handling".
 use Rattle.std.specs.Prelude.{◌≡◌, ℕ, List}
 use Rattle.run_set.specs.RunSet.{place_index}
-use Rattle.run_set.specs.declared.places.RunPlace.{RunPlace}
 use Rattle.descriptor_queue.specs.Extents as queue
-use Rattle.descriptor_queue.specs.Pages as pages
 use Rattle.free_queue.specs.FreeQueue as free_queue
 use Rattle.vsm_model.specs.declared.Subpool.{Subpool}
 use Rattle.subpool_set.specs.declared.places.SubpoolPlace.{SubpoolPlace}
@@ -47,7 +45,3 @@ pub record IsFreeAreaPlace (s : Storage) (p : Subpool) (w : FreeAreaPlace) (i : 
   pub areas : free_queue.areas s.parts.elements w.areas ≡ free_areas (state_in_place s).subpools p
   pub place : free_queue.IsPlace s.parts.elements w.areas w.place
   pub index : place_index w.place ≡ i
-
--- the place is before, between or behind the runs of unassigned pages
-abbrev pub IsUnassignedPlace : Storage → RunPlace → Type 0
-IsUnassignedPlace s place = pages.IsPlace s.parts.elements s.parts.unassigned place

@@ -16,7 +16,7 @@ mod walks;
 
 pub use free_queue::Area;
 pub use plans::Plan;
-pub use run_set::{Run, RunPlace};
+pub use run_set::{Run, SideSums, Sums};
 pub use storage::Storage;
 pub use storage_plans::STORE_MOST;
 pub use storage_plans::reasons::SideReason;

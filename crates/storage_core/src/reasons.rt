@@ -1,6 +1,6 @@
 //! Why an area goes where it goes, or has no place; and whose a page, or a subpool that a task sees, is. Reads alone,
 //! and takes no memory.
-ghost use Rattle.std.specs.Prelude.{◌≡◌, ◌*◌, ◌^◌, ◌<◌, ◌≤◌, ◌↔◌, true, None, IfSome};
+ghost use Rattle.std.specs.Prelude.{◌≡◌, ◌*◌, ◌^◌, ◌<◌, ◌≤◌, ◌↔◌, true, None, IfSome, unwrap_or};
 ghost use Rattle.vsm_model.specs.declared.limits.Residence.TheVariants.{Below};
 ghost use Rattle.vsm_model.specs.Areas.{is_nowhere, place};
 ghost use Rattle.vsm_model.specs.Obtaining.{longest, place_for};
@@ -28,15 +28,17 @@ impl Storage {
         reasons(&self.parts, self.settings, side, subpool, count, spacing)
     }
 
-    /// Why a request for storage finds an area for its minimum, or none: there is none just where the request wants
+    /// How many doublewords a request for storage is given, and why they go where they go: as many as have a place, from
+    /// its rounded minimum to its rounded maximum; the minimum if that has none, which is just if the request wants
     /// storage.
-    pub fn obtain_reasons(&self, o: Obtain) -> Sides
+    pub fn obtain_reasons(&self, o: Obtain) -> (u32, Sides)
         requires number { o.number ≤ 127 }
         requires some { 0 < minimum o.lengths }
         requires ordered { minimum o.lengths ≤ maximum o.lengths }
-        ensures place { reasons_place result
-            ≡ place_for (settings_of self.now) (state_of self.now) o (doublewords (minimum o.lengths)) }
-        ensures none { (is_nowhere (reasons_place result) ≡ true)
+        ensures count { result.0
+            ≡ unwrap_or (longest (settings_of self.now) (state_of self.now) o) (doublewords (minimum o.lengths)) }
+        ensures place { reasons_place result.1 ≡ place_for (settings_of self.now) (state_of self.now) o result.0 }
+        ensures none { (is_nowhere (reasons_place result.1) ≡ true)
             ↔ (longest (settings_of self.now) (state_of self.now) o ≡ None) }
     {
         let (subpool, _) = subpool_for(&self.parts, self.settings, o.number as u8);

@@ -2,6 +2,7 @@
 ghost use Rattle.std.specs.Prelude.{◌≡◌, ℕ, ◌+◌, ◌^◌, ◌<◌, [], ◌∷◌, option_map, slice_get, true, IfNone, IfSome};
 ghost use Rattle.vsm_model.specs.declared.Subpool.{Subpool as Named};
 ghost use Rattle.run_set.specs.RunSet.{place_index};
+ghost use Rattle.run_set.specs.Sums.{IsSidesOf};
 ghost use Rattle.subpool_set.specs.Pools.{sharers};
 ghost use Rattle.subpool_storage.specs.Extents.{extents, free_areas};
 ghost use Rattle.subpool_storage.specs.Order.{subpools_in_order};
@@ -9,17 +10,17 @@ ghost use Rattle.subpool_storage.specs.Subpools.{is_there};
 ghost use Rattle.storage_core.specs.Meaning.{state_in_place, state_of};
 ghost use Rattle.storage_core.specs.Walks.{IsSubpoolPlace, subpools_left, IsBehindSubpool, subpool_before};
 ghost use Rattle.storage_core.specs.Walks.{sharers_left, IsExtentPlace, IsFreeAreaPlace};
-ghost use Rattle.storage_core.specs.Walks.{IsUnassignedPlace};
 ghost use Rattle.storage_changes.specs.MapLists.{unassigned_runs};
 
 use crate::storage::Storage;
 use descriptor_queue::laws::pages_stand;
 use descriptor_queue::{Extents, Pages};
 use free_queue::{Area, FreeQueue};
-use run_set::{Run, RunPlace};
+use run_set::{Run, RunPlace, SideSums};
 use storage_changes::maps::{runs_are_shown, unassigned_are_shown};
 use subpool_storage::{SharerPlace, SubpoolPlace, SubpoolStorage};
 use vsm_model::Subpool;
+use vsm_model::geometry::{LINE_DOUBLEWORD, LINE_PAGE};
 
 /// A place among the extents of a subpool, from which [`Storage::next_extent`] goes on at the cost of one element. It
 /// is one as long as the storage stays as it is.
@@ -141,6 +142,16 @@ impl Storage {
         Some((run, ExtentPlace { extents, place }))
     }
 
+    /// What the extents of the subpool that has the place come to, in pages, below and above the 16 MB line. It costs
+    /// some descents, however many extents there are.
+    pub fn extent_sums(&self, place: ExtentPlace) -> SideSums
+        requires { (p : Named) × (i : ℕ) × IsExtentPlace self.now p place i }
+        ensures { (p : Named) (i : ℕ) → IsExtentPlace self.now p place i
+            → IsSidesOf 4096 (extents (state_in_place self.now).subpools p) result }
+    {
+        place.extents.sums(&self.parts.elements, LINE_PAGE)
+    }
+
     /// The place before the first free area of the subpool.
     pub fn first_free_area(&self, subpool: Subpool) -> FreeAreaPlace
         ensures { IsFreeAreaPlace self.now subpool result 0 }
@@ -170,26 +181,23 @@ impl Storage {
         Some((area, FreeAreaPlace { areas, place }))
     }
 
-    /// The place before the first run of unassigned pages of any storage.
-    pub fn first_unassigned() -> RunPlace
-        ensures place { (s : Storage) → IsUnassignedPlace s result }
-        ensures index { place_index result ≡ 0 }
+    /// What the free areas of the subpool that has the place come to, in doublewords, below and above the 16 MB line. It
+    /// costs some descents, however many areas there are.
+    pub fn free_area_sums(&self, place: FreeAreaPlace) -> SideSums
+        requires { (p : Named) × (i : ℕ) × IsFreeAreaPlace self.now p place i }
+        ensures { (p : Named) (i : ℕ) → IsFreeAreaPlace self.now p place i
+            → IsSidesOf 2097152 (free_areas (state_in_place self.now).subpools p) result }
     {
-        Pages::first_place()
+        place.areas.sums(&self.parts.elements, LINE_DOUBLEWORD)
     }
 
-    /// The run of unassigned pages behind the place, and the place behind that run; `None` behind the last. From the
-    /// first place on, the longest runs come in ascending order, below and above the 16 MB line.
-    pub fn next_unassigned(&self, place: RunPlace) -> Option<(Run, RunPlace)>
-        requires { IsUnassignedPlace self.now place }
-        ensures is { option_map (λ r. r.0) result
-            ≡ slice_get (unassigned_runs (state_in_place self.now)) (place_index place) }
-        ensures next { IfSome result (λ r. IsUnassignedPlace self.now r.1
-            × (place_index r.1 ≡ place_index place + 1)) }
-        ensures end { IfSome result (λ r. r.0.start + r.0.len < 2 ^ 20) }
+    /// What the runs of unassigned pages come to, in pages, below and above the 16 MB line. It costs some descents,
+    /// however many runs there are.
+    pub fn unassigned_sums(&self) -> SideSums
+        ensures { IsSidesOf 4096 (unassigned_runs (state_in_place self.now)) result }
     {
         unassigned_are_shown();
         pages_stand();
-        self.parts.unassigned.next_run(&self.parts.elements, place)
+        self.parts.unassigned.sums(&self.parts.elements, LINE_PAGE)
     }
 }

@@ -1,14 +1,14 @@
 //! The totals of a storage.
 ghost use Rattle.std.specs.Prelude.{◌≡◌, ◌+◌, ◌<◌, ◌^◌, true, false};
-ghost use Rattle.storage_changes.specs.MapTotals.{pages_on_side, all_pages, all_free};
+ghost use Rattle.storage_changes.specs.MapTotals.{all_pages, all_free};
 ghost use Rattle.storage_core.specs.Meaning.{state_in_place, state_of, settings_of};
 ghost use Rattle.storage_core.specs.Walks.{IsBehindSubpool};
 ghost use Rattle.storage_map.specs.Totals.{free_before, pages_before, totals_of};
 
 use crate::counts::Totals;
 use storage_changes::maps::totals_are_sums;
-use storage_core::{Run, Storage, SubpoolPlace};
-use vsm_model::geometry::{LINE_PAGE, PAGE_BYTES, PAGE_K};
+use storage_core::{Storage, SubpoolPlace};
+use vsm_model::geometry::{PAGE_BYTES, PAGE_K};
 
 /// The pages of a subpool, or of all subpools, on each side of the 16 MB line.
 #[derive(Clone, Copy)]
@@ -17,41 +17,17 @@ struct PageCounts {
     high: u32,
 }
 
-/// The pages with those of a run besides.
-fn with_run(pages: PageCounts, run: Run) -> PageCounts
-    requires low { pages.low + pages_on_side true run < 2 ^ 32 }
-    requires high { pages.high + pages_on_side false run < 2 ^ 32 }
-    ensures low { result.low ≡ pages.low + pages_on_side true run }
-    ensures high { result.high ≡ pages.high + pages_on_side false run }
-{
-    if run.start < LINE_PAGE {
-        PageCounts {
-            low: pages.low + run.len,
-            high: pages.high,
-        }
-    } else {
-        PageCounts {
-            low: pages.low,
-            high: pages.high + run.len,
-        }
-    }
-}
-
 /// The pages of the subpool before the place.
 fn pages_of(storage: &Storage, place: SubpoolPlace) -> PageCounts
-    requires behind { IsBehindSubpool storage.now place }
-    requires low { pages_before storage.now place true < 2 ^ 32 }
-    requires high { pages_before storage.now place false < 2 ^ 32 }
+    requires { IsBehindSubpool storage.now place }
     ensures low { result.low ≡ pages_before storage.now place true }
     ensures high { result.high ≡ pages_before storage.now place false }
 {
-    let mut pages = PageCounts { low: 0, high: 0 };
-    let mut cursor = storage.first_extent_at(place);
-    while let Some((run, behind)) = storage.next_extent(cursor) {
-        pages = with_run(pages, run);
-        cursor = behind;
+    let sums = storage.extent_sums(storage.first_extent_at(place));
+    PageCounts {
+        low: sums.low.total,
+        high: sums.high.total,
     }
-    pages
 }
 
 /// The free doublewords of the subpool before the place.
@@ -60,13 +36,8 @@ fn free_of(storage: &Storage, place: SubpoolPlace) -> u32
     requires few { free_before storage.now place < 2 ^ 32 }
     ensures { result ≡ free_before storage.now place }
 {
-    let mut free = 0;
-    let mut cursor = storage.first_free_area_at(place);
-    while let Some((area, behind)) = storage.next_free_area(cursor) {
-        free += area.len;
-        cursor = behind;
-    }
-    free
+    let sums = storage.free_area_sums(storage.first_free_area_at(place));
+    sums.low.total + sums.high.total
 }
 
 /// The pages of all subpools, and the free doublewords in them.
@@ -91,7 +62,7 @@ fn sums(storage: &Storage) -> (PageCounts, u32)
     (pages, free)
 }
 
-/// The totals of a storage: it walks all extents and free areas once.
+/// The totals of a storage: each subpool costs the same, however many extents and free areas it has.
 pub fn totals(storage: &Storage) -> Totals
     ensures { result ≡ totals_of (settings_of storage.now) (state_of storage.now) }
 {

@@ -1,5 +1,5 @@
 -- The causes of a request, and how long an area it gets.
-use Rattle.std.proofs.Common.{◌≡◌, ℕ, suc, ◌-◌, ◌<◌, ◌≤◌, Bool, true, false, not, ◌||◌, nat_le, nat_lt, ◌==◌, Option, Some, None, is_some, is_none, inl, inr, true≢false, [], ◌∷◌, ◌++◌, arith, refl, sym, ap, ◌∙◌}
+use Rattle.std.proofs.Common.{◌≡◌, ◌⊎◌, ◌↔◌, ℕ, suc, ◌-◌, ◌<◌, ◌≤◌, max, min, unwrap_or, Bool, true, false, not, ◌||◌, nat_le, nat_lt, ◌==◌, Option, Some, None, is_some, is_none, inl, inr, true≢false, [], ◌∷◌, ◌++◌, arith, refl, sym, ap, ◌∙◌}
 use Rattle.std.proofs.lemmas.Bool.{cases_lt, cond-false, cond-true, false_from_ne_true, le-leb, leb-true}
 use Rattle.std.proofs.lemmas.Bool.Decides.{nat_tests}
 use Rattle.vsm_model.specs.declared.Subpool.{Subpool}
@@ -139,3 +139,68 @@ module _ (settings : Settings) (s : State) (o : Obtain) where
       first_cause (obtain_causes settings names_full s o) ≡ Some NoStorage
   no_storage names_full allowed some ordered room e =
       rest names_full allowed some ordered room ∙ stop (is_none (longest settings s o)) NoStorage [] (ap is_none e)
+
+  from_not : (b : Bool) → not b ≡ false → b ≡ true
+  from_not true e = refl
+  from_not false e = absurd (true≢false e)
+
+  -- What is given: none if not even the fewest have a place, else as many as have one, at most the most.
+  module _ (top : ℕ) (some : 0 < minimum o.lengths) (ordered : minimum o.lengths ≤ maximum o.lengths)
+      (up_to : IsUpTo (λ n. not (is_nowhere (place_for settings s o n))) top) where
+    abbrev bottom : ℕ
+    bottom = doublewords (minimum o.lengths)
+
+    abbrev ceiling : ℕ
+    ceiling = doublewords (maximum o.lengths)
+
+    rises : bottom ≤ ceiling
+    rises = omega (arith, ordered)
+
+    starts : 0 < bottom
+    starts = omega (arith, some)
+
+    passes_not : top < ceiling → not (is_nowhere (place_for settings s o ceiling)) ≡ false
+    passes_not below =
+        up_to ceiling (omega (arith, rises, starts))
+        ∙ false_from_ne_true (nat_le ceiling top) (λ e. let low = leb-true ceiling top e in omega (arith, below, low))
+
+    none_given : top < bottom → longest settings s o ≡ None
+    none_given few = longest_none ceiling refl ordered top some up_to (passes_not (omega (arith, few, rises))) few
+
+    some_given : bottom ≤ top → (top < ceiling) ⊎ (ceiling ≤ top) → longest settings s o ≡ Some (min top ceiling)
+    some_given enough (inl below) =
+        longest_is ceiling refl ordered top some up_to (passes_not below) enough ∙ ap Some (let is : top ≡ min top ceiling = omega (arith, below) in is)
+    some_given enough (inr from) =
+        longest_is_most ceiling refl ordered (up_to ceiling (omega (arith, rises, starts)) ∙ le-leb ceiling top from)
+        ∙ ap Some (let is : ceiling ≡ min top ceiling = omega (arith, from) in is)
+
+    pub count_given : max (min top ceiling) bottom ≡ unwrap_or (longest settings s o) bottom
+    count_given =
+        elim (cases_lt top bottom) [
+          | inl few ↦
+              (let is : max (min top ceiling) bottom ≡ bottom = omega (arith, few) in is)
+              ∙ sym (ap (λ (x : Option ℕ). unwrap_or x bottom) (none_given few))
+          | inr enough ↦
+              (let is : max (min top ceiling) bottom ≡ min top ceiling = omega (arith, enough, rises) in is)
+              ∙ sym (ap (λ (x : Option ℕ). unwrap_or x bottom) (some_given enough (cases_lt top ceiling)))
+        ]
+
+    pub none_just_where : (x : Place) → x ≡ place_for settings s o (max (min top ceiling) bottom) → (is_nowhere x ≡ true) ↔ (longest settings s o ≡ None)
+    none_just_where x e =
+        elim (cases_lt top bottom) [
+          | inl few ↦
+              let here : x ≡ place_for settings s o bottom =
+              e ∙ ap (place_for settings s o) (let is : max (min top ceiling) bottom ≡ bottom = omega (arith, few) in is) in (
+                λ h. none_given few,
+                λ h. ap is_nowhere here ∙ from_not (is_nowhere (place_for settings s o bottom))
+                    (up_to bottom starts ∙ false_from_ne_true (nat_le bottom top) (λ b. let low = leb-true bottom top b in omega (arith, few, low))),
+              )
+          | inr enough ↦
+              let given = some_given enough (cases_lt top ceiling) in
+              let here : x ≡ place_for settings s o (min top ceiling) =
+              e ∙ ap (place_for settings s o) (let is : max (min top ceiling) bottom ≡ min top ceiling = omega (arith, enough, rises) in is) in
+              let there : not (is_nowhere x) ≡ true =
+              ap (λ (z : Place). not (is_nowhere z)) here ∙ up_to (min top ceiling) (omega (arith, starts, enough, rises))
+              ∙ le-leb (min top ceiling) top (omega arith) in
+              (λ h. absurd (true≢false (sym there ∙ ap not h)), λ h. absurd (let f : ◌≡◌ {A = Option ℕ} None (Some (min top ceiling)) = sym h ∙ given in cc))
+        ]

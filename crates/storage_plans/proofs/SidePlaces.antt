@@ -1,22 +1,15 @@
 -- What the sides of the line have for an area, and the place that comes of it.
-use Rattle.std.proofs.Common.{◌≡◌, ℕ, suc, ◌-◌, ◌<◌, ◌≤◌, ◌↔◌, Bool, true, false, not, nat_le, Option, Some, None, inl, inr, true≢false, refl, sym, ap, subst, ◌∙◌, arith}
-use Rattle.std.proofs.lemmas.Bool.{cases_lt, lt-leb, le-leb}
+use Rattle.std.proofs.Common.{◌≡◌, ℕ, ◌-◌, Option, Some, None, refl, ap, ◌∙◌}
 use Rattle.vsm_model.specs.declared.Subpool.{Subpool}
 use Rattle.vsm_model.specs.declared.limits.Residence.{Residence}
 use Rattle.vsm_model.specs.declared.limits.Residence.TheVariants.{Below, Above}
 use Rattle.vsm_model.specs.declared.limits.Settings.{Settings}
-use Rattle.vsm_model.specs.declared.services.Obtain.{Obtain}
-use Rattle.vsm_model.specs.Search.{IsGreatestAmong}
-use Rattle.vsm_model.specs.Areas.{Place, Inside, Fresh, Nowhere, is_nowhere, least_fit, or_fresh, or_place, place, place_in}
-use Rattle.vsm_model.specs.Regions.{regions_for, low_region, high_region, doublewords}
-use Rattle.vsm_model.specs.Services.{minimum, maximum}
-use Rattle.vsm_model.specs.Obtaining.{longest, place_for}
+use Rattle.vsm_model.specs.Areas.{Place, Inside, Fresh, Nowhere, least_fit, or_fresh, or_place, place, place_in}
+use Rattle.vsm_model.specs.Regions.{regions_for, low_region, high_region}
 use Rattle.vsm_model.specs.State.{State}
-use Rattle.vsm_model.proofs.Least.{greatest_among}
-use Rattle.storage_plans.specs.Places.{IsUpTo, region_on}
+use Rattle.storage_plans.specs.Places.{region_on}
 use Rattle.storage_plans.specs.Reasons.{IsReason, side_place, reasons_place}
 use Rattle.storage_plans.specs.declared.reasons.SideReason.{SideReason}
-use Rattle.storage_plans.proofs.AskedLengths.{longest_none}
 
 or_none : (x : Place) → x ≡ or_place x Nowhere
 or_none (Inside d) = refl
@@ -40,40 +33,3 @@ module _ (settings : Settings) (s : State) (p : Subpool) (count spacing : ℕ) w
   above_is Above a b e h k =
       ap (λ (x : Place). or_place x (side_place b)) (side_is Above a h)
       ∙ ap (λ (y : Place). or_place (place_in s p count spacing (high_region settings)) y) (side_is Below b k ∙ or_none (place_in s p count spacing (low_region settings)))
-
-not_true : (b : Bool) → not b ≡ false → b ≡ true
-not_true true e = refl
-not_true false e = sym e
-
-nowhere_not : (b : Bool) → b ≡ true → not b ≡ false
-nowhere_not true e = refl
-nowhere_not false e = sym e
-
--- The minimum has no place just where no length that is asked for has one.
-module _ (settings : Settings) (s : State) (o : Obtain) (some : 0 < minimum o.lengths) (ordered : minimum o.lengths ≤ maximum o.lengths)
-    (top : ℕ) (up_to : IsUpTo (λ n. not (is_nowhere (place_for settings s o n))) top) where
-  abbrev least : ℕ
-  least = doublewords (minimum o.lengths)
-
-  abbrev most : ℕ
-  most = doublewords (maximum o.lengths)
-
-  abbrev passes : ℕ → Bool
-  passes n = not (is_nowhere (place_for settings s o n))
-
-  then_none : is_nowhere (place_for settings s o least) ≡ true → longest settings s o ≡ None
-  then_none e =
-      let no : nat_le least top ≡ false = sym (up_to least (omega (arith, some))) ∙ nowhere_not _ e in
-      elim (cases_lt top least) [
-        | inl few ↦ longest_none settings s o most refl ordered top some up_to
-            (up_to most (omega (arith, some, ordered)) ∙ lt-leb most top (omega (arith, few, ordered))) few
-        | inr enough ↦ absurd (true≢false (sym (le-leb least top enough) ∙ no))
-      ]
-
-  then_nowhere : longest settings s o ≡ None → is_nowhere (place_for settings s o least) ≡ true
-  then_nowhere e =
-      let among : IsGreatestAmong passes least (suc most - least) None = subst (IsGreatestAmong passes least (suc most - least)) e (greatest_among passes least (suc most - least)) in
-      not_true _ (among least (omega arith) (omega (arith, ordered)))
-
-  pub nowhere_just_where_none : (x : Place) → x ≡ place_for settings s o least → (is_nowhere x ≡ true) ↔ (longest settings s o ≡ None)
-  nowhere_just_where_none x e = (λ h. then_none (sym (ap is_nowhere e) ∙ h), λ h. ap is_nowhere e ∙ then_nowhere h)

@@ -3,11 +3,8 @@ use Rattle.std.specs.Prelude.{◌≡◌, ℕ, Option, Some, None, is_some}
 use Rattle.vsm_model.specs.declared.Subpool.{Subpool}
 use Rattle.vsm_model.specs.declared.limits.Residence.{Residence}
 use Rattle.vsm_model.specs.declared.limits.Settings.{Settings}
-use Rattle.vsm_model.specs.declared.services.Obtain.{Obtain}
 use Rattle.vsm_model.specs.Areas.{Place, or_fresh, or_place, least_fit, least_run}
-use Rattle.vsm_model.specs.Obtaining.{place_for}
-use Rattle.vsm_model.specs.Regions.{doublewords, pages_for}
-use Rattle.vsm_model.specs.Services.{minimum}
+use Rattle.vsm_model.specs.Regions.{pages_for}
 use Rattle.vsm_model.specs.State.{State}
 use Rattle.storage_plans.specs.Places.{IsUpTo, region_on}
 use Rattle.storage_plans.specs.declared.reasons.SideReason.{SideReason}
@@ -20,10 +17,6 @@ pub record IsReason (settings : Settings) (s : State) (side : Residence) (p : Su
   pub fresh : r.fresh ≡ least_run s (region_on settings side) (pages_for count)
   pub longest_inside : IsUpTo (λ n. is_some (least_fit s (region_on settings side) p n spacing)) r.longest_inside
   pub longest_run : IsUpTo (λ n. is_some (least_run s (region_on settings side) n)) r.longest_run
-
--- where the least that a request asks for goes
-abbrev pub least_place : Settings → State → Obtain → Place
-least_place settings s o = place_for settings s o (doublewords (minimum o.lengths))
 
 -- the place on one side, and on those that are looked at
 abbrev pub side_place : SideReason → Place

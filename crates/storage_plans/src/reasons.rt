@@ -1,15 +1,15 @@
 //! Why an area goes where it goes, or has no place: what each side of the line has for it.
-ghost use Rattle.std.specs.Prelude.{◌≡◌, ◌*◌, ◌^◌, ◌<◌, ◌≤◌, ◌↔◌, true, None, IfSome};
+ghost use Rattle.std.specs.Prelude.{◌≡◌, ◌*◌, ◌^◌, ◌<◌, ◌≤◌, ◌↔◌, true, None, IfSome, unwrap_or};
 ghost use Rattle.vsm_model.specs.declared.limits.Residence.TheVariants.{Below};
 ghost use Rattle.vsm_model.specs.Areas.{is_nowhere, place, spacing};
-ghost use Rattle.vsm_model.specs.Obtaining.{longest};
-ghost use Rattle.vsm_model.specs.Regions.{regions_for, settings_valid};
+ghost use Rattle.vsm_model.specs.Obtaining.{longest, place_for};
+ghost use Rattle.vsm_model.specs.Regions.{doublewords, regions_for, settings_valid};
 ghost use Rattle.vsm_model.specs.Services.{maximum, minimum};
 ghost use Rattle.vsm_model.specs.Subpools.{seen_or_own};
 ghost use Rattle.storage_changes.specs.Meaning.{model_of};
 ghost use Rattle.storage_swap.specs.Storage.{state_of};
 ghost use Rattle.storage_plans.specs.Places.{StandsAt, StandsSound};
-ghost use Rattle.storage_plans.specs.Reasons.{IsReason, least_place, reasons_place};
+ghost use Rattle.storage_plans.specs.Reasons.{IsReason, reasons_place};
 
 use crate::areas::{minimum_of, side_of, spacing_of};
 use crate::places::longest_place;
@@ -85,22 +85,32 @@ pub fn reasons(
     }
 }
 
-/// Why a request for storage finds an area for its minimum, or none: there is none just where the request wants
-/// storage.
-pub fn obtain_reasons(storage: &Parts, settings: Settings, o: Obtain, subpool: Subpool) -> Sides
+/// How many doublewords a request for storage is given, and why they go where they go: as many as have a place, from its
+/// rounded minimum to its rounded maximum; the minimum if that has none, which is just if the request wants storage.
+pub fn obtain_reasons(
+    storage: &Parts,
+    settings: Settings,
+    o: Obtain,
+    subpool: Subpool,
+) -> (u32, Sides)
     requires sound { StandsSound settings storage.now }
     requires valid { settings_valid settings ≡ true }
     requires subpool { subpool ≡ seen_or_own (model_of (state_of storage.now)) o.number }
     requires some { 0 < minimum o.lengths }
     requires ordered { minimum o.lengths ≤ maximum o.lengths }
-    ensures place { reasons_place result ≡ least_place settings (model_of (state_of storage.now)) o }
-    ensures none { (is_nowhere (reasons_place result) ≡ true)
+    ensures count { result.0
+        ≡ unwrap_or (longest settings (model_of (state_of storage.now)) o) (doublewords (minimum o.lengths)) }
+    ensures place { reasons_place result.1 ≡ place_for settings (model_of (state_of storage.now)) o result.0 }
+    ensures none { (is_nowhere (reasons_place result.1) ≡ true)
         ↔ (longest settings (model_of (state_of storage.now)) o ≡ None) }
 {
     let least = minimum_of(o.lengths).div_ceil(8);
+    let most = o.lengths.maximum().div_ceil(8);
     let side = side_of(settings, o.location);
     let spacing = spacing_of(o.boundary);
-    // Only what is proved needs it: each length up to it has a place, and no other.
-    let _ = longest_place(storage, settings, side, subpool, spacing);
-    reasons(storage, settings, side, subpool, least, spacing)
+    // Each length up to it has a place, and no other.
+    let top = longest_place(storage, settings, side, subpool, spacing);
+    let count = top.min(most).max(least);
+    let sides = reasons(storage, settings, side, subpool, count, spacing);
+    (count, sides)
 }

@@ -1,1 +1,4 @@
 pub mod Status
+pub mod Answers
+pub mod Command
+pub mod Options

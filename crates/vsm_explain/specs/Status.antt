@@ -1,6 +1,5 @@
 -- The exit status.
-use Rattle.std.specs.Prelude.{◌≡◌, ◌⊎◌, ℕ, Bool, if◌then◌else◌, Result, Ok, Err, ⊤}
-use Rattle.explain_list.specs.declared.faults.ListFault.{ListFault}
+use Rattle.std.specs.Prelude.{◌≡◌, ◌⊎◌, ℕ, Bool, if◌then◌else◌, Result, Ok, Err}
 use Rattle.vsm_explain.specs.declared.faults.CommandFault.{CommandFault}
 use Rattle.vsm_explain.specs.declared.faults.CommandFault.TheVariants as fault
 
@@ -15,12 +14,6 @@ fault_status _ = 16
 abbrev pub status : Result Bool CommandFault → ℕ
 status (Ok refused) = if refused then 4 else 0
 status (Err e) = fault_status e
-
--- A listing's outcome, as the program has it: whether a statement was refused, or that it failed.
-abbrev pub IsOutcome : Result Bool ListFault → Result Bool CommandFault → Type 0
-IsOutcome (Ok wrong) (Ok refused) = refused ≡ wrong
-IsOutcome (Err e) (Err f) = ⊤
-IsOutcome _ _ = ⊥
 
 -- no answer
 abbrev pub IsFailure : ℕ → Type 0

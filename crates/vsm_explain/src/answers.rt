@@ -1,8 +1,10 @@
 //! Which answer a question has.
-ghost use Rattle.std.specs.Prelude.{Bool, Result};
+ghost use Rattle.std.specs.Prelude.{◌≡◌, Bool, Err, List, Result, ℕ};
 ghost use Rattle.explain_list.specs.Listing.{Shows};
 ghost use Rattle.explain_list.specs.declared.faults.ListFault.{ListFault};
-ghost use Rattle.vsm_explain.specs.Status.{IsOutcome};
+ghost use Rattle.vsm_explain.specs.Answers.{IsAnswered, IsShown, list_status, report_status, subject_of, who_status};
+ghost use Rattle.vsm_explain.specs.Answers.{why_status};
+ghost use Rattle.vsm_explain.specs.Status.{IsWordless, fault_status, status};
 
 use crate::faults::CommandFault;
 use crate::scripts::excess_of;
@@ -17,7 +19,9 @@ use std::io::Write;
 use vsm_model::Settings;
 
 /// What is said where there is no bench.
-fn new_fault<'a>(fault: NewFault) -> CommandFault<'a> {
+fn new_fault<'a>(fault: NewFault) -> CommandFault<'a>
+    ensures { fault_status result ≡ 16 }
+{
     match fault {
         NewFault::Setting => CommandFault::Words(WordRefusal::Settings),
         NewFault::NoMemory => CommandFault::Memory,
@@ -25,7 +29,9 @@ fn new_fault<'a>(fault: NewFault) -> CommandFault<'a> {
 }
 
 /// What is said where a script can't be listed.
-fn list_fault<'a>(script: &[u8], fault: ListFault) -> CommandFault<'a> {
+fn list_fault<'a>(script: &[u8], fault: ListFault) -> CommandFault<'a>
+    ensures { fault_status result ≡ list_status (Err fault) }
+{
     match fault {
         ListFault::New(fault) => new_fault(fault),
         ListFault::TooLong => CommandFault::TooLong(excess_of(script)),
@@ -34,7 +40,9 @@ fn list_fault<'a>(script: &[u8], fault: ListFault) -> CommandFault<'a> {
 }
 
 /// What is said where the statement of a line can't be explained.
-fn why_fault<'a>(script: &[u8], line: u32, fault: WhyFault) -> CommandFault<'a> {
+fn why_fault<'a>(script: &[u8], line: u32, fault: WhyFault) -> CommandFault<'a>
+    ensures { fault_status result ≡ why_status (Err fault) }
+{
     match fault {
         WhyFault::New(fault) => new_fault(fault),
         WhyFault::TooLong => CommandFault::TooLong(excess_of(script)),
@@ -46,7 +54,9 @@ fn why_fault<'a>(script: &[u8], line: u32, fault: WhyFault) -> CommandFault<'a> 
 }
 
 /// What is said where there is no report behind a line.
-fn report_fault<'a>(script: &[u8], line: Option<u32>, fault: ReportFault) -> CommandFault<'a> {
+fn report_fault<'a>(script: &[u8], line: Option<u32>, fault: ReportFault) -> CommandFault<'a>
+    ensures { fault_status result ≡ report_status (Err fault) }
+{
     let line = line.unwrap_or(0);
     match fault {
         ReportFault::New(fault) => new_fault(fault),
@@ -59,7 +69,9 @@ fn report_fault<'a>(script: &[u8], line: Option<u32>, fault: ReportFault) -> Com
 }
 
 /// What is said where no lines can be named.
-fn who_fault<'a>(script: &[u8], fault: WhoFault) -> CommandFault<'a> {
+fn who_fault<'a>(script: &[u8], fault: WhoFault) -> CommandFault<'a>
+    ensures { fault_status result ≡ who_status (Err fault) }
+{
     match fault {
         WhoFault::New(fault) => new_fault(fault),
         WhoFault::TooLong => CommandFault::TooLong(excess_of(script)),
@@ -82,16 +94,18 @@ fn list_shown<'a, W: Write, P: Watch>(
 ) -> Result<bool, CommandFault<'a>>
     ensures { (outcome : Result Bool ListFault)
         × Shows settings script.now shown.entry (W.contents out.old) (W.contents out.new) outcome
-        × IsOutcome outcome result }
+        × (status result ≡ list_status outcome) }
 {
     match list(alloc, script, settings, shown, out, watch) {
-        Ok(refused) => Ok(refused),
+        Ok(wrong) => Ok(wrong),
         Err(fault) => Err(list_fault(script, fault)),
     }
 }
 
 /// What a listing shows: the script with its answers, or the places of its faults alone.
-fn shown(is_check: bool, name: &str) -> Shown<'_> {
+fn shown(is_check: bool, name: &str) -> Shown<'_>
+    ensures { IsShown is_check result }
+{
     if is_check {
         Shown::Check(name.as_bytes())
     } else {
@@ -104,7 +118,9 @@ fn explain_words<'a, W: Write>(
     words: &str,
     first: &'a str,
     out: &mut W,
-) -> Result<bool, CommandFault<'a>> {
+) -> Result<bool, CommandFault<'a>>
+    ensures { IsWordless (status result) }
+{
     match code(words.as_bytes(), out) {
         Ok(()) => Ok(false),
         Err(MeaningFault::NoAnswer) => Err(CommandFault::Words(WordRefusal::NoLine(first))),
@@ -118,7 +134,9 @@ pub(crate) fn explain_code<'a, W: Write>(
     first: &'a str,
     second: Option<&'a str>,
     out: &mut W,
-) -> Result<bool, CommandFault<'a>> {
+) -> Result<bool, CommandFault<'a>>
+    ensures { IsWordless (status result) }
+{
     let Some(second) = second else {
         return explain_words(first, first, out);
     };
@@ -129,7 +147,9 @@ pub(crate) fn explain_code<'a, W: Write>(
 }
 
 /// What is asked for, as it's asked of a bench.
-fn asked(about: About) -> Subject {
+fn asked(about: About) -> Subject
+    ensures { result ≡ subject_of about }
+{
     match about {
         About::Bytes { address, count } => Subject::Bytes {
             address,
@@ -147,7 +167,9 @@ fn explained<'a>(
     script: &[u8],
     line: u32,
     outcome: Result<bool, WhyFault>,
-) -> Result<bool, CommandFault<'a>> {
+) -> Result<bool, CommandFault<'a>>
+    ensures { status result ≡ why_status outcome }
+{
     match outcome {
         Ok(refused) => Ok(refused),
         Err(fault) => Err(why_fault(script, line, fault)),
@@ -159,7 +181,9 @@ fn reported<'a>(
     script: &[u8],
     line: Option<u32>,
     outcome: Result<(), ReportFault>,
-) -> Result<bool, CommandFault<'a>> {
+) -> Result<bool, CommandFault<'a>>
+    ensures { status result ≡ report_status outcome }
+{
     match outcome {
         Ok(()) => Ok(false),
         Err(fault) => Err(report_fault(script, line, fault)),
@@ -167,7 +191,9 @@ fn reported<'a>(
 }
 
 /// What `who` came to, which tells of no refusal.
-fn followed<'a>(script: &[u8], outcome: Result<(), WhoFault>) -> Result<bool, CommandFault<'a>> {
+fn followed<'a>(script: &[u8], outcome: Result<(), WhoFault>) -> Result<bool, CommandFault<'a>>
+    ensures { status result ≡ who_status outcome }
+{
     match outcome {
         Ok(()) => Ok(false),
         Err(fault) => Err(who_fault(script, fault)),
@@ -182,7 +208,10 @@ pub(crate) fn answer<'a, W: Write, P: Watch>(
     script: &[u8],
     out: &mut W,
     watch: &mut P,
-) -> Result<bool, CommandFault<'a>> {
+) -> Result<bool, CommandFault<'a>>
+    ensures { IsAnswered asking.now.settings script.now asking.now.question (W.contents out.old) (W.contents out.new)
+        (status result) }
+{
     let settings = asking.settings;
     match asking.question {
         Question::List { is_check } => {

@@ -1,6 +1,9 @@
 //! The command line: answers what the words ask, and gives the exit status.
-ghost use Rattle.std.specs.Prelude.{◌≡◌};
-ghost use Rattle.vsm_explain.specs.Status.{IsStatus, IsWordless, status};
+ghost use Rattle.std.specs.Prelude.{◌≡◌, IfErr, IfOk, map, option_map};
+ghost use Rattle.std.specs.String.{string_bytes};
+ghost use Rattle.clap.specs.Words.{kind_of};
+ghost use Rattle.vsm_explain.specs.Command.{AnswersOf, Does, IsScriptOf, path_in};
+ghost use Rattle.vsm_explain.specs.Status.{IsFailure, IsStatus, IsWordless, fault_status, status};
 
 use crate::answers::{answer, explain_code};
 use crate::faults::{CommandFault, report};
@@ -46,7 +49,8 @@ fn answer_words<O: Write, E: Write>(
     output: &mut O,
     errors: &mut E,
 ) -> u8
-    ensures { IsWordless result }
+    ensures status { IsWordless result }
+    ensures memory { kind_of error.now ≡ ErrorKind.OutOfMemory → (result ≡ 16) × (output.new ≡ output.old) }
 {
     match error.kind() {
         ErrorKind::DisplayHelp | ErrorKind::DisplayVersion => match write!(output, "{error}") {
@@ -65,7 +69,9 @@ fn answer_words<O: Write, E: Write>(
 }
 
 /// The path of the script that is asked of; `None` for standard input, which `-` names too.
-fn path_of<'a>(asking: &Asking<'a>) -> Option<&'a str> {
+fn path_of<'a>(asking: &Asking<'a>) -> Option<&'a str>
+    ensures { option_map (λ s. s.now) result ≡ path_in (option_map (λ s. s.now) asking.now.file) }
+{
     match asking.file {
         Some("-") => None,
         path => path,
@@ -79,7 +85,11 @@ fn script_of<'a, R: ScriptFiles, I: Read>(
     asking: &Asking<'a>,
     terminals: Terminals,
     input: &mut I,
-) -> Result<Vec<u8>, CommandFault<'a>> {
+) -> Result<Vec<u8>, CommandFault<'a>>
+    ensures script { IfOk result (λ bytes. IsScriptOf (R.opened rt.now) (R.Script.remaining) I.remaining input.old
+        (path_in (option_map (λ s. s.now) asking.now.file)) bytes.items) }
+    ensures failure { IfErr result (λ e. IsFailure (fault_status e)) }
+{
     let Some(path) = path_of(asking) else {
         if terminals.input && asking.file.is_none() {
             return Err(CommandFault::Terminal);
@@ -112,7 +122,10 @@ fn answer_asking<'a, R: ScriptFiles + Stopwatch + AllocGlobal, I: Read, O: Write
     input: &mut I,
     output: &mut O,
     errors: &mut E,
-) -> Result<bool, CommandFault<'a>> {
+) -> Result<bool, CommandFault<'a>>
+    ensures { AnswersOf (R.opened rt.now) (R.Script.remaining) I.remaining O.contents input.old output.old output.new
+        (status result) asking.now asking.now.question }
+{
     if let Question::Code { first, second } = asking.question {
         return explain_code(rt.alloc(), first, second, output);
     }
@@ -159,7 +172,9 @@ pub fn command<R: ScriptFiles + Stopwatch + AllocGlobal, I: Read, O: Write, E: W
     output: &mut O,
     errors: &mut E,
 ) -> u8
-    ensures { IsStatus result }
+    ensures does { Does (R.opened rt.now) (R.Script.remaining) I.remaining O.contents input.old output.old output.new
+        result (map string_bytes words.now) }
+    ensures all { IsStatus result }
 {
     let matches = match read_words(rt.alloc(), words) {
         Ok(matches) => matches,

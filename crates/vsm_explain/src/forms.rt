@@ -1,4 +1,7 @@
 //! The commands, with their options and operands.
+ghost use Rattle.std.specs.Prelude.{◌≡◌};
+ghost use Rattle.vsm_explain.specs.Options.{form_in, list_form, report_form, who_form, why_form};
+
 use crate::help::{
     LIST_ABOUT, LIST_AFTER, REPORT_ABOUT, REPORT_AFTER, WHO_ABOUT, WHO_AFTER, WHY_ABOUT, WHY_AFTER,
 };
@@ -30,118 +33,142 @@ pub(crate) struct CommandForm {
     pub(crate) rows: &'static [WordRow],
 }
 
-/// The commands, in the order of help.
-pub(crate) fn commands() -> &'static [CommandForm] {
-    COMMANDS.as_slice()
+static LIST: CommandForm = CommandForm {
+    name: "list",
+    about: LIST_ABOUT,
+    after: LIST_AFTER,
+    rows: &[
+        WordRow {
+            name: "check",
+            kind: WordKind::Flag,
+            help: "Print the places of faults alone, as FILE:LINE:COLUMN: text; COLUMN counts bytes",
+        },
+        WordRow {
+            name: "FILE",
+            kind: WordKind::Operand("FILE"),
+            help: "The script, or - [default: standard input]",
+        },
+    ],
+};
+
+static WHY: CommandForm = CommandForm {
+    name: "why",
+    about: WHY_ABOUT,
+    after: WHY_AFTER,
+    rows: &[
+        WordRow {
+            name: "FILE",
+            kind: WordKind::File,
+            help: "The script, or - for standard input; or an answer, as S878",
+        },
+        WordRow {
+            name: "LINE",
+            kind: WordKind::Operand("LINE"),
+            help: "The number of a line of the statement",
+        },
+    ],
+};
+
+static REPORT: CommandForm = CommandForm {
+    name: "report",
+    about: REPORT_ABOUT,
+    after: REPORT_AFTER,
+    rows: &[
+        WordRow {
+            name: "over-time",
+            kind: WordKind::Flag,
+            help: "Print a row of CSV behind each statement",
+        },
+        WordRow {
+            name: "subpool",
+            kind: WordKind::Valued("T,N"),
+            help: "With --over-time: only of the subpool that task T, or with N alone task 1, sees at N",
+        },
+        WordRow {
+            name: "FILE",
+            kind: WordKind::Operand("FILE"),
+            help: "The script, or - [default: standard input]",
+        },
+        WordRow {
+            name: "LINE",
+            kind: WordKind::Operand("LINE"),
+            help: "The line of the statement behind which it is reported [default: the last]",
+        },
+    ],
+};
+
+static WHO: CommandForm = CommandForm {
+    name: "who",
+    about: WHO_ABOUT,
+    after: WHO_AFTER,
+    rows: &[
+        WordRow {
+            name: "register",
+            kind: WordKind::Valued("T,R"),
+            help: "Ask for register R of task T",
+        },
+        WordRow {
+            name: "name",
+            kind: WordKind::Valued("P"),
+            help: "Ask for the word of name P",
+        },
+        WordRow {
+            name: "subpool",
+            kind: WordKind::Valued("T,N"),
+            help: "Ask for pages and free storage of the subpool that task T, or with N alone task 1, sees at N",
+        },
+        WordRow {
+            name: "holds",
+            kind: WordKind::Valued("ADDRESS"),
+            help: "Ask for the subpool that holds the page of ADDRESS",
+        },
+        WordRow {
+            name: "log",
+            kind: WordKind::Flag,
+            help: "List each change that is kept, and each that is undone, with its line",
+        },
+        WordRow {
+            name: "FILE",
+            kind: WordKind::Operand("FILE"),
+            help: "The script, or - [default: standard input]",
+        },
+        WordRow {
+            name: "ADDRESS",
+            kind: WordKind::Operand("ADDRESS"),
+            help: "The address of the first byte",
+        },
+        WordRow {
+            name: "COUNT",
+            kind: WordKind::Operand("N"),
+            help: "How many bytes: 1 to 256 [default: 1]",
+        },
+    ],
+};
+
+/// The command that lists a script.
+pub(crate) fn list_form() -> &'static CommandForm
+    ensures { form_in result.now ≡ list_form }
+{
+    &LIST
 }
 
-static COMMANDS: [CommandForm; 4] = [
-    CommandForm {
-        name: "list",
-        about: LIST_ABOUT,
-        after: LIST_AFTER,
-        rows: &[
-            WordRow {
-                name: "check",
-                kind: WordKind::Flag,
-                help: "Print the places of faults alone, as FILE:LINE:COLUMN: text; COLUMN counts bytes",
-            },
-            WordRow {
-                name: "FILE",
-                kind: WordKind::Operand("FILE"),
-                help: "The script, or - [default: standard input]",
-            },
-        ],
-    },
-    CommandForm {
-        name: "why",
-        about: WHY_ABOUT,
-        after: WHY_AFTER,
-        rows: &[
-            WordRow {
-                name: "FILE",
-                kind: WordKind::File,
-                help: "The script, or - for standard input; or an answer, as S878",
-            },
-            WordRow {
-                name: "LINE",
-                kind: WordKind::Operand("LINE"),
-                help: "The number of a line of the statement",
-            },
-        ],
-    },
-    CommandForm {
-        name: "report",
-        about: REPORT_ABOUT,
-        after: REPORT_AFTER,
-        rows: &[
-            WordRow {
-                name: "over-time",
-                kind: WordKind::Flag,
-                help: "Print a row of CSV behind each statement",
-            },
-            WordRow {
-                name: "subpool",
-                kind: WordKind::Valued("T,N"),
-                help: "With --over-time: only of the subpool that task T, or with N alone task 1, sees at N",
-            },
-            WordRow {
-                name: "FILE",
-                kind: WordKind::Operand("FILE"),
-                help: "The script, or - [default: standard input]",
-            },
-            WordRow {
-                name: "LINE",
-                kind: WordKind::Operand("LINE"),
-                help: "The line of the statement behind which it is reported [default: the last]",
-            },
-        ],
-    },
-    CommandForm {
-        name: "who",
-        about: WHO_ABOUT,
-        after: WHO_AFTER,
-        rows: &[
-            WordRow {
-                name: "register",
-                kind: WordKind::Valued("T,R"),
-                help: "Ask for register R of task T",
-            },
-            WordRow {
-                name: "name",
-                kind: WordKind::Valued("P"),
-                help: "Ask for the word of name P",
-            },
-            WordRow {
-                name: "subpool",
-                kind: WordKind::Valued("T,N"),
-                help: "Ask for pages and free storage of the subpool that task T, or with N alone task 1, sees at N",
-            },
-            WordRow {
-                name: "holds",
-                kind: WordKind::Valued("ADDRESS"),
-                help: "Ask for the subpool that holds the page of ADDRESS",
-            },
-            WordRow {
-                name: "log",
-                kind: WordKind::Flag,
-                help: "List each change that is kept, and each that is undone, with its line",
-            },
-            WordRow {
-                name: "FILE",
-                kind: WordKind::Operand("FILE"),
-                help: "The script, or - [default: standard input]",
-            },
-            WordRow {
-                name: "ADDRESS",
-                kind: WordKind::Operand("ADDRESS"),
-                help: "The address of the first byte",
-            },
-            WordRow {
-                name: "COUNT",
-                kind: WordKind::Operand("N"),
-                help: "How many bytes: 1 to 256 [default: 1]",
-            },
-        ],
-    },
-];
+/// The command that says why a statement is answered as it is.
+pub(crate) fn why_form() -> &'static CommandForm
+    ensures { form_in result.now ≡ why_form }
+{
+    &WHY
+}
+
+/// The command that reports what a script leaves.
+pub(crate) fn report_form() -> &'static CommandForm
+    ensures { form_in result.now ≡ report_form }
+{
+    &REPORT
+}
+
+/// The command that says who changed what.
+pub(crate) fn who_form() -> &'static CommandForm
+    ensures { form_in result.now ≡ who_form }
+{
+    &WHO
+}

@@ -1,13 +1,20 @@
 //! The command line: the commands of `forms`, as clap has them.
-use crate::forms::{CommandForm, WordKind, WordRow, commands};
+ghost use Rattle.std.specs.Prelude.{◌≡◌, IfOk, [], false, fold, map};
+ghost use Rattle.std.specs.String.{string_bytes};
+ghost use Rattle.clap.specs.Words.{App, Shape, app_of, rule_of, shape_of, with_rule, with_subcommand};
+ghost use Rattle.vsm_explain.specs.Options.{IsCommandLine, IsShapeOf, Reads, form_in, program, rule_in};
+
+use crate::forms::{CommandForm, WordKind, WordRow, list_form, report_form, who_form, why_form};
 use crate::help::{ABOUT, AFTER, VERSION};
 use clap::{Arg, ArgAction, ArgMatches, Command, Error};
 use std::alloc::{AllocError, Global};
 use vsm_bench::with_settings;
 
-/// The argument that an option or operand is. Nothing is promised of it, nor of what's below, so that no caller carries
-/// all that is known of them.
-fn argument_of<'a>(alloc: Global, row: &'static WordRow) -> Arg<'a> {
+/// The argument that an option or operand is.
+fn argument_of<'a>(alloc: Global, row: &'static WordRow) -> Arg<'a>
+    ensures rule { rule_of result ≡ rule_in row.now }
+    ensures local { result.global ≡ false }
+{
     let argument = Arg::new(alloc, row.name).help(row.help);
     match row.kind {
         WordKind::Flag => argument.long(row.name).action(ArgAction::SetTrue),
@@ -22,7 +29,9 @@ fn with_rows<'a>(
     alloc: Global,
     command: Command<'a>,
     rows: &'static [WordRow],
-) -> Result<Command<'a>, AllocError> {
+) -> Result<Command<'a>, AllocError>
+    ensures { IfOk result (λ c. app_of c ≡ fold with_rule (app_of command.entry) (map rule_in rows.now)) }
+{
     let mut command = command;
     for row in rows {
         command = command.arg(argument_of(alloc, row))?;
@@ -31,7 +40,9 @@ fn with_rows<'a>(
 }
 
 /// A command with vsm's options and its own.
-fn command_of<'a>(alloc: Global, form: &'static CommandForm) -> Result<Command<'a>, AllocError> {
+fn command_of<'a>(alloc: Global, form: &'static CommandForm) -> Result<Command<'a>, AllocError>
+    ensures { IfOk result (λ c. IsShapeOf (form_in form.now) (shape_of c)) }
+{
     let command = Command::new(alloc, form.name)
         .about(form.about)
         .after_help(form.after);
@@ -43,25 +54,18 @@ fn with_command<'a>(
     alloc: Global,
     command: Command<'a>,
     form: &'static CommandForm,
-) -> Result<Command<'a>, AllocError> {
-    command.subcommand(command_of(alloc, form)?)
-}
-
-/// A command with these commands below it.
-fn with_commands<'a>(
-    alloc: Global,
-    command: Command<'a>,
-    forms: &'static [CommandForm],
-) -> Result<Command<'a>, AllocError> {
-    let mut command = command;
-    for form in forms {
-        command = with_command(alloc, command, form)?;
-    }
-    Ok(command)
+) -> Result<Command<'a>, AllocError>
+    ensures { IfOk result (λ c. (shape : Shape) × IsShapeOf (form_in form.now) shape
+        × (app_of c ≡ with_subcommand (app_of command.entry) shape)) }
+{
+    let its = command_of(alloc, form)?;
+    command.subcommand(its)
 }
 
 /// The program, with what it says of itself. One of its commands has to be named, and none of them is for help.
-fn program<'a>(alloc: Global) -> Result<Command<'a>, AllocError> {
+fn program<'a>(alloc: Global) -> Result<Command<'a>, AllocError>
+    ensures { IfOk result (λ c. app_of c ≡ (record { top = program; subs = [] })) }
+{
     Command::new(alloc, "vsm-explain")
         .version(VERSION)
         .about(ABOUT)
@@ -71,13 +75,21 @@ fn program<'a>(alloc: Global) -> Result<Command<'a>, AllocError> {
         .bin_name("vsm-explain")
 }
 
-/// The program with its commands.
-fn command_line<'a>(alloc: Global) -> Result<Command<'a>, AllocError> {
-    with_commands(alloc, program(alloc)?, commands())
+/// The program with its commands, in the order of help.
+fn command_line<'a>(alloc: Global) -> Result<Command<'a>, AllocError>
+    ensures { IfOk result (λ c. IsCommandLine (app_of c)) }
+{
+    let bare = program(alloc)?;
+    let first = with_command(alloc, bare, list_form())?;
+    let second = with_command(alloc, first, why_form())?;
+    let third = with_command(alloc, second, report_form())?;
+    with_command(alloc, third, who_form())
 }
 
 /// What the words say, the first of which is the program's name; or the text for whoever wrote them: help, the version,
 /// or what is wrong.
-pub(crate) fn read_words<'a>(alloc: Global, words: &'a [String]) -> Result<ArgMatches<'a>, Error> {
+pub(crate) fn read_words<'a>(alloc: Global, words: &'a [String]) -> Result<ArgMatches<'a>, Error>
+    ensures { Reads (map string_bytes words.entry.now) result }
+{
     command_line(alloc)?.try_get_matches_from(words)
 }

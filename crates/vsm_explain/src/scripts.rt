@@ -1,5 +1,8 @@
 //! Scripts, read whole.
 
+ghost use Rattle.std.specs.Prelude.{IfOk};
+ghost use Rattle.vsm_explain.specs.Command.{IsAll};
+
 use std::alloc::Global;
 use std::io;
 use std::io::Read;
@@ -21,9 +24,11 @@ pub(crate) enum Unread {
 }
 
 /// All that a reader has left, where that is no more than a script may have.
-pub(crate) fn read_whole<S: Read>(alloc: Global, script: &mut S) -> Result<Vec<u8>, Unread> {
+pub(crate) fn read_whole<S: Read>(alloc: Global, script: &mut S) -> Result<Vec<u8>, Unread>
+    ensures { IfOk result (λ bytes. IsAll (S.remaining script.old) bytes.items) }
+{
     let mut bytes = Vec::new(alloc);
-    let mut limited = script.by_ref().take(MOST_BYTES + 1);
+    let mut limited = script.take(MOST_BYTES + 1);
     match limited.read_to_end(&mut bytes) {
         Err(error) => Err(Unread::Read(error)),
         Ok(_) if bytes.is_empty() => Err(Unread::Empty),

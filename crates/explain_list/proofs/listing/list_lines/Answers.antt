@@ -1,5 +1,5 @@
 use Rattle.std.proofs.Common.{arith}
-use Rattle.explain_list.proofs.Items.{rest_none}
+use Rattle.explain_list.proofs.Rests.{rest_none}
 use Rattle.explain_list.proofs.listing.list_lines.Goals as goal
 
 pub loop-at-init : goal.loop-at-init

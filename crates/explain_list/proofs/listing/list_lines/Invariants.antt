@@ -1,12 +1,12 @@
-use Rattle.std.proofs.Common.{◌≤◌, ◌-◌, ℕ, List, [], length, take, Option}
+use Rattle.std.proofs.Common.{◌≤◌, ◌-◌, ℕ, List, length, Option}
 use Rattle.vsm_model.specs.declared.limits.Settings.{Settings}
 use Rattle.explain_list.specs.Listing.{Lists}
 use Rattle.explain_list.proofs.listing.list_lines.Given as goal
 
 abbrev pub invariant-loop-at : goal.invariant-loop-at
 invariant-loop-at g l = (l.at ≤ length l.script)
-    × ((settings : Settings) (first : Option (List ℕ)) → Lists settings first (g.W.Write.contents l.fn.writer) l.fn.gathered [] l.fn.session
-    → Lists settings first (g.W.Write.contents l.writer) l.gathered (take l.at l.script) l.session)
+    × ((settings : Settings) (first : Option (List ℕ)) → Lists settings l.script first (g.W.Write.contents l.fn.writer) l.fn.gathered l.fn.page 0 l.fn.session
+    → Lists settings l.script first (g.W.Write.contents l.writer) l.gathered l.page l.at l.session)
 
 abbrev pub decreases-loop-at : goal.decreases-loop-at
 decreases-loop-at g l = length l.script - l.at

@@ -1,19 +1,39 @@
-use Rattle.std.proofs.Common.{[], refl}
+use Rattle.std.proofs.Common.{◌≤◌, List, [], length, refl, inl, sym, subst, arith}
 use Rattle.std.proofs.KnownBytes.{Appends-nil}
 use Rattle.text_output.proofs.Gathering.{empty_holds}
-use Rattle.explain_list.proofs.Items.{holds_words}
+use Rattle.statement_faults.specs.declared.lines.SourceLine.{SourceLine}
+use Rattle.explain_list.specs.Rows.{Follow}
+use Rattle.explain_list.proofs.Items.{holds_rows}
 use Rattle.explain_list.proofs.listing.list_on.Goals as goal
 
 pub returns-in-Ok : goal.returns-in-Ok
 returns-in-Ok g c = λ settings new.
     let first = g.W.Write.contents c.args.out.now in
-    let held = holds_words settings first _ _ _ _ [] c.put_words.ensures ([], refl, empty_holds _ _ _ [] c.new-gathered.ensures (Appends-nil _)) in
+    let held = holds_rows settings c.args.script.now first _ _ _ _ [] [] [] c.put_file_row.ensures ([], (refl, refl, tt), empty_holds _ _ _ [] c.new-gathered.ensures (Appends-nil _)) in
     c.list_rest.ensures settings first
-    (c.in-Ok.ensures.lists settings first (record { answers = []; took = c.new-session.ensures settings new; held = held }))
+    (c.in-Ok.ensures.lists settings first (record {
+      answers = [];
+      took = c.new-session.ensures settings new;
+      listed = [];
+      held = held;
+      follow = subst (λ ls. Follow 0 ls 0) (sym c.new-page.ensures.open) refl;
+      starts = inl refl;
+      lines = c.new-page.ensures.lines c.args.script.now;
+      room = subst (λ (ls : List SourceLine). length ls ≤ 9) (sym c.new-page.ensures.open) (omega arith);
+    }))
 
 pub returns-in-Err : goal.returns-in-Err
 returns-in-Err g c = λ settings new.
     let first = g.W.Write.contents c.args.out.now in
-    let held = holds_words settings first _ _ _ _ [] c.put_words.ensures ([], refl, empty_holds _ _ _ [] c.new-gathered.ensures (Appends-nil _)) in
+    let held = holds_rows settings c.args.script.now first _ _ _ _ [] [] [] c.put_file_row.ensures ([], (refl, refl, tt), empty_holds _ _ _ [] c.new-gathered.ensures (Appends-nil _)) in
     c.stop.ensures settings first c.args.script.now
-    (c.in-Err.ensures.lists settings first (record { answers = []; took = c.new-session.ensures settings new; held = held }))
+    (c.in-Err.ensures.lists settings first (record {
+      answers = [];
+      took = c.new-session.ensures settings new;
+      listed = [];
+      held = held;
+      follow = subst (λ ls. Follow 0 ls 0) (sym c.new-page.ensures.open) refl;
+      starts = inl refl;
+      lines = c.new-page.ensures.lines c.args.script.now;
+      room = subst (λ (ls : List SourceLine). length ls ≤ 9) (sym c.new-page.ensures.open) (omega arith);
+    }))

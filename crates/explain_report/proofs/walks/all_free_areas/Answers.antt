@@ -1,4 +1,4 @@
-use Rattle.std.proofs.Common.{◌∷◌, List, sym, ap, ◌∙◌}
+use Rattle.std.proofs.Common.{◌∷◌, sym, ap, ◌∙◌}
 use Rattle.vsm_model.specs.declared.Subpool.{Subpool}
 use Rattle.storage_core.specs.Meaning.{state_in_place}
 use Rattle.storage_core.specs.Walks.{subpools_left, subpool_before}

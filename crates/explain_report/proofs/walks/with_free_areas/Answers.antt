@@ -1,59 +1,59 @@
-use Rattle.std.proofs.Common.{sym, subst, ◌∙◌}
-use Rattle.run_set.specs.RunSet.{place_index}
+use Rattle.std.proofs.Common.{◌∙◌, ap, arith}
 use Rattle.subpool_storage.specs.Extents.{free_areas}
 use Rattle.storage_core.specs.Meaning.{state_in_place}
-use Rattle.storage_core.specs.Walks.{subpool_before, IsFreeAreaPlace}
-use Rattle.explain_report.proofs.Walked.{none_added, one_added, all_added, added_room, fewer}
+use Rattle.storage_core.specs.Walks.{subpool_before}
+use Rattle.explain_report.specs.declared.tallies.Tally.{Tally}
+use Rattle.explain_report.specs.Tallies.{with_tally}
+use Rattle.explain_report.proofs.TallyLemmas.{both_joined, room_for_both}
 use Rattle.explain_report.proofs.walks.with_free_areas.Goals as goal
 
-pub loop-area-init : goal.loop-area-init
-loop-area-init c =
-    let first = c.first_free_area_at-place in
-    let p = subpool_before c.args.storage.now c.args.subpool_place in
-    record {
-      place = subst (IsFreeAreaPlace c.args.storage.now p first.result) (sym first.ensures.index) first.ensures;
-      added = none_added (free_areas (state_in_place c.args.storage.now).subpools p) (place_index first.result.place) c.args.before first.ensures.index;
-    }
+pub free_area_sums-requires : goal.free_area_sums-requires
+free_area_sums-requires c = (subpool_before c.args.storage.now c.args.subpool_place, 0, c.first_free_area_at.ensures)
 
-pub next_free_area-requires : goal.next_free_area-requires
-next_free_area-requires c = (subpool_before c.args.storage.now c.args.subpool_place, place_index c.loop-area.place.place, c.loop-area.invariant.place)
-
-pub with_run-tally-requires-clause-total : goal.with_run-tally-requires-clause-total
-with_run-tally-requires-clause-total c =
+pub joined-requires-clause-total : goal.joined-requires-clause-total
+joined-requires-clause-total c =
     let p = subpool_before c.args.storage.now c.args.subpool_place in
-    let i = place_index c.loop-area.place.place in
-    (added_room (free_areas (state_in_place c.args.storage.now).subpools p) i c.in-Some.area c.args.before c.loop-area.tally
-    c.requires.total c.requires.count c.loop-area.invariant.added (sym (c.in-Some.ensures.is p i c.loop-area.invariant.place))).0
+    let rs = free_areas (state_in_place c.args.storage.now).subpools p in
+    let sides = c.free_area_sums.ensures p 0 c.first_free_area_at.ensures in
+    let made = c.from_sums-sides in
+    let k = (room_for_both 2097152 c.args.before made.result.low made.result.high rs (made.ensures.low 2097152 rs sides) (made.ensures.high 2097152 rs sides) c.requires.total c.requires.count).0 in
+    omega (arith, k)
 
-pub with_run-tally-requires-clause-count : goal.with_run-tally-requires-clause-count
-with_run-tally-requires-clause-count c =
+pub joined-requires-clause-count : goal.joined-requires-clause-count
+joined-requires-clause-count c =
     let p = subpool_before c.args.storage.now c.args.subpool_place in
-    let i = place_index c.loop-area.place.place in
-    (added_room (free_areas (state_in_place c.args.storage.now).subpools p) i c.in-Some.area c.args.before c.loop-area.tally
-    c.requires.total c.requires.count c.loop-area.invariant.added (sym (c.in-Some.ensures.is p i c.loop-area.invariant.place))).1
+    let rs = free_areas (state_in_place c.args.storage.now).subpools p in
+    let sides = c.free_area_sums.ensures p 0 c.first_free_area_at.ensures in
+    let made = c.from_sums-sides in
+    let k = (room_for_both 2097152 c.args.before made.result.low made.result.high rs (made.ensures.low 2097152 rs sides) (made.ensures.high 2097152 rs sides) c.requires.total c.requires.count).1 in
+    omega (arith, k)
 
-pub loop-area-smaller : goal.loop-area-smaller
-loop-area-smaller c =
+pub joined-requires-2-clause-total : goal.joined-requires-2-clause-total
+joined-requires-2-clause-total c =
     let p = subpool_before c.args.storage.now c.args.subpool_place in
-    let i = place_index c.loop-area.place.place in
-    fewer (free_areas (state_in_place c.args.storage.now).subpools p) i (place_index c.in-Some.behind.place) c.in-Some.area
-    (sym (c.in-Some.ensures.is p i c.loop-area.invariant.place)) (c.in-Some.ensures.next p i c.loop-area.invariant.place).index
+    let rs = free_areas (state_in_place c.args.storage.now).subpools p in
+    let sides = c.free_area_sums.ensures p 0 c.first_free_area_at.ensures in
+    let made = c.from_sums-sides in
+    let k = (room_for_both 2097152 c.args.before made.result.low made.result.high rs (made.ensures.low 2097152 rs sides) (made.ensures.high 2097152 rs sides) c.requires.total c.requires.count).0 in
+    let e = ap (λ (x : Tally). x.total) c.joined.ensures in
+    omega (arith, k, e)
 
-pub loop-area-preserved : goal.loop-area-preserved
-loop-area-preserved c =
+pub joined-requires-2-clause-count : goal.joined-requires-2-clause-count
+joined-requires-2-clause-count c =
     let p = subpool_before c.args.storage.now c.args.subpool_place in
-    let i = place_index c.loop-area.place.place in
-    let next = c.in-Some.ensures.next p i c.loop-area.invariant.place in
-    record {
-      place = subst (IsFreeAreaPlace c.args.storage.now p c.in-Some.behind) (sym next.index) next;
-      added =
-          one_added (free_areas (state_in_place c.args.storage.now).subpools p) i (place_index c.in-Some.behind.place) c.in-Some.area c.args.before c.loop-area.tally _
-          c.loop-area.invariant.added (sym (c.in-Some.ensures.is p i c.loop-area.invariant.place)) next.index c.with_run-tally.ensures;
-    }
+    let rs = free_areas (state_in_place c.args.storage.now).subpools p in
+    let sides = c.free_area_sums.ensures p 0 c.first_free_area_at.ensures in
+    let made = c.from_sums-sides in
+    let k = (room_for_both 2097152 c.args.before made.result.low made.result.high rs (made.ensures.low 2097152 rs sides) (made.ensures.high 2097152 rs sides) c.requires.total c.requires.count).1 in
+    let e = ap (λ (x : Tally). x.count) c.joined.ensures in
+    omega (arith, k, e)
 
 pub returns : goal.returns
 returns c =
     let p = subpool_before c.args.storage.now c.args.subpool_place in
-    let i = place_index c.loop-area.place.place in
-    all_added (free_areas (state_in_place c.args.storage.now).subpools p) i c.args.before c.loop-area.tally c.loop-area.invariant.added
-    (sym (c.in_default.ensures.is p i c.loop-area.invariant.place))
+    let rs = free_areas (state_in_place c.args.storage.now).subpools p in
+    let sides = c.free_area_sums.ensures p 0 c.first_free_area_at.ensures in
+    let made = c.from_sums-sides in
+    c.joined-2.ensures
+    ∙ ap (λ (x : Tally). with_tally x made.result.high) c.joined.ensures
+    ∙ both_joined 2097152 c.args.before made.result.low made.result.high rs (made.ensures.low 2097152 rs sides) (made.ensures.high 2097152 rs sides) sides.order

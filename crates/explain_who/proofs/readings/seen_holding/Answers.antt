@@ -1,4 +1,4 @@
-use Rattle.std.proofs.Common.{sym, ap, ◌∙◌}
+use Rattle.std.proofs.Common.{ap, ◌∙◌}
 use Rattle.explain_who.specs.Readings.{holding_owned}
 use Rattle.storage_core.specs.Meaning.{settings_of, state_of}
 use Rattle.explain_who.proofs.readings.seen_holding.Goals as goal

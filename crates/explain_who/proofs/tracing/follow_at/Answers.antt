@@ -22,3 +22,6 @@ returns-in-Ok c =
           (c.in-Ok.ensures ∙ ap (λ b. with_told (read_of b asked) before step.told marks) c.bench-2.ensures)
           f;
     }
+
+pub returns-in-Err : goal.returns-in-Err
+returns-in-Err c = record { place = tt; follows = λ settings answers took f. (answers, c.in-Err.ensures.takes settings answers took) }

@@ -1,7 +1,9 @@
-use Rattle.place_reasons.proofs.Endings.{some_both}
+use Rattle.std.proofs.Common.{subst, sym}
+use Rattle.text_output.specs.Writing.{Puts}
+use Rattle.explain_why.specs.Answers.{answer_text}
 use Rattle.explain_why.proofs.lines.put_answer.Goals as goal
 
-pub returns : goal.returns
-returns g c =
-    some_both (g.W.Write.contents c.args.writer.now) (g.W.Write.contents c.put_no_memory.new.writer) (g.W.Write.contents c.put_answered.new.writer)
-    c.args.gathered.now c.put_no_memory.new.gathered c.put_answered.new.gathered c.put_no_memory.ensures c.put_answered.ensures
+pub returns-in-None-clause-text : goal.returns-in-None-clause-text
+returns-in-None-clause-text g c =
+    subst (λ t. Puts (g.W.Write.contents c.args.writer.now) (g.W.Write.contents c.put.new.writer) c.args.gathered.now c.put.new.self (answer_text c.args.shown.now t))
+    (sym c.in-None.is) c.put.ensures.puts

@@ -1,6 +1,6 @@
-use Rattle.std.specs.Prelude.{codes}
+use Rattle.std.specs.Prelude.{codes, ◌++◌}
 use Rattle.script_steps.specs.Responses.{response_text}
-use Rattle.place_reasons.proofs.Endings.{some_both}
+use Rattle.text_output.proofs.Gathering.{puts_both}
 use Rattle.explain_why.proofs.lines.put_answered.Goals as goal
 
 pub returns : goal.returns
@@ -9,7 +9,6 @@ returns g c =
     let first = g.W.Write.contents c.put.new.writer in
     let second = g.W.Write.contents c.put_response.new.writer in
     let new = g.W.Write.contents c.put-2.new.writer in
-    some_both old second new c.args.gathered.now c.put_response.new.gathered c.put-2.new.self
-    (some_both old first second c.args.gathered.now c.put.new.self c.put_response.new.gathered (codes "  answered: ", c.put.ensures.puts)
-    (response_text c.args.shown.now c.args.response.now, c.put_response.ensures))
-    (codes "\n", c.put-2.ensures.puts)
+    let text = response_text c.args.shown.now c.args.response.now in
+    puts_both old first new c.args.gathered.now c.put.new.self c.put-2.new.self (codes "  answered: ") (text ++ codes "\n") c.put.ensures.puts
+    (puts_both first second new c.put.new.self c.put_response.new.gathered c.put-2.new.self text (codes "\n") c.put_response.ensures c.put-2.ensures.puts)

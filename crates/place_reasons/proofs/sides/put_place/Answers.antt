@@ -11,7 +11,7 @@ returns-in-Some-clause-some g c =
 
 pub returns-in-Some-clause-place : goal.returns-in-Some-clause-place
 returns-in-Some-clause-place g c =
-    λ asks. (sides_place c.in-Some.sides, c.in-Some.sides.count, c.in-Some.ensures.place, c.in-Some.ensures.fixed, c.in-Some.ensures.none, c.put_sides.ensures)
+    λ asks. (sides_place c.in-Some.sides, c.in-Some.sides.count, c.in-Some.ensures.place, c.in-Some.ensures.count, c.in-Some.ensures.none, c.put_sides.ensures)
 
 pub returns-in-None-clause-some : goal.returns-in-None-clause-some
 returns-in-None-clause-some g c = some_none (g.W.Write.contents c.args.writer.now) c.args.gathered.now

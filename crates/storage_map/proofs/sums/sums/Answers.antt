@@ -16,18 +16,6 @@ loop-behind-init c =
       free = (let k = ap (sum_of (subpool_free m)) (c.first_subpool_place-place.ensures.all c.args.storage.now) in omega (arith, k));
     }
 
-pub pages_of-own-requires-clause-low : goal.pages_of-own-requires-clause-low
-pages_of-own-requires-clause-low c =
-    let m = (state_in_place c.args.storage.now).subpools in
-    let step = ap (sum_of (subpool_pages m true)) (next_before c.args.storage.now c.loop-behind.place c.in-Some.behind _ c.in-Some.ensures.next c.in-Some.ensures.before) in
-    omega (arith, step, c.loop-behind.invariant.low, c.requires.low)
-
-pub pages_of-own-requires-clause-high : goal.pages_of-own-requires-clause-high
-pages_of-own-requires-clause-high c =
-    let m = (state_in_place c.args.storage.now).subpools in
-    let step = ap (sum_of (subpool_pages m false)) (next_before c.args.storage.now c.loop-behind.place c.in-Some.behind _ c.in-Some.ensures.next c.in-Some.ensures.before) in
-    omega (arith, step, c.loop-behind.invariant.high, c.requires.high)
-
 pub free_of-free-requires-clause-few : goal.free_of-free-requires-clause-few
 free_of-free-requires-clause-few c =
     let m = (state_in_place c.args.storage.now).subpools in

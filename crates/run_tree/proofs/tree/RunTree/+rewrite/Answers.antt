@@ -30,13 +30,13 @@ pub renew-requires-else-k-middle-2-clause-linked : goal.renew-requires-else-k-mi
 renew-requires-else-k-middle-2-clause-linked t c = up_linked' c.args.elements.now c.args.self c.open-node.result c.open-node.ensures.opens c.requires.tree c.args.k c.args.run (c.args.k - c.open-node.result.left.count - 1) (omega (arith, c.if-k-middle.false, c.if-k-middle-2.false)) refl c.rewrite-behind.new.elements c.rewrite-behind.ensures.writes c.open-node.ensures.linked
 
 pub renew-requires-else-k-middle-2-clause-before : goal.renew-requires-else-k-middle-2-clause-before
-renew-requires-else-k-middle-2-clause-before t c = left_rooms c.args.elements.now c.args.self c.open-node.result c.open-node.ensures.opens c.requires.tree c.args.k c.args.run (c.args.k - c.open-node.result.left.count - 1) (omega (arith, c.if-k-middle.false, c.if-k-middle-2.false)) refl c.rewrite-behind.new.elements c.rewrite-behind.ensures.writes c.rooms-before-else-k-middle-2.result (c.rooms-before-else-k-middle-2.ensures.plain, c.rooms-before-else-k-middle-2.ensures.paged)
+renew-requires-else-k-middle-2-clause-before t c = left_rooms c.args.elements.now c.args.self c.open-node.result c.open-node.ensures.opens c.requires.tree c.args.k c.args.run (c.args.k - c.open-node.result.left.count - 1) (omega (arith, c.if-k-middle.false, c.if-k-middle-2.false)) refl c.rewrite-behind.new.elements c.rewrite-behind.ensures.writes c.rooms-before.result (c.rooms-before.ensures.plain, c.rooms-before.ensures.paged, c.rooms-before.ensures.total)
 
 pub returns-then-k-middle-clause-writes : goal.returns-then-k-middle-clause-writes
 returns-then-k-middle-clause-writes t c = write_left c.args.elements.now c.args.self c.open-node.result c.open-node.ensures.opens c.requires.tree c.args.k c.args.run c.if-k-middle.true c.rewrite-before.new.elements c.rewrite-before.ensures.writes c.renew.new.elements c.renew.ensures.joins
 
 pub returns-then-k-middle-2-clause-writes : goal.returns-then-k-middle-2-clause-writes
-returns-then-k-middle-2-clause-writes t c = write_here c.args.elements.now c.args.self c.open-node.result c.open-node.ensures.opens c.requires.tree c.args.k c.args.run c.renew-then-k-middle-2.new.elements c.if-k-middle-2.true c.renew-then-k-middle-2.ensures.joins
+returns-then-k-middle-2-clause-writes t c = write_here c.args.elements.now c.args.self c.open-node.result c.open-node.ensures.opens c.requires.tree c.args.k c.args.run c.fill.new.elements c.if-k-middle-2.true c.fill.ensures.joins
 
 pub returns-else-k-middle-2-clause-writes : goal.returns-else-k-middle-2-clause-writes
 returns-else-k-middle-2-clause-writes t c = write_right c.args.elements.now c.args.self c.open-node.result c.open-node.ensures.opens c.requires.tree c.args.k c.args.run (c.args.k - c.open-node.result.left.count - 1) (omega (arith, c.if-k-middle.false, c.if-k-middle-2.false)) refl c.rewrite-behind.new.elements c.rewrite-behind.ensures.writes c.renew-else-k-middle-2.new.elements c.renew-else-k-middle-2.ensures.joins

@@ -3,7 +3,7 @@ use Rattle.std.proofs.lemmas.List.{length-append, map-append}
 use Rattle.vsm_model.specs.Standing.{nothing_stands}
 use Rattle.macro_reader.specs.Scripts.{Answers, told_at_end}
 use Rattle.script_steps.specs.Answers.{Tells, told_text}
-use Rattle.script_steps.specs.Output.{AllMet}
+use Rattle.script_steps.specs.Output.{AllMet, refusals}
 use Rattle.script_steps.specs.Script.{columns, last_line}
 use Rattle.bench_core.specs.Stands.{bench_of}
 use Rattle.script_steps.specs.Taken.{answers_of}
@@ -62,12 +62,16 @@ returns-clause-brings c = λ settings given answers h.
     (λ i. (answers_of answers ++ sym t.answers i) ++ sym u.answers i)
     ∙ ap (λ x. x ++ answers_of u.more) (sym (map-append _ answers t.more))
     ∙ sym (map-append _ (answers ++ t.more) u.more) in
+    let size = length-append (answers ++ t.more) u.more in
+    let size2 = length-append answers t.more in
+    let refused = ap (refusals settings nothing_stands) (append_assoc answers t.more u.more) ∙ refused_both settings answers t.more u.more in
     record {
       more = t.more;
       also = u.more;
       last = t.brings;
       shows = t.shows;
       unended = u.brings;
+      shows_on = u.shows;
       led = t.led;
       led_on = u.led;
       ended = record {
@@ -77,4 +81,8 @@ returns-clause-brings c = λ settings given answers h.
         told = subst (Answers (map columns h.lines ++ last_line h.rest)) all (c.finish.ensures.answers _ _ last.1);
         met = u.led.met;
       };
+      counts = (
+        omega (arith, size, size2, h.statements, t.count, u.count, c.told_count.ensures.count, c.told_count-2.ensures.count),
+        omega (arith, refused, h.refused, t.refused, u.refused, c.told_refused.ensures.count, c.told_refused-2.ensures.count),
+      );
     }

@@ -1,0 +1,19 @@
+use Rattle.std.proofs.Common.{◌≤◌, ◌∙◌, List, length, ap, sym, subst, arith}
+use Rattle.statement_faults.specs.declared.lines.OpenLines.{OpenLines}
+use Rattle.statement_faults.specs.declared.lines.SourceLine.{SourceLine}
+use Rattle.explain_list.proofs.Marked.{open_none, open_some, plain_page, whole_of}
+use Rattle.explain_list.proofs.pages.ListingPage.take.Goals as goal
+
+pub returns-then-shows : goal.returns-then-shows
+returns-then-shows c = record {
+  page = λ at lines. c.show.ensures.page (c.keep.ensures.lines c.args.script.now at lines);
+  whole = λ room. whole_of c.show.new.self ∙ ap (λ (ls : OpenLines). ls.lines.items) c.show.ensures.lines ∙ c.keep.ensures.whole room;
+  room = subst (λ (ls : List SourceLine). length ls ≤ 9) (sym (open_some c.show.new.self _ c.show.ensures.last)) (omega arith);
+}
+
+pub returns-else-shows : goal.returns-else-shows
+returns-else-shows c = record {
+  page = λ at lines. plain_page c.args.script.now c.keep.new.self (c.keep.ensures.lines c.args.script.now at lines) c.keep.ensures.fault;
+  whole = λ room. whole_of c.keep.new.self ∙ c.keep.ensures.whole room;
+  room = subst (λ (ls : List SourceLine). length ls ≤ 9) (sym (open_none c.keep.new.self c.keep.ensures.last)) (c.shows.ensures c.if-shows.false);
+}

@@ -1,0 +1,12 @@
+use Rattle.std.proofs.Common.{[], refl}
+use Rattle.explain_list.specs.Rows.{on_file}
+use Rattle.explain_list.proofs.Each.{row_one, rows_no}
+use Rattle.explain_list.proofs.rows.put_file_row.Goals as goal
+
+pub returns-in-Some : goal.returns-in-Some
+returns-in-Some g c =
+    let e = c.put_warning.ensures in
+    row_one c.args.script.now [] _ _ _ _ (on_file e.0) refl e.1 e.2
+
+pub returns-in_default : goal.returns-in_default
+returns-in_default g c = rows_no c.args.script.now _ _

@@ -1,0 +1,55 @@
+-- The lines of the statement that is open or shown.
+use Rattle.std.specs.Prelude.{◌≡◌, ◌≤◌, ◌<◌, ◌⊎◌, List, [], ◌∷◌, ◌++◌, ℕ, ◌-◌, if◌then◌else◌, is_some, length}
+use Rattle.std.specs.Prelude.{IfSome, Option, Some, None, Result, Ok, Err}
+use Rattle.std.specs.List.{AllByRecursion}
+use Rattle.script_steps.specs.declared.session.TooLong.{TooLong}
+use Rattle.script_steps.specs.declared.steps.Step.{Step}
+use Rattle.statement_faults.specs.Places.{first_card, further_cards, MarksOperand}
+use Rattle.statement_faults.specs.declared.lines.SourceLine.{SourceLine}
+use Rattle.explain_list.specs.Rows.{IsLineAt}
+use Rattle.explain_list.specs.declared.pages.ListingPage.{ListingPage}
+
+-- The line that was taken in a step, without its line feed.
+abbrev pub line_of : ℕ → Step → SourceLine
+line_of number step = record { number = number; start = step.start; end = step.next - 1 }
+
+-- They are lines of the script, and so are the two that were taken last.
+pub record AreLinesOf (script : List ℕ) (page : ListingPage) : Type 0 where
+  pub each : AllByRecursion (IsLineAt script) page.lines.lines.items
+  pub current : IfSome page.current (IsLineAt script)
+  pub before : IfSome page.before (IsLineAt script)
+
+-- Those that are shown, and those that aren't yet.
+abbrev pub shown_of : ListingPage → List SourceLine
+shown_of page = if is_some page.last then page.lines.lines.items else []
+
+abbrev pub open_of : ListingPage → List SourceLine
+open_of page = if is_some page.last then [] else page.lines.lines.items
+
+-- A last line of the script follows them, if it has any bytes.
+abbrev pub TakesLast : List ℕ → SourceLine → ListingPage → ListingPage → Type 0
+TakesLast script line old new =
+    ((length script ≤ line.start) × (shown_of new ++ open_of new ≡ open_of old))
+    ⊎ ((line.start < length script) × (shown_of new ++ open_of new ≡ open_of old ++ line ∷ []))
+
+-- The line that was taken in a step follows those that weren't shown yet.
+abbrev pub TakesLine : ListingPage → ListingPage → Result (Option Step) TooLong → Type 0
+TakesLine old new (Ok (Some step)) =
+    (length (open_of new) ≤ 9)
+    × (length (open_of old) ≤ 9 → (line : SourceLine) × (line.start ≡ step.start) × (line.end ≡ step.next - 1)
+    × (shown_of new ++ open_of new ≡ open_of old ++ line ∷ []))
+TakesLine old new (Ok None) = new ≡ old
+TakesLine old new (Err e) = Unit {0}
+
+-- And if a fault is shown, its caret is that of the statement over them.
+pub record IsPage (script : List ℕ) (page : ListingPage) : Type 0 where
+  pub lines : AreLinesOf script page
+  pub marks :
+      IfSome page.fault (λ f. MarksOperand (first_card script page.lines.lines.items)
+      (further_cards script page.lines.lines.items) f.1 f.0)
+
+-- So they are after a line that was taken; and the lines still are where none was.
+abbrev pub IsPageAfter : List ℕ → Result (Option Step) TooLong → ListingPage → Type 0
+IsPageAfter script (Ok (Some step)) page = IsPage script page
+IsPageAfter script (Ok None) page = AreLinesOf script page
+IsPageAfter script (Err e) page = Unit {0}

@@ -1,0 +1,166 @@
+-- What is written of a script that was followed is what the definitions say.
+use Rattle.std.proofs.Common.{◌≡◌, ℕ, Bool, true, false, if◌then◌else◌, List, [], ◌∷◌, length, map, reverse, Option, Some, None, Result, Ok, Err, sym, ap, ◌∙◌, subst, flat_map, codes, ◌++◌}
+use Rattle.std.proofs.lemmas.List.{length-map, length-reverse, reverse-reverse}
+use Rattle.std.proofs.lemmas.Simd.{map-map}
+use Rattle.std.specs.Io.KnownBytes.{Appends}
+use Rattle.macro_statements.specs.Requests.{Act}
+use Rattle.vsm_model.specs.declared.limits.Settings.{Settings}
+use Rattle.vsm_model.specs.declared.replies.Reply.{Reply}
+use Rattle.vsm_model.specs.Names.{first_named_state}
+use Rattle.vsm_model.specs.Standing.{Stood, Standing, nothing_stands}
+use Rattle.bench_core.specs.Machine.{statement_step}
+use Rattle.text_output.specs.Writing.{AppendsFront, IsEmpty, Puts, Writes}
+use Rattle.text_output.specs.declared.writing.Gathered.{Gathered}
+use Rattle.text_output.specs.declared.writing.WriteFault.{WriteFault}
+use Rattle.text_output.specs.Writing.{Holds}
+use Rattle.text_output.proofs.Gathering.{empty_holds}
+use Rattle.text_output.proofs.Known.{appends_nothing}
+use Rattle.explain_who.specs.Faults.{FollowsNot}
+use Rattle.explain_who.specs.Lined.{lined_all}
+use Rattle.explain_who.specs.Readings.{reading}
+use Rattle.explain_who.specs.Texts.{found_text, kept_text, log_text, lines_of, standing_text, state_text, statements_text}
+use Rattle.explain_who.specs.Told.{is_absent, missing, lacking, standing_entries, undone_entries, entry_lines, TellsFound, changes_of, who_text, lacking_of, NamesChanges, NamesStatements}
+use Rattle.explain_who.specs.Traced.{IsTraced}
+use Rattle.explain_who.specs.Trails.{marks_of}
+use Rattle.explain_who.specs.Who.{Difference, differences_of}
+use Rattle.explain_who.specs.declared.faults.WhoFault.{WhoFault}
+use Rattle.explain_who.specs.declared.faults.WhoFault.TheVariants as fault
+use Rattle.explain_who.specs.declared.readings.Subject.{Subject as AskedOf}
+use Rattle.explain_who.specs.declared.readings.Subject.TheVariants as asked
+use Rattle.explain_who.specs.declared.readings.Seen.{Seen}
+use Rattle.explain_who.specs.declared.trail.TrailEntry.{TrailEntry}
+use Rattle.explain_who.specs.declared.tracing.Traced.{Traced}
+use Rattle.explain_who.proofs.Backwards.{map_reverse}
+use Rattle.explain_who.proofs.Followed.{found_standing}
+use Rattle.explain_who.proofs.Moves.{onto, seen_count, seen_lines, standing_marks, undone_marks}
+
+-- What is put is written, where nothing was gathered before.
+pub all_written : (old now new : Option (List ℕ)) (g h : Gathered) (text : List ℕ) (r : Result (Unit {0}) WriteFault) → IsEmpty g → Puts old now g h text →
+    ((at_first : Option (List ℕ)) (t : List ℕ) → Holds at_first now h t → Writes at_first new t r) → Writes old new text r
+all_written old now new g h text r empty put out = out old text (put old [] (empty_holds old old g [] empty (appends_nothing old)))
+
+-- The lines of statements are put, each as often as it has an entry.
+pub log_put : (old new : Option (List ℕ)) (a b : Gathered) (script : List ℕ) (u undone s standing : List (TrailEntry Seen)) (kept : ℕ) → u ≡ undone → s ≡ standing →
+    Puts old new a b (flat_map (state_text script (codes "undone")) (reverse (entry_lines u)) ++ standing_text script (reverse (entry_lines s)) kept ++ kept_text (length s) kept) →
+    Puts old new a b (statements_text script (entry_lines undone) (reverse (entry_lines standing)) kept)
+log_put old new a b script u undone s standing kept is_undone stand put =
+    let count : length s ≡ length (reverse (entry_lines s)) = sym (length-reverse (entry_lines s) ∙ length-map s (λ (e : TrailEntry Seen). e.line)) in
+    let front = flat_map (state_text script (codes "undone")) (reverse (entry_lines u)) ++ standing_text script (reverse (entry_lines s)) kept in
+    let same : front ++ kept_text (length s) kept ≡ statements_text script (entry_lines undone) (reverse (entry_lines standing)) kept =
+    ap (λ n. front ++ kept_text n kept) count ∙ (λ i. statements_text script (entry_lines (is_undone i)) (reverse (entry_lines (stand i))) kept) in
+    subst (Puts old new a b) same put
+
+module _ (settings : Settings) (script : List ℕ) (t : Traced) (question : AskedOf) (found : List Difference) (old : Option (List ℕ)) where
+  abbrev Says : WhoFault → Type 0
+  Says f = lacking question t.first found ≡ Some f → TellsFound settings script t question found old old (Err f)
+
+  says : (q : AskedOf) (f : WhoFault) → missing q ≡ Some f → Says f
+  says (asked.Bytes address count) f e = absurd (let no : ◌≡◌ {A = Option WhoFault} None (Some f) = e in cc)
+  says (asked.Register task register) f e =
+      let is : fault.NoTask task ≡ f = cc in subst Says is (λ h. (h, appends_nothing old))
+  says (asked.Name name) f e = let is : fault.NoName name ≡ f = cc in subst Says is (λ h. (h, appends_nothing old))
+  says (asked.Subpool task number) f e =
+      let is : fault.NoTask task ≡ f = cc in subst Says is (λ h. (h, appends_nothing old))
+  says (asked.Holder address) f e = absurd (let no : ◌≡◌ {A = Option WhoFault} None (Some f) = e in cc)
+
+  -- What is lacking is a task or a name.
+  is_missing : (b : Bool) (f : WhoFault) → (if b then missing question else None) ≡ Some f → missing question ≡ Some f
+  is_missing true f e = e
+  is_missing false f e = absurd (let no : ◌≡◌ {A = Option WhoFault} None (Some f) = e in cc)
+
+  from_lacking : (ds : List Difference) (f : WhoFault) → lacking question t.first ds ≡ Some f → missing question ≡ Some f
+  from_lacking [] f e = is_missing (is_absent t.first) f e
+  from_lacking (d ∷ ds) f e = absurd (let no : ◌≡◌ {A = Option WhoFault} None (Some f) = e in cc)
+
+  pub lacking_told : (f : WhoFault) → lacking question t.first found ≡ Some f → TellsFound settings script t question found old old (Err f)
+  lacking_told f e = says question f (from_lacking found f e) e
+
+module _ (settings : Settings) (script : List ℕ) where
+  -- how many statements stand
+  stand_count : (asked : Option AskedOf) (t : Traced) (h : IsTraced settings script asked t) →
+      length (standing_entries t) ≡ length (lined_all settings nothing_stands h.answers).stood
+  stand_count asked t h =
+      let read = reading settings asked in
+      let step = statement_step settings in
+      let l = lined_all settings nothing_stands h.answers in
+      let old : List (ℕ × Act) = map (λ y. y.statement) (reverse l.stood) in
+      ap length (standing_marks first_named_state step read l (marks_of t.trail) h.follows)
+      ∙ seen_count first_named_state step read [] old
+      ∙ length-map (reverse l.stood) (λ y. y.statement)
+      ∙ length-reverse l.stood
+
+  module _ (question : AskedOf) (t : Traced) (h : IsTraced settings script (Some question) t) where
+    abbrev found : List Difference
+    found = differences_of t.first (standing_entries t)
+
+    found_is : found ≡ changes_of settings script question h.answers
+    found_is = found_standing settings (reading settings (Some question)) h.answers t.first (marks_of t.trail) h.first h.follows
+
+    text_is : found_text settings script question found (length (standing_entries t)) ≡ who_text settings script question h.answers
+    text_is = λ i. found_text settings script question (found_is i) (stand_count (Some question) t h i)
+
+    lacking_is : lacking question t.first found ≡ lacking_of settings script question h.answers
+    lacking_is = λ i. lacking question (h.first i) (found_is i)
+
+    pub changes_named : (old new : Option (List ℕ)) (r : Result (Unit {0}) WhoFault) → TellsFound settings script t question found old new r →
+        NamesChanges settings script question old new r
+    changes_named old new (Ok u) (none, out) =
+        (h.answers, h.ended, sym lacking_is ∙ none, subst (Appends old new) text_is out)
+    changes_named old new (Err fault.Write) (none, out) =
+        (h.answers, h.ended, sym lacking_is ∙ none, subst (AppendsFront old new) text_is out)
+    changes_named old new (Err (fault.NoTask task)) (some, out) = (h.answers, h.ended, sym lacking_is ∙ some, out)
+    changes_named old new (Err (fault.NoName name)) (some, out) = (h.answers, h.ended, sym lacking_is ∙ some, out)
+    changes_named old new (Err fault.Memory) out = out
+    changes_named old new (Err fault.Count) out = absurd out
+    changes_named old new (Err fault.TooLong) out = absurd out
+    changes_named old new (Err (fault.New f)) out = absurd out
+
+  -- A script that isn't followed.
+  pub changes_unnamed : (question : AskedOf) (old : Option (List ℕ)) (f : WhoFault) → FollowsNot settings script f →
+      NamesChanges settings script question old old (Err f)
+  changes_unnamed question old (fault.New f) h = (h, appends_nothing old)
+  changes_unnamed question old fault.TooLong h = (h, appends_nothing old)
+  changes_unnamed question old fault.Memory h = appends_nothing old
+  changes_unnamed question old fault.Count h = absurd h
+  changes_unnamed question old (fault.NoTask task) h = absurd h
+  changes_unnamed question old (fault.NoName name) h = absurd h
+  changes_unnamed question old fault.Write h = absurd h
+
+  pub statements_unnamed : (old : Option (List ℕ)) (f : WhoFault) → FollowsNot settings script f →
+      NamesStatements settings script old old (Err f)
+  statements_unnamed old (fault.New f) h = (h, appends_nothing old)
+  statements_unnamed old fault.TooLong h = (h, appends_nothing old)
+  statements_unnamed old fault.Memory h = appends_nothing old
+  statements_unnamed old fault.Count h = absurd h
+  statements_unnamed old (fault.NoTask task) h = absurd h
+  statements_unnamed old (fault.NoName name) h = absurd h
+  statements_unnamed old fault.Write h = absurd h
+
+  -- the lines of the statements
+  lines_in : (xs : List (Stood (ℕ × Act) Reply)) → map (λ x. x.0) (map (λ y. y.statement) xs) ≡ lines_of xs
+  lines_in xs = map-map (λ (x : ℕ × Act). x.0) (λ (y : Stood (ℕ × Act) Reply). y.statement) xs
+
+  module _ (t : Traced) (h : IsTraced settings script None t) where
+    abbrev stands : Standing (ℕ × Act) Reply
+    stands = lined_all settings nothing_stands h.answers
+
+    undone_is : entry_lines (undone_entries t) ≡ lines_of stands.undone
+    undone_is =
+        let read = reading settings None in
+        let step = statement_step settings in
+        let old : List (ℕ × Act) = map (λ y. y.statement) (reverse stands.stood) in
+        ap entry_lines (undone_marks first_named_state step read stands (marks_of t.trail) h.follows)
+        ∙ seen_lines first_named_state step read (onto first_named_state step read [] old) (map (λ y. y.statement) stands.undone)
+        ∙ lines_in stands.undone
+
+    standing_is : reverse (entry_lines (standing_entries t)) ≡ lines_of stands.stood
+    standing_is =
+        let read = reading settings None in
+        let step = statement_step settings in
+        let old : List (ℕ × Act) = map (λ y. y.statement) (reverse stands.stood) in
+        ap (λ es. reverse (entry_lines es)) (standing_marks first_named_state step read stands (marks_of t.trail) h.follows)
+        ∙ ap reverse (seen_lines first_named_state step read [] old ∙ lines_in (reverse stands.stood) ∙ map_reverse (λ x. x.statement.0) stands.stood)
+        ∙ reverse-reverse (lines_of stands.stood)
+
+    pub log_is : statements_text script (entry_lines (undone_entries t)) (reverse (entry_lines (standing_entries t))) t.kept ≡ log_text script stands
+    log_is = λ i. statements_text script (undone_is i) (standing_is i) (h.kept i)

@@ -1,0 +1,41 @@
+use Rattle.std.proofs.Common.{reverse, Ok, Err, subst}
+use Rattle.std.specs.Io.KnownBytes.{Appends}
+use Rattle.text_output.specs.Writing.{AppendsFront}
+use Rattle.explain_who.specs.Texts.{statements_text}
+use Rattle.explain_who.specs.Told.{entry_lines, standing_entries, undone_entries}
+use Rattle.explain_who.proofs.Told.{all_written, log_is}
+use Rattle.explain_who.proofs.output.log.Goals as goal
+
+pub returns-in-Ok-hand_out : goal.returns-in-Ok-hand_out
+returns-in-Ok-hand_out g c =
+    let t = c.in-Ok.traced in
+    let script = c.args.script.now in
+    let old = g.W.Write.contents c.args.out.now in
+    let new = g.W.Write.contents c.hand_out.new.writer in
+    let text = statements_text script (entry_lines (undone_entries t)) (reverse (entry_lines (standing_entries t))) t.kept in
+    record {
+      told = (
+        c.in-Ok.ensures.answers,
+        c.in-Ok.ensures.ended,
+        subst (Appends old new) (log_is c.args.settings script t c.in-Ok.ensures)
+            (all_written old (g.W.Write.contents c.put_log.new.writer) new c.new-gathered.result c.put_log.new.gathered text (Ok tt) c.new-gathered.ensures c.put_log.ensures
+            c.in-Ok-hand_out.ensures.writes),
+      );
+    }
+
+pub returns-in-Err-hand_out : goal.returns-in-Err-hand_out
+returns-in-Err-hand_out g c =
+    let t = c.in-Ok.traced in
+    let script = c.args.script.now in
+    let old = g.W.Write.contents c.args.out.now in
+    let new = g.W.Write.contents c.hand_out.new.writer in
+    let text = statements_text script (entry_lines (undone_entries t)) (reverse (entry_lines (standing_entries t))) t.kept in
+    record {
+      told = (
+        c.in-Ok.ensures.answers,
+        c.in-Ok.ensures.ended,
+        subst (AppendsFront old new) (log_is c.args.settings script t c.in-Ok.ensures)
+            (all_written old (g.W.Write.contents c.put_log.new.writer) new c.new-gathered.result c.put_log.new.gathered text (Err c.in-Err-hand_out.field-0) c.new-gathered.ensures c.put_log.ensures
+            c.in-Err-hand_out.ensures.writes),
+      );
+    }

@@ -1,0 +1,3 @@
+-- Lemmas on what clap reads of the words.
+mod CommandLines
+mod Whole

@@ -1,0 +1,105 @@
+-- The command line as clap is told of it.
+use Rattle.std.specs.Prelude.{◌≡◌, ◌⊎◌, ℕ, Result, Ok, Err, true, false, List, [], ◌∷◌, codes, fold, map, Some}
+use Rattle.clap.specs.Simple.{new_shape}
+use Rattle.clap.specs.Words.{App, Rule, Shape, Text, kind_of, new_app, new_rule, subcommand_of, subcommand_rows_of}
+use Rattle.clap.specs.Words.{takes, with_rule}
+use Rattle.clap.specs.declared.error.ErrorKind.TheVariants as error
+use Rattle.clap.specs.declared.parser.ArgMatches.{ArgMatches}
+use Rattle.clap.specs.declared.Error.{Error}
+use Rattle.clap.specs.declared.builder.ArgAction.TheVariants.{SetTrue}
+use Rattle.vsm_bench.specs.Settings.{AreResidences, Residences, with_settings}
+use Rattle.vsm_explain.specs.declared.forms.WordRow.{WordRow}
+use Rattle.vsm_explain.specs.declared.forms.WordKind.{WordKind}
+use Rattle.vsm_explain.specs.declared.forms.WordKind.TheVariants as kind
+use Rattle.vsm_explain.specs.declared.forms.CommandForm.{CommandForm}
+
+-- ---- what a command takes
+
+abbrev pub flag : Text → Rule
+flag name = record (new_rule name) { long = Some name; action = Some SetTrue }
+
+abbrev pub valued : Text → Rule
+valued name = record (new_rule name) { long = Some name; value_names = 1 }
+
+abbrev pub operand : Text → Rule
+operand name = record (new_rule name) { value_names = 1 }
+
+abbrev pub needed : Text → Rule
+needed name = record (new_rule name) { required = true }
+
+-- a command: its name, and its options and operands in order
+pub record Form : Type 0 where
+  pub name : Text
+  pub rules : List Rule
+
+abbrev pub list_form : Form
+list_form = record { name = codes "list"; rules = flag (codes "check") ∷ operand (codes "FILE") ∷ [] }
+
+abbrev pub why_form : Form
+why_form = record { name = codes "why"; rules = needed (codes "FILE") ∷ operand (codes "LINE") ∷ [] }
+
+abbrev pub report_form : Form
+report_form = record {
+  name = codes "report";
+  rules = flag (codes "over-time") ∷ valued (codes "subpool") ∷ operand (codes "FILE") ∷ operand (codes "LINE") ∷ [];
+}
+
+abbrev pub who_form : Form
+who_form = record {
+  name = codes "who";
+  rules =
+      valued (codes "register") ∷ valued (codes "name") ∷ valued (codes "subpool") ∷ valued (codes "holds")
+      ∷ flag (codes "log") ∷ operand (codes "FILE") ∷ operand (codes "ADDRESS") ∷ operand (codes "COUNT") ∷ [];
+}
+
+abbrev pub forms : List Form
+forms = list_form ∷ why_form ∷ report_form ∷ who_form ∷ []
+
+-- ---- the program
+
+-- a command has the options of a bench before its own
+abbrev pub app_in : Residences → Form → App
+app_in values form = fold with_rule (with_settings values (new_app form.name)) form.rules
+
+abbrev pub IsShapeOf : Form → Shape → Type 0
+IsShapeOf form shape = (values : Residences) × AreResidences values × (shape ≡ (app_in values form).top)
+
+abbrev pub AreShapesOf : List Form → List Shape → Type 0
+AreShapesOf [] [] = Unit {0}
+AreShapesOf (form ∷ forms) (shape ∷ shapes) = IsShapeOf form shape × AreShapesOf forms shapes
+AreShapesOf _ _ = ⊥
+
+-- one of the commands has to be named, and none of them is for help
+abbrev pub program : Shape
+program = record (new_shape (codes "vsm-explain")) {
+  has_version = true;
+  subcommand_required = true;
+  disable_help_subcommand = true;
+}
+
+pub record IsCommandLine (app : App) : Type 0 where
+  pub top : app.top ≡ record program { is_leaf = false }
+  pub commands : AreShapesOf forms app.subs
+
+-- ---- the code's tables
+
+abbrev pub rule_by : WordKind → Text → Rule
+rule_by kind.Flag name = flag name
+rule_by (kind.Valued value) name = valued name
+rule_by (kind.Operand value) name = operand name
+rule_by kind.File name = needed name
+
+abbrev pub rule_in : WordRow → Rule
+rule_in row = rule_by row.kind row.name.now
+
+abbrev pub form_in : CommandForm → Form
+form_in form = record { name = form.name.now; rules = map rule_in form.rows.now }
+
+-- ---- what is read
+
+-- What was read is what the words give to the command that they name; or they are no words of a command, or there is no
+-- memory.
+abbrev pub Reads : List Text → Result ArgMatches Error → Type 0
+Reads words (Ok m) = (app : App) × IsCommandLine app × (subcommand_rows_of m ≡ subcommand_of app words)
+Reads words (Err e) =
+    (kind_of e ≡ error.OutOfMemory) ⊎ ((app : App) × IsCommandLine app × (takes app words ≡ true → ⊥))
