@@ -27,7 +27,7 @@ NOT_INSTALLED = re.compile(r".*/(tests/|\.)|(page|tools)/check|tools/c/|"
 # How the tools begin, and how a package wants them to.
 FREE_PYTHON, SYSTEM_PYTHON = b"#!/usr/bin/env python3\n", b"#!/usr/bin/python3\n"
 DOCS = ("STATEMENTS.md", "MESSAGES.md", "EXPLAIN.md", "PROTOCOL.md", "ZOS.md", "GLOSSARY.md", "TOOLS.md", "VIEW.md",
-        "BENCH-IN-A-BROWSER.md")
+        "EDITORS.md", "BENCH-IN-A-BROWSER.md")
 # The proved programs, by the crates that build them.
 PROGRAMS = {"vsm": "vsm", "vsm-explain": "vsm_explain_program"}
 COMMANDS = ("list", "why", "report", "who")
@@ -138,8 +138,9 @@ def put_programs(release: Release, root: Path) -> None:
         if re.match(r"(tools|page)/", file) and not NOT_INSTALLED.match(file):
             copy(release.top / file, share / file)
     if (share / "page").is_dir():
-        # The page tells what each answer means.
-        copy(release.top / "docs" / "MESSAGES.md", share / "docs" / "MESSAGES.md")
+        # The page says what each answer means, and vsm-lsp also what each operand does.
+        for name in ("MESSAGES.md", "STATEMENTS.md"):
+            copy(release.top / "docs" / name, share / "docs" / name)
     for name in release.tools:
         (root / "bin" / name).symlink_to(Path("..") / "share" / "nilbozad" / "tools" / name)
     for name in facts.BENCH:

@@ -19,7 +19,7 @@ from vsmtools import bench, lines, maps
 from vsmtools.command import Fault
 
 ALL = ("vsm-load", "vsm-paste", "vsm-prompt")
-EVERY = (*ALL, "vsm-test", "vsm-view")
+EVERY = (*ALL, "vsm-dap", "vsm-lsp", "vsm-test", "vsm-view")
 RUNNING = ("vsm-load", "vsm-prompt")
 MAP = (TOP / "examples" / "cell-pools.out").read_bytes()
 GIVEN = {"vsm-load": MAP, "vsm-paste": b" GETMAIN R,LV=8\n", "vsm-prompt": b"map\n"}

@@ -14,4 +14,21 @@ maps          the lines of a MAP as data
 pasting       macros of a source as statements, for vsm-paste
 prompting     a session at a prompt: its lines, its changes and its commands
 words         the words of a script, for completion
+
+Of vsm-dap and vsm-lsp, over these:
+
+console       what is typed into a debugger's console
+debugging     the requests of the Debug Adapter Protocol
+documents     the text of a script in an editor: its changes, columns and statements
+features      what a language server says of places in a script
+language      the messages of the Language Server Protocol, and diagnostics
+listing       what vsm-explain list says, as data
+manuals       what STATEMENTS and MESSAGES say of operations, operands and answers
+reading       a statement's parts with their places
+rpc           messages: frames, and the numbers of errors
+running       where a debugged script stops
+runs          programs that run while an editor is heard
+showing       a MAP as the variables of a debugger, and what can be watched
+tracking      which names, cell pools, tasks and subpools exist at a line
+walking       a walk over a script, forwards and backwards
 """

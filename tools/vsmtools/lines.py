@@ -2,8 +2,7 @@
 from __future__ import annotations
 
 import re
-from dataclasses import dataclass
-from typing import Iterator, Optional, Sequence
+from typing import Iterator, NamedTuple, Optional, Sequence
 
 from .command import Fault
 
@@ -12,8 +11,7 @@ CONTINUED_FROM = 16    # the column in which operands go on
 MOST_LINES = 10        # of one statement
 
 
-@dataclass(frozen=True)
-class Extent:
+class Extent(NamedTuple):
     """A statement's lines, from 1: all from the first to the last, those that a fault drops among them."""
     first: int
     last: int

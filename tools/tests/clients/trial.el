@@ -1,0 +1,18 @@
+;;; What the two trials of Emacs share.
+(require 'package)
+(setq user-emacs-directory (file-name-as-directory (make-temp-file "vsm-emacs" t))
+      enable-local-variables nil create-lockfiles nil make-backup-files nil)
+(package-initialize)
+(defvar vsm-wrong 0)
+(defun vsm-check (what is-right &optional seen)
+  (unless is-right (setq vsm-wrong (1+ vsm-wrong)))
+  (princ (format "%s %s%s\n" (if is-right "right" "WRONG") what (if seen (format ": %S" seen) ""))))
+(defun vsm-wait (does)
+  "What a function gives once that isn't nil; nil after 20 seconds."
+  (let ((tries 0) found)
+    (while (and (not (setq found (funcall does))) (< (setq tries (1+ tries)) 1000))
+      (accept-process-output nil 0.02))
+    found))
+(defun vsm-end ()
+  (princ (format "%d wrong\n" vsm-wrong))
+  (kill-emacs (if (zerop vsm-wrong) 0 1)))

@@ -1,0 +1,481 @@
+"""vsm-dap: scripts walked in both directions, breakpoints, memory, the console, and clients that are wrong."""
+from __future__ import annotations
+
+import base64
+import os
+import random
+import signal
+import time
+from pathlib import Path
+from typing import Any, Iterator
+
+import pytest
+from conftest import TOP
+from editors import BAD, Debugged, Message, tree
+from load_scripts import small_script
+from protocols import check_dap
+
+from vsmtools import bench
+from vsmtools.debugging import Adapter
+from vsmtools.lines import is_continued, options_for
+from vsmtools.maps import Map, parse_map
+from vsmtools.walking import Script
+
+EXAMPLES = sorted((TOP / "examples").glob("*.vsm"))
+FIRST = TOP / "examples" / "first-steps.vsm"
+SCRIPTS = 200    # generated
+TYPED = ("storage obtain,length=8,addr=Z", "back 1", "forward 1", "map", "storage foo")
+
+
+@pytest.fixture
+def client(vsm: str) -> Iterator[Debugged]:
+    it = Debugged(vsm)
+    yield it
+    assert it.close() == 0
+
+
+def written(folder: Path, text: str) -> Path:
+    path = folder / "script.vsm"
+    path.write_bytes(text.encode("utf-8", "surrogateescape"))
+    return path
+
+
+# Both ways.
+
+class Inner:
+    """A client in this process: the messages of an adapter go to it directly."""
+
+    def __init__(self, vsm: str) -> None:
+        self.adapter, self.came, self.sent = Adapter(self, vsm), [], 0    # type: ignore[arg-type]
+        self.is_ended = False
+
+    def write(self, message: Message) -> None:
+        check_dap(message)
+        self.came.append(message)
+
+    def ask(self, command: str, **arguments: Any) -> Message:
+        self.sent, self.came = self.sent + 1, []
+        self.adapter.handle({"seq": self.sent, "type": "request", "command": command, "arguments": arguments})
+        while self.adapter.going:
+            self.adapter.go_on()
+        found = next(it for it in self.came if it["type"] == "response" and it["command"] == command)
+        assert found["success"], found
+        return found.get("body") or {}
+
+    def begin(self, script: Path) -> None:
+        self.ask("initialize", adapterID="vsm")
+        self.adapter.handle({"seq": 0, "type": "request", "command": "launch",
+                             "arguments": {"program": str(script), "stopOnEntry": True}})
+        self.ask("configurationDone")
+
+    def go(self, command: str) -> Message:
+        self.ask(command, threadId=1)
+        return next(it["body"] for it in self.came if it.get("event") == "stopped")
+
+    def line(self, thread: int) -> int:
+        return self.ask("stackTrace", threadId=thread)["stackFrames"][0]["line"]
+
+    def close(self) -> None:
+        self.adapter.need().walk.close()
+
+
+class Expected:
+    """The map, the number of undone changes and the answer at each place of a script, by one run of vsm."""
+
+    def __init__(self, vsm: str, path: Path) -> None:
+        self.script = Script(path.name, path.read_bytes())
+        count, asked = len(self.script.extents), [" MAP", " FORWARD 65536"]
+        texts = [self.script.text(k) for k in range(count)]
+        if texts and is_continued(texts[-1][-1].encode("utf-8", "surrogateescape")):
+            texts[-1] = [*texts[-1], " BACK 0"]
+        lines = asked + [line for text in texts for line in [*text, *asked]]
+        data = "".join(it + "\n" for it in lines).encode("utf-8", "surrogateescape")
+        found = bench.run(vsm, options_for("", path.read_bytes()), data).answers
+        self.maps = [parse_map(it.rest) for it in found[0::3]]
+        self.undone = [int(it.text[15:]) for it in found[1::3]]
+        self.answers = [it.text for it in found[2::3]]
+
+    def line(self, place: int) -> int:
+        extents = self.script.extents
+        return extents[place].first if place < len(extents) else max(1, len(self.script.lines))
+
+    def judge(self, client: Any, place: int) -> None:
+        """What a client shows at a place."""
+        shown = self.maps[place]
+        current = next(it.number for it in shown.tasks if it.is_current)
+        threads = client.ask("threads")["threads"]
+        assert [it["id"] for it in threads] == [it.number for it in shown.tasks]
+        assert [it["id"] for it in threads if it["name"].endswith("current")] == [current]
+        for task in {current, shown.tasks[-1].number}:
+            assert tree(client.ask, task) == variables(shown, self.undone[place], task), (place, task)
+        assert client.line(current) == self.line(place)
+
+
+def variables(shown: Map, undone: int, task: int) -> dict[str, Any]:
+    """A map as a client has to show it."""
+    def areas(found: list[Any], kind: str) -> Any:
+        return {"%s %d" % (kind, k): "%08X %08X" % (it.start, it.length) for k, it in enumerate(found, 1)}
+
+    def numbers(found: list[int]) -> Any:
+        return {"%d" % k: "%08X" % it for k, it in enumerate(found, 1)}
+    pools = {it.name: {
+        "subpool": "%d of task %d" % (it.subpool, it.owner), "size": str(it.size), "primary": str(it.primary),
+        "secondary": str(it.secondary), "loc": str(it.location),
+        **({"header": "'%s'" % it.header} if it.header else {}),
+        "extents": areas(it.extents, "extent"), "free cells": numbers(it.free_cells),
+        "cells in use": numbers([cell for cell in it.cells if cell not in it.free_cells])} for it in shown.cell_pools}
+    return {
+        "Names": {it.name: "%08X" % it.word for it in shown.names},
+        "Subpools": {"%d of task %d" % (it.number, it.owner): {
+            "number": str(it.number), "owner": str(it.owner), "sharers": ",".join(map(str, it.sharers)) or "NONE",
+            "extents": areas(it.extents, "extent"), "free": areas(it.free, "free")} for it in shown.subpools},
+        "Cell pools": pools,
+        "Registers of task %d" % task: {
+            "R%d" % k: "%08X" % word for it in shown.tasks if it.number == task for k, word in enumerate(it.registers)},
+        "Pages and bytes": {
+            "pages below": "%d of %d" % (shown.low_assigned, shown.low_pages),
+            "pages above": "%d of %d" % (shown.high_assigned, shown.high_pages), "bytes taken": str(shown.taken),
+            "bytes free": str(shown.free), "kept changes": "%d of %d" % (shown.kept, shown.history),
+            "undone changes": str(undone)}}
+
+
+def walk_both_ways(client: Any, expected: Expected, stops: list[int]) -> None:
+    """To the end and back by single steps; then to the end at once, and back by breakpoints at some places."""
+    count = len(expected.script.extents)
+    expected.judge(client, 0)
+    for place in range(1, count + 1):
+        client.go("next")
+        expected.judge(client, place)
+    for place in range(count - 1, -1, -1):
+        client.go("stepBack")
+        expected.judge(client, place)
+    assert client.go("stepBack")["reason"] == "entry"
+    client.ask("setExceptionBreakpoints", filters=[])
+    assert client.go("continue")["reason"] == "end" or not count
+    client.ask("setBreakpoints", source={"path": client.path}, breakpoints=[{"line": expected.line(k)} for k in stops])
+    for place in sorted({*stops, 0} - {count}, reverse=True):
+        assert client.go("reverseContinue")["reason"] == ("breakpoint" if place else "entry")
+        expected.judge(client, place)
+
+
+@pytest.mark.parametrize("path", EXAMPLES, ids=lambda it: it.stem)
+def test_lessons_both_ways(vsm: str, client: Debugged, path: Path) -> None:
+    client.begin(path)
+    client.path = str(path)    # type: ignore[attr-defined]
+    expected = Expected(vsm, path)
+    walk_both_ways(client, expected, [len(expected.script.extents) // 2])
+
+
+def generated(seed: int) -> str:
+    """A script with steps of its own, in regions and a history that are small; some lines are wrong."""
+    chance = random.Random(seed)
+    lines = small_script(seed).splitlines()[:40]
+    for _ in range(len(lines) // 3):
+        step = " %s %d" % (chance.choice(("BACK", "FORWARD")), chance.choice((0, 1, 1, 2, 3, 5)))
+        lines.insert(chance.randrange(len(lines) + 1), chance.choice((
+            step, step, step, " MAP", "* é", " STORAGE OBTAIN,LENGHT=8", " POKE X'6000',X'%02X'" % (seed % 256),
+            " STORAGE OBTAIN,".ljust(71) + "X\n               LENGTH=8,ADDR=A%d" % seed, "\udcff\x00")))
+    if seed % 9 == 0:
+        lines.append(" STORAGE OBTAIN,LENGTH=8,".ljust(71) + "X")
+    return "*! --low 16 --high 8 --history %d\n" % chance.choice((1, 2, 3, 5, 1024)) + "\n".join(lines)
+
+
+def test_generated_scripts_both_ways(vsm: str, tmp_path: Path) -> None:
+    for seed in range(SCRIPTS):
+        path = written(tmp_path, generated(seed))
+        client, expected = Inner(vsm), Expected(vsm, path)
+        client.path = str(path)    # type: ignore[attr-defined]
+        client.begin(path)
+        print("script", seed, path.read_bytes())
+        count = len(expected.script.extents)
+        walk_both_ways(client, expected, random.Random(seed).sample(range(count), min(count, 3)))
+        client.close()
+
+
+def test_a_walk_at_random(vsm: str, tmp_path: Path) -> None:
+    """To and fro, with statements of the console between, which come off first."""
+    for seed in range(20):
+        path = written(tmp_path, generated(seed))
+        client, expected, chance = Inner(vsm), Expected(vsm, path), random.Random(seed)
+        client.begin(path)
+        place, count = 0, len(expected.script.extents)
+        for _ in range(60):
+            if chance.randrange(6) == 0:
+                said = [client.ask("evaluate", expression=text, context="repl")["result"]
+                        for text in chance.choices(TYPED, k=3)]
+                for text in said:
+                    if text.startswith(("RC=", "KEPT=")):
+                        client.go("stepBack")
+            elif chance.randrange(2) and place < count:
+                client.go("next")
+                place += 1
+            elif place:
+                client.go("stepBack")
+                place -= 1
+            expected.judge(client, place)
+        client.close()
+
+
+# Stops.
+
+def test_breakpoints(client: Debugged, tmp_path: Path) -> None:
+    path = written(tmp_path, "* a comment\n STORAGE OBTAIN,LENGTH=8,SP=1,ADDR=P\n" + " STORAGE OBTAIN,".ljust(71)
+                   + "X\n               LENGTH=8\n STORAGE OBTAIN,LENGTH=0\n PEEK P,4\n MAP\n")
+    client.begin(path)
+    found = client.ask("setBreakpoints", source={"path": str(path)}, breakpoints=[
+        {"line": 1}, {"line": 4}, {"line": 5, "condition": "answer contains U3001"},
+        {"line": 6, "condition": "answer contains OK"}, {"line": 7, "logMessage": "P is {P}, {P,4}, {answer} {no}"},
+        {"line": 6, "hitCondition": "3"}, {"line": 6, "condition": "x > 1"}, {"line": 60}])["breakpoints"]
+    assert [it.get("line") for it in found] == [2, 3, 5, 6, 7, None, None, None] and found[1]["endLine"] == 4
+    assert len({it["id"] for it in found if it["verified"]}) == 5
+    client.ask("setExceptionBreakpoints", filters=[])
+    stops = [(client.go("continue")["reason"], client.line()) for _ in range(2)]
+    assert stops == [("breakpoint", 3), ("breakpoint", 5)]
+    client.events.clear()
+    client.ask("continue", threadId=1)
+    while not any(it["event"] == "stopped" for it in client.events):
+        client.hear()
+    assert [it["body"]["output"] for it in client.events if it["body"].get("category") == "console"] \
+        == ["P is 00006000, 00000000, MAP no isn't defined here\n"]
+    assert [(client.go("reverseContinue")["reason"], client.line()) for _ in range(3)] \
+        == [("breakpoint", 5), ("breakpoint", 3), ("entry", 2)]
+    assert client.ask("breakpointLocations", source={"path": str(path)}, line=1, endLine=5)["breakpoints"] \
+        == [{"line": 2, "endLine": 2}, {"line": 3, "endLine": 4}, {"line": 5, "endLine": 5}]
+    other = client.ask("setBreakpoints", source={"path": "/x"}, breakpoints=[{"line": 1}])["breakpoints"]
+    assert not other[0]["verified"]
+
+
+def test_answers_stop_at_their_statement(client: Debugged, tmp_path: Path) -> None:
+    client.settings = [("setExceptionBreakpoints", {"filters": ["FAULT", "ABEND"]})]
+    client.launch(written(tmp_path, " STORAGE OBTAIN,LENGHT=8\n STORAGE OBTAIN,LENGTH=0\n BACK 9\n MAP\n"))
+    assert client.until("stopped")["body"]["text"] == "FAULT OPERAND" and client.line() == 1
+    assert client.go("continue")["text"] == "ABEND U3001" and client.line() == 2
+    found = client.ask("exceptionInfo", threadId=1)
+    assert found["exceptionId"] == "ABEND U3001" and "length is zero" in found["description"]
+    client.go("next")
+    assert client.line() == 4
+    client.go("reverseContinue")
+    assert client.line() == 2
+
+
+def test_data_breakpoints_both_ways(client: Debugged, tmp_path: Path) -> None:
+    client.begin(written(tmp_path, " STORAGE OBTAIN,LENGTH=16,ADDR=P\n STORAGE OBTAIN,LENGTH=8,SP=5\n POKE P,X'C1'\n"
+                         " MAP\n POKE X'600F',X'C2'\n STORAGE OBTAIN,LENGTH=8,ADDR=P\n RUN 1\n STORAGE RELEASE,SP=5\n"))
+    client.go("next")
+    scopes = {it["name"]: it["variablesReference"] for it in client.ask("scopes", frameId=1)["scopes"]}
+
+    def info(name: str, **more: Any) -> Any:
+        return client.ask("dataBreakpointInfo", name=name, **more)["dataId"]
+    ids = [info("P", variablesReference=scopes["Names"]), info("R1", variablesReference=scopes["Registers of task 1"]),
+           info("0x6000", asAddress=True, bytes=16), info("X'600F',1"), "subpool:5:1"]
+    assert ids[:4] == ["name:P", "register:1:1", "bytes:6000,16", "bytes:600F,1"]
+    assert info("nothing such") is info("0", asAddress=True, bytes=99999) is None
+    client.go("stepBack")
+
+    def stops(watched: str) -> tuple[list[int], list[int]]:
+        assert client.ask("setDataBreakpoints", breakpoints=[{"dataId": watched}])["breakpoints"][0]["verified"]
+        found: list[list[int]] = []
+        for command in ("continue", "reverseContinue"):
+            found.append([])
+            while client.go(command)["reason"] == "data breakpoint":
+                found[-1].append(client.line())
+        return found[0], found[1]
+    assert [stops(it) for it in ids] == [
+        ([2, 7], [6, 1]), ([2, 3, 7], [6, 2, 1]), ([2, 4, 6], [5, 3, 1]), ([2, 6], [5, 1]), ([3, 8], [8, 2])]
+    assert not client.ask("setDataBreakpoints", breakpoints=[{"dataId": "rubbish"}])["breakpoints"][0]["verified"]
+
+
+def test_tasks_come_and_go(client: Debugged) -> None:
+    client.begin(TOP / "examples" / "tasks-and-subpools.vsm")
+    known = {1}
+    for command in ("next", "stepBack"):
+        reason = ""
+        while reason not in ("end", "entry"):
+            client.events.clear()
+            client.ask(command, threadId=1)
+            while not any(it["event"] == "stopped" for it in client.events):
+                client.hear()
+            for it in client.events:
+                if it["event"] == "thread":
+                    known ^= {it["body"]["threadId"]}
+                    assert (it["body"]["threadId"] in known) == (it["body"]["reason"] == "started")
+            reason = client.events[-1]["body"]["reason"]
+            assert {it["id"] for it in client.ask("threads")["threads"]} == known
+
+
+# Memory and the console.
+
+def test_memory(client: Debugged, tmp_path: Path) -> None:
+    client.begin(written(tmp_path, " STORAGE OBTAIN,LENGTH=8192,SP=1,ADDR=P\n STORAGE OBTAIN,LENGTH=8,SP=2,BNDRY=PAGE\n"
+                                   " POKE P,X'C1C2C3C4'\n STORAGE RELEASE,LENGTH=8192,SP=1,ADDR=P\n"))
+    for _ in range(3):
+        client.go("next")
+
+    def read(place: str, offset: int, count: int) -> tuple[str, bytes, int]:
+        it = client.ask("readMemory", memoryReference=place, offset=offset, count=count)
+        return it["address"], base64.b64decode(it["data"]), it.get("unreadableBytes", 0)
+
+    def write(place: str, data: bytes) -> Message:
+        return {"memoryReference": place, "data": base64.b64encode(data).decode()}
+    assert read("0x00006000", 0, 4) == ("0x00006000", b"\xc1\xc2\xc3\xc4", 0)
+    assert read("0x6000", 8000, 1000)[1:] == (bytes(1000), 0)
+    assert read("0x6000", 0, 5 * 4096)[1:] == (b"\xc1\xc2\xc3\xc4" + bytes(3 * 4096 - 4), 2 * 4096)
+    assert read("0x6000", -16, 32)[1:] == read("0xFFFFFFF0", 0, 64)[1:] == (b"", 16)
+    some = bytes(range(256)) * 2
+    assert client.ask("writeMemory", **write("0x6100", some))["bytesWritten"] == 512
+    assert read("0x6100", 0, 512)[1] == some and client.line() == 4
+    assert "S0C4" in client.refused("writeMemory", **write("0x8F80", bytes(512))) and read("0x6100", 0, 512)[1] == some
+    assert client.ask("writeMemory", allowPartial=True, **write("0x8F00", bytes(512)))["bytesWritten"] == 256
+    for _ in range(3):
+        client.go("stepBack")
+        assert client.line() == 4
+    assert read("0x6100", 0, 512)[1] == bytes(512)
+    client.go("next")
+    assert read("0x6000", 0, 16)[1:] == (b"", 16)
+
+
+def test_console(client: Debugged) -> None:
+    client.begin(FIRST)
+    assert client.say(".why") == "nothing was carried out yet"
+    client.go("next")
+    found = client.ask("evaluate", expression="storage obtain,length=8,sp=9,addr=q", context="repl")
+    assert found["result"] == "RC=0 A=00007000 L=00000008"
+    changed = client.ask("variables", variablesReference=found["variablesReference"])["variables"]
+    assert "+ NAME Q 00007000" in [it["value"] for it in changed] and client.until("invalidated")
+    assert client.say("Q") == client.say("(R1)", "watch") == client.say("r1", "hover") == "00007000"
+    assert client.say("q,4", "hover") == "00000000" and client.say("0,4") == "unassigned"
+    assert client.say("peek q,2") == "D=0000" and client.say("map").startswith("MAP\n TASK 1")
+    assert client.say(".why").startswith("line 2: 8 bytes") and "STORAGE OBTAIN" in client.say(".who X'6000'")
+    assert client.say(".log").count("\n") == 1 and "any statement" in client.say(".help") and client.line() == 2
+    last = [it for it in client.ask("scopes", frameId=1)["scopes"] if it["expensive"]][0]["variablesReference"]
+    assert client.ask("variables", variablesReference=last)["variables"][1]["value"] == "RC=0 A=00007000 L=00000008"
+    client.go("stepBack")
+    assert client.line() == 2 and "isn't defined" in client.refused("evaluate", expression="Q", context="watch")
+    client.go("stepBack")
+    assert client.line() == 1
+    assert "sets only" in client.refused("setVariable", variablesReference=1, name="R1", value="1")
+    assert client.refused("evaluate", expression="map\nmap", context="repl")
+
+
+# Begin and end.
+
+def test_restart_terminate_and_no_debug(vsm: str) -> None:
+    breaks = ("setBreakpoints", {"source": {"path": str(FIRST)}, "breakpoints": [{"line": 5}]})
+    client = Debugged(vsm)
+    client.settings = [breaks]
+    client.launch(FIRST)
+    assert client.until("stopped")["body"]["reason"] == "breakpoint"
+    assert client.go("restart")["reason"] == "breakpoint" and client.line() == 5
+    client.ask("terminate")
+    assert client.until("exited")["body"]["exitCode"] == 0 and client.until("terminated")
+    assert client.refused("next", threadId=1) == "the script has ended"
+    assert client.go("restart")["reason"] == "breakpoint"
+    client.ask("disconnect")
+    assert client.child.wait(20) == 0
+    client = Debugged(vsm)
+    client.settings = [breaks]
+    client.launch(FIRST, noDebug=True)
+    assert client.until("exited", "stopped")["body"]["exitCode"] == 0
+    assert client.close() == 0
+
+
+def test_options_of_the_script_and_of_the_launch(client: Debugged, tmp_path: Path) -> None:
+    client.begin(written(tmp_path, "*! --low 8\n STORAGE OBTAIN,LENGTH=8\n"), low=16, history=3)
+    found = tree(client.ask, 1)["Pages and bytes"]
+    assert found["pages below"] == "0 of 2" and found["kept changes"] == "0 of 3"
+
+
+def test_pause_in_a_long_script(client: Debugged, tmp_path: Path) -> None:
+    """A million lines; a run back hears the client too."""
+    client.launch(written(tmp_path, " STORAGE OBTAIN,LENGTH=8,ADDR=P\n STORAGE RELEASE,LENGTH=8,ADDR=P\n" * 500_000))
+    client.ask("pause", threadId=1)
+    assert client.until("stopped")["body"]["reason"] == "pause"
+    at = client.line()
+    assert 1 < at < 100_000
+    assert client.go("stepBack")["reason"] == "step" and client.line() == at - 1
+    assert client.go("reverseContinue")["reason"] == "entry"
+
+
+# Wrong clients, wrong scripts.
+
+@pytest.mark.parametrize("data", BAD, ids=range(len(BAD)))
+def test_a_bad_message_is_said_and_passed_over(client: Debugged, data: bytes) -> None:
+    client.raw(data)
+    client.initialize()
+    assert {it["body"]["category"] for it in client.events} == {"stderr"}
+    assert client.refused("pause", threadId=1) == "no script is launched"
+
+
+def test_wrong_requests_are_refused_and_it_lives(client: Debugged, tmp_path: Path) -> None:
+    assert client.refused("threads") == "initialize comes first"
+    client.initialize()
+    binary = written(tmp_path, "\x00\x01\udcff" * 1000 + "\n" + " MAP\udcfe\n" * 3)
+    wrong = [("variables", {"variablesReference": 5}), ("nothing", {}), ("launch", {}), ("launch", {"program": "/"}),
+             ("launch", {"program": "/nowhere"}), ("launch", {"program": str(FIRST), "vsm": "/nowhere"}),
+             ("launch", {"program": str(FIRST), "low": "x"}), ("setBreakpoints", {}), ("next", {"threadId": 1}),
+             ("readMemory", {"memoryReference": "zz", "count": 1}), ("evaluate", {"expression": "P"}), ("restart", {}),
+             ("initialize", {"adapterID": "vsm"})]
+    for command, arguments in wrong:
+        assert client.refused(command, **arguments)
+    client.send("launch", program=str(binary), stopOnEntry=True)
+    client.until("initialized")
+    client.ask("configurationDone")
+    client.until("stopped")
+    for command, arguments in (
+            ("variables", {"variablesReference": 9999}), ("variables", {"variablesReference": []}), ("evaluate", {}),
+            ("readMemory", {"memoryReference": "zz", "count": 1}), ("setDataBreakpoints", {}),
+            ("scopes", {"frameId": "x"}), ("stackTrace", {"threadId": "x"}), ("stackTrace", {"threadId": 7}),
+            ("launch", {"program": str(FIRST)}), ("writeMemory", {"memoryReference": "0", "data": "?"}),
+            ("setBreakpoints", {"source": {"path": str(binary)}, "breakpoints": [{"line": "x"}]})):
+        assert client.refused(command, **arguments), command
+    client.raw(b"Content-Length: 46\r\n\r\n{\"type\":\"request\",\"command\":5,\"arguments\":[7]}")
+    assert client.go("continue")["reason"] == "end" and client.go("reverseContinue")["reason"] == "entry"
+
+
+def test_half_a_message_and_a_byte_at_a_time(vsm: str) -> None:
+    client = Debugged(vsm)
+    body = b'{"seq":1,"type":"request","command":"initialize","arguments":{"adapterID":"vsm"}}'
+    for byte in b"Content-Type: x\r\nContent-Length: %d\r\n\r\n" % len(body) + body:
+        client.raw(bytes([byte]))
+    client.open[1], client.sent = "initialize", 1
+    assert client.response(1)["success"]
+    client.raw(b"Content-Length: 50\r\n\r\n{\"seq\"")
+    assert client.close() == 0
+
+
+def test_a_client_that_goes_away_ends_it_and_its_vsm(vsm: str, tmp_path: Path) -> None:
+    long = written(tmp_path, " STORAGE OBTAIN,LENGTH=8,ADDR=P\n STORAGE RELEASE,LENGTH=8,ADDR=P\n" * 20_000)
+    client = Debugged(vsm)
+    client.begin(long)
+    assert client.children() and client.close() == 0
+    for how in ("while it's written to", signal.SIGTERM, signal.SIGKILL):
+        client = Debugged(vsm)
+        client.launch(long)
+        client.hear()
+        child = client.children()[0]
+        if isinstance(how, str):
+            client.child.stdout.close()
+            client.child.stdin.close()
+        else:
+            client.child.send_signal(how)
+        client.child.wait(30)
+        for _ in range(100):    # vsm hears that nobody asks any more
+            if os.path.exists("/proc/%d" % child):
+                time.sleep(0.05)
+        assert not os.path.exists("/proc/%d" % child) and b"Traceback" not in client.child.stderr.read()
+
+
+def test_vsm_killed_beneath_it(client: Debugged) -> None:
+    client.begin(FIRST)
+    client.go("next")
+    os.kill(client.children()[0], signal.SIGKILL)
+    client.events.clear()
+    client.ask("next", threadId=1)
+    while not any(it["event"] == "terminated" for it in client.events):
+        client.hear()
+    assert "ended by signal 9" in client.events[-2]["body"]["output"]
+    assert client.refused("next", threadId=1) == "the script has ended"
+    assert client.go("restart")["reason"] == "entry"
+    os.kill(client.children()[0], signal.SIGKILL)
+    assert "ended by signal 9" in client.refused("evaluate", expression="map", context="repl")
+    assert client.until("terminated")

@@ -1,0 +1,177 @@
+"""The text of a script in an editor: its changes, its columns as the client counts them, and its statements."""
+from __future__ import annotations
+
+import bisect
+import re
+from typing import Any, Optional
+from urllib.parse import unquote, urlsplit
+
+from .lines import Extent, statements
+from .listing import Listing
+from .reading import Part, Place, Statement, read
+
+LINE_END = re.compile(r"\r\n|\n|\r")
+FAR = 1 << 30
+
+
+def cut_lines(text: str) -> tuple[list[str], list[str]]:
+    """The lines as the protocol counts them, and their ends; the last one has none."""
+    lines, ends, at = [], [], 0
+    for it in LINE_END.finditer(text):
+        lines.append(text[at:it.start()])
+        ends.append(it[0])
+        at = it.end()
+    return [*lines, text[at:]], [*ends, ""]
+
+
+def data_of(text: str) -> bytes:
+    return text.encode("utf-8", "surrogatepass")
+
+
+class Document:
+    """An open script. A carriage return by itself ends a line of the protocol and none of a script, so a line of the
+    script can be several of the protocol's; `begins` has the first of them."""
+
+    def __init__(self, uri: str, version: Any, text: str, units: str) -> None:
+        self.uri, self.version, self.units = uri, version, units
+        self.text, self.ends = cut_lines(text)
+        self.due: Optional[float] = 0.0         # when it's to be listed
+        self.listing: Optional[Listing] = None
+        self.answers: list[tuple[Extent, str]] = []    # of the listing; and those that are ABEND or REFUSED
+        self.refused: list[tuple[Extent, str]] = []
+        self.valid = 0                          # the line from which on the listing is of an older text
+        self.world: tuple[int, Any] = (-1, None)    # what exists after that many of these, by vsmtools.tracking
+        self.limit = 1024                       # of the history
+        self.causes: dict[int, str] = {}        # of refused statements, by their first lines
+        self.parsed: dict[tuple[bytes, ...], Statement] = {}
+        self.unread = 0                         # the line from which on the text was changed since it was read
+        self.raw: list[bytes] = []
+        self.extents: list[Extent] = []
+        self.begins: list[int] = []
+        self.read()
+
+    @property
+    def data(self) -> bytes:
+        return data_of("".join(map("".join, zip(self.text, self.ends))))
+
+    @property
+    def path(self) -> str:
+        found = urlsplit(self.uri)
+        return unquote(found.path) if found.scheme == "file" else self.uri
+
+    # Changes.
+
+    def apply(self, given: dict[str, Any]) -> None:
+        """A change of the client: of a range, or of the whole text."""
+        where, first = given.get("range"), 0
+        if where is None:
+            self.text, self.ends = cut_lines(given["text"])
+        else:
+            (first, x), (last, y) = self.bounded(where["start"]), self.bounded(where["end"])
+            if (last, y) < (first, x):
+                raise ValueError("a range ends before it begins")
+            head, tail = self.text[first][:x], self.text[last][y:] + self.ends[last]
+            if first and self.ends[first - 1] == "\r":    # it may become one line end with what is put in
+                first -= 1
+                head = self.text[first] + "\r" + head
+            text, ends = cut_lines(head + given["text"] + tail)
+            if self.ends[last]:
+                del text[-1], ends[-1]
+            self.text[first:last + 1], self.ends[first:last + 1] = text, ends
+        line = bisect.bisect_right(self.begins, first)
+        self.valid, self.unread = min(self.valid, line), min(self.unread, line)
+
+    def bounded(self, position: dict[str, Any]) -> tuple[int, int]:
+        """A position as a line and an index of its text; what is past the end is the end."""
+        line, units = int(position["line"]), int(position["character"])
+        if line < 0 or units < 0:
+            raise ValueError("a position is below 0")
+        if line >= len(self.text):
+            return len(self.text) - 1, len(self.text[-1])
+        text = self.text[line]
+        if text.isascii() or units == 0:
+            return line, min(units, len(text))
+        code, size = ("utf-8", 1) if self.units == "utf-8" else ("utf-16-le", 2)
+        return line, len(text.encode(code, "surrogatepass")[:units * size].decode(code, "ignore"))
+
+    # The script's lines.
+
+    def read(self) -> None:
+        """Takes the lines of the script, from the first one that has changed, and its statements."""
+        if self.unread > len(self.raw):
+            return
+        kept = self.extents[:bisect.bisect_left(self.extents, self.unread, key=lambda it: it.last)]
+        above = kept[-1].last if kept else 0
+        first, before = self.begins[above] if above < len(self.begins) else 0, "\n"
+        del self.raw[above:], self.begins[above:]
+        for k in range(first, len(self.text)):
+            if before == "\r":
+                self.raw[-1] += b"\r" + data_of(self.text[k])
+            else:
+                self.raw.append(data_of(self.text[k]))
+                self.begins.append(k)
+            before = self.ends[k]
+        below = statements(self.raw[above:])
+        self.extents = kept + [Extent(it.first + above, it.last + above) for it in below]
+        self.unread = len(self.raw) + 1
+
+    def statement(self, extent: Extent) -> Statement:
+        """A statement's parts; each text is read once."""
+        lines = tuple(self.raw[extent.first - 1:extent.last])
+        if lines not in self.parsed:
+            if len(self.parsed) > 2 * len(self.extents) + 1000:
+                self.parsed.clear()
+            self.parsed[lines] = read(lines)
+        return self.parsed[lines]
+
+    def at(self, line: int) -> Optional[Extent]:
+        """The statement that has a line."""
+        k = bisect.bisect_left(self.extents, line, key=lambda it: it.last)
+        return self.extents[k] if k < len(self.extents) and self.extents[k].first <= line else None
+
+    def take(self, listing: Listing) -> None:
+        """Takes the listing of the text as it is. An answer is under one of its statement's lines, mostly the last."""
+        self.listing, self.valid, self.answers, self.world = listing, len(self.raw) + 1, [], (-1, None)
+        get = listing.answers.get
+        for extent in self.extents:
+            answer = get(extent.last)
+            if answer is None and extent.first < extent.last:
+                answer = next(filter(None, map(get, range(*extent))), None)
+            if answer is not None:
+                self.answers.append((extent, answer))
+        self.refused = [it for it in self.answers if it[1].startswith(("ABEND ", "REFUSED "))]
+
+    def answered(self) -> list[tuple[Extent, str]]:
+        """The statements before the first change since the last listing, with their answers."""
+        return self.answers[:bisect.bisect_left(self.answers, self.valid, key=lambda it: it[0].last)]
+
+    # Places: a line of the script from 1, and a column from 0 in bytes.
+
+    def place_of(self, position: dict[str, Any]) -> Place:
+        line, index = self.bounded(position)
+        k = bisect.bisect_right(self.begins, line)
+        before = self.text[self.begins[k - 1]:line]
+        return k, sum(len(data_of(it)) + 1 for it in before) + len(data_of(self.text[line][:index]))
+
+    def position_of(self, place: Place) -> dict[str, int]:
+        number, column = min(place[0], len(self.raw)), place[1]
+        line = self.begins[number - 1]
+        end = (self.begins[number] if number < len(self.begins) else len(self.text)) - 1
+        while line < end and column > len(data_of(self.text[line])):
+            column -= len(data_of(self.text[line])) + 1
+            line += 1
+        head = data_of(self.text[line])[:column].decode("utf-8", "ignore")
+        size = len(head.encode("utf-16-le", "surrogatepass")) // 2 if self.units == "utf-16" else len(data_of(head))
+        return {"line": line, "character": size}
+
+    def range(self, begin: Place, end: Place) -> dict[str, Any]:
+        return {"start": self.position_of(begin), "end": self.position_of(end)}
+
+    def range_of(self, extent: Extent, part: Part) -> dict[str, Any]:
+        """Where a part of a statement is."""
+        statement, above = self.statement(extent), extent.first - 1
+        (first, x), (last, y) = statement.place(part.begin), statement.end(part)
+        return self.range((above + first, x), (above + last, y))
+
+    def lines_range(self, first: int, last: int) -> dict[str, Any]:
+        return self.range((first, 0), (last, FAR))

@@ -1,0 +1,329 @@
+"""A language server: the messages of the Language Server Protocol, open scripts, and what a listing says of them."""
+from __future__ import annotations
+
+import time
+from typing import Any, Callable, Optional
+
+from . import features, listing, manuals, rpc
+from .bench import BENCH_OPTIONS, find_explain, find_program
+from .command import Fault, one_line, version
+from .documents import Document
+from .lines import LAST_COLUMN, Extent, options_for
+from .reading import Part
+from .rpc import Code, Failure, Message
+from .runs import Runs
+
+QUIET = 0.2                # seconds after the last change
+MOST_FOR_CAUSES = 20000    # refused statements times lines: each cause is a run of its own
+WRONG = (LookupError, TypeError, ValueError, AttributeError, OverflowError)    # what wrong parameters come to
+ERROR, WARNING, HINT = 1, 2, 4
+CAPABILITIES = {
+    "textDocumentSync": {"openClose": True, "change": 2, "save": {"includeText": False}},
+    "hoverProvider": True, "definitionProvider": True, "referencesProvider": True, "documentHighlightProvider": True,
+    "renameProvider": {"prepareProvider": True}, "documentSymbolProvider": True, "foldingRangeProvider": True,
+    "codeActionProvider": {"codeActionKinds": ["quickfix"]}, "codeLensProvider": {"resolveProvider": False},
+    "inlayHintProvider": True, "completionProvider": {"triggerCharacters": [",", "=", "("]}}
+
+
+class Server:
+    """Answers one client."""
+
+    def __init__(self, stream: rpc.Stream, vsm: Optional[str], explain: Optional[str]) -> None:
+        self.stream = stream
+        self.explain = find_program(explain) if explain else find_explain(find_program(vsm))
+        self.documents: dict[str, Document] = {}
+        self.runs = Runs()
+        self.settings: Message = {}
+        self.client: Message = {}
+        self.units = "utf-16"
+        self.is_ready = self.is_shut = self.is_ended = False
+        self.status = 1
+        self.asked: dict[str, Callable[[Any], None]] = {}    # of the client, by number
+        self.number = 0
+
+    # Messages.
+
+    def serve(self) -> int:
+        """The exit status: 0 if the client has shut the server down."""
+        try:
+            while not self.is_ended and not self.stream.is_ended:
+                due = [it.due for it in self.documents.values() if it.due is not None]
+                ready = self.stream.read(max(0.0, min(due) - time.monotonic()) if due else None, self.runs.sources)
+                try:
+                    self.runs.gather(ready)
+                except Fault as fault:    # a further run can't be started
+                    self.notify("window/showMessage", {"type": ERROR, "message": str(fault)})
+                self.hear()
+                for it in list(self.documents.values()):
+                    if it.due is not None and it.due <= time.monotonic():
+                        self.list(it)
+        finally:
+            self.runs.end_all()
+        return self.status
+
+    def hear(self) -> None:
+        while not self.is_ended:
+            try:
+                message = self.stream.take()
+            except rpc.Unreadable as fault:
+                self.fail(None, fault.code, str(fault))
+                continue
+            if message is None:
+                return
+            self.handle(message)
+
+    def handle(self, message: Message) -> None:
+        method, number = message.get("method"), message.get("id")
+        is_request = "id" in message and not (method is None and ("result" in message or "error" in message))
+        try:
+            if not is_request and "id" in message:
+                self.hear_answer(message)
+                return
+            if is_request and (not isinstance(number, (int, str)) or isinstance(number, bool)):
+                number = None
+                raise Failure(Code.REQUEST, "an id is a number or a text")
+            answer = self.answer_of(method, message.get("params"), number)
+            if is_request and answer is not features.LATER:
+                self.reply(number, answer)
+        except (Failure, Fault, *WRONG) as fault:
+            if is_request:
+                self.fail(number, *self.error_of(fault, method))
+
+    def hear_answer(self, message: Message) -> None:
+        """What the client answers to a request of the server."""
+        then = self.asked.pop(message["id"], None)
+        if then and "result" in message:
+            then(message["result"])
+
+    @staticmethod
+    def error_of(fault: Exception, method: Any) -> tuple[Code, str]:
+        if isinstance(fault, Failure):
+            return fault.code, str(fault)
+        if isinstance(fault, Fault):
+            return Code.FAILED, str(fault)
+        return Code.PARAMETERS, "not the parameters of %s: %s %s" % (method, type(fault).__name__, fault)
+
+    def answer_of(self, method: Any, params: Any, number: Any) -> Any:
+        if not isinstance(method, str):
+            raise Failure(Code.REQUEST, "no method is named")
+        if method == "exit":
+            self.is_ended, self.status = True, 0 if self.is_shut else 1
+            return None
+        if self.is_shut:
+            raise Failure(Code.REQUEST, "the server is shut down")
+        if not self.is_ready and method != "initialize":
+            raise Failure(Code.NOT_INITIALIZED, "initialize comes first")
+        params = {} if params is None else params
+        if method in METHODS:
+            return METHODS[method](self, params)
+        if method not in features.FEATURES:
+            raise Failure(Code.METHOD, "there is no method %s here" % one_line(method))
+        document = self.document(params)
+        document.read()
+        return features.FEATURES[method](self, document, params, number)
+
+    def reply(self, number: Any, result: Any) -> None:
+        self.stream.write({"jsonrpc": "2.0", "id": number, "result": result})
+
+    def fail(self, number: Any, code: Code, text: str) -> None:
+        self.stream.write({"jsonrpc": "2.0", "id": number, "error": {"code": int(code), "message": one_line(text)}})
+
+    def notify(self, method: str, params: Any) -> None:
+        self.stream.write({"jsonrpc": "2.0", "method": method, "params": params})
+
+    def ask(self, method: str, then: Callable[[Any], None] = lambda _: None, **params: Any) -> None:
+        self.number += 1
+        self.asked["vsm-%d" % self.number] = then
+        self.stream.write({"jsonrpc": "2.0", "id": "vsm-%d" % self.number, "method": method,
+                           **({"params": params} if params else {})})
+
+    def cancel(self, params: Message) -> None:
+        if self.runs.cancel(params["id"]):
+            self.fail(params["id"], Code.CANCELLED, "cancelled")
+
+    # Begin and end.
+
+    def initialize(self, params: Message) -> Message:
+        if self.is_ready:
+            raise Failure(Code.REQUEST, "initialize comes once")
+        client = params.get("capabilities") or {}
+        offered = (client.get("general") or {}).get("positionEncodings") or []
+        self.units = "utf-8" if "utf-8" in offered else "utf-16"
+        given = params.get("initializationOptions")
+        self.client, self.is_ready = client, True
+        self.settings = given if isinstance(given, dict) else {}
+        return {"serverInfo": {"name": "vsm-lsp", "version": version()},
+                "capabilities": {"positionEncoding": self.units, **CAPABILITIES}}
+
+    def has(self, *path: str) -> bool:
+        """Whether the client has a capability."""
+        found: Any = self.client
+        for it in path:
+            found = found.get(it) if isinstance(found, dict) else None
+        return bool(found)
+
+    def configure(self, params: Message) -> None:
+        """Takes the settings that the client sends, or asks for them."""
+        given = params.get("settings")
+        if isinstance(given, dict) and isinstance(given.get("vsm"), dict):
+            self.set(given["vsm"])
+        if self.has("workspace", "configuration"):
+            self.ask("workspace/configuration", lambda found: self.set((found or [None])[0]),
+                     items=[{"section": "vsm"}])
+
+    def set(self, found: Any) -> None:
+        if isinstance(found, dict):
+            self.settings = {**self.settings, **found}
+            for it in self.documents.values():
+                it.due = time.monotonic()
+
+    def shut_down(self, _params: Message) -> None:
+        self.runs.end_all()
+        self.is_shut = True
+
+    # Documents.
+
+    def document(self, params: Message) -> Document:
+        uri = params["textDocument"]["uri"]
+        if uri not in self.documents:
+            raise Failure(Code.PARAMETERS, "no such document is open")
+        return self.documents[uri]
+
+    def opened(self, params: Message) -> None:
+        it = params["textDocument"]
+        document = Document(it["uri"], it.get("version"), it["text"], self.units)
+        self.end_runs(it["uri"])
+        self.documents[it["uri"]] = document
+
+    def changed(self, params: Message) -> None:
+        document = self.document(params)
+        for it in params["contentChanges"]:
+            document.apply(it)
+        document.version = params["textDocument"].get("version")
+        document.due = time.monotonic() + QUIET
+        self.end_runs(document.uri)
+
+    def closed(self, params: Message) -> None:
+        document = self.document(params)
+        self.end_runs(document.uri)
+        del self.documents[document.uri]
+        self.notify("textDocument/publishDiagnostics", {"uri": document.uri, "diagnostics": []})
+
+    def end_runs(self, uri: str) -> None:
+        """Ends the runs over a text that is changed, and with them the requests that wait for one."""
+        for number in self.runs.end_all(uri):
+            self.fail(number, Code.MODIFIED, "the script has changed")
+
+    def options(self, document: Document) -> list[str]:
+        """Those of the script's first comment, and what the client says of the others."""
+        first = document.extents[0].first if document.extents else len(document.raw)
+        found = options_for(document.path, b"\n".join(document.raw[:first]))
+        for option in BENCH_OPTIONS:
+            if option not in found and self.settings.get(option[2:]) is not None:
+                found += [option, str(self.settings[option[2:]])]
+        return found
+
+    # Diagnostics.
+
+    def list(self, document: Document) -> None:
+        """Runs vsm-explain list over a document."""
+        document.due = None
+        document.read()
+        self.runs.end_all(document.uri, is_asked=False)
+        try:
+            options = self.options(document)
+            known = dict(zip(options[::2], options[1::2])).get("--history", "")
+            document.limit = int(known) if known.isdecimal() else 1024
+            self.runs.start([self.explain, "list", *options], document.data,
+                            lambda output, status: self.listed(document, output, status), document.uri)
+        except Fault as fault:
+            self.publish(document, [self.diagnostic(document.lines_range(fault.line or 1, fault.line or 1), ERROR,
+                                                    fault.text, "settings")])
+
+    def listed(self, document: Document, output: bytes, status: int) -> None:
+        document.causes = {}
+        if status in (0, 4):
+            document.take(listing.parse(output, document.raw))
+            self.publish(document, self.diagnostics(document))
+            self.find_causes(document)
+        else:
+            said = output.decode("utf-8", "replace").strip().split("\n")[-1].replace("/dev/stdin: ", "")
+            wrong = self.diagnostic(document.lines_range(1, 1), ERROR,
+                                    said if status > 0 else "vsm-explain ended by signal %d" % -status, "settings")
+            self.publish(document, [wrong] if document.data else [])
+        for it in ("codeLens", "inlayHint"):
+            if self.has("workspace", it, "refreshSupport"):
+                self.ask("workspace/%s/refresh" % it)
+
+    def publish(self, document: Document, found: list[Message]) -> None:
+        told = {"uri": document.uri, "diagnostics": found}
+        self.notify("textDocument/publishDiagnostics",
+                    {**told, "version": document.version} if isinstance(document.version, int) else told)
+
+    def find_causes(self, document: Document) -> None:
+        """Asks why of each refused statement, in turn, and then publishes again: of short scripts only."""
+        refused = [extent for extent, _ in document.refused]
+        if len(refused) * len(document.raw) > MOST_FOR_CAUSES:
+            return
+
+        def next_one(output: bytes = b"", _status: int = 0) -> None:
+            if output:
+                lines = output.decode("utf-8", "replace").strip().split("\n")
+                document.causes[refused.pop(0).first] = "; ".join(it.strip() for it in lines[1:-1])
+            if refused:
+                self.why(document, refused[0], next_one)
+            elif document.causes:
+                self.publish(document, self.diagnostics(document))
+        next_one()
+
+    def why(self, document: Document, extent: Extent, then: Callable[[bytes, int], None], number: Any = None) -> None:
+        """Runs vsm-explain why over the script up to a statement."""
+        script = b"".join(line + b"\n" for line in document.raw[:extent.last])
+        self.runs.start([self.explain, "why", *self.options(document), "/dev/stdin", str(extent.first)], script, then,
+                        document.uri, number)
+
+    @staticmethod
+    def diagnostic(where: Message, severity: int, text: str, code: str) -> Message:
+        return {"range": where, "severity": severity, "source": "vsm", "code": code, "message": text,
+                **({"tags": [1]} if severity == HINT else {})}
+
+    def diagnostics(self, document: Document) -> list[Message]:
+        shown, found = document.listing, []
+        assert shown
+        for mark in shown.marks:
+            is_fault = mark.kind != listing.WARNING
+            text, code = (mark.kind + ": " + mark.text, "FAULT " + mark.kind) if is_fault else (mark.text, mark.kind)
+            found.append(self.diagnostic(self.marked(document, mark), ERROR if is_fault else WARNING, text, code))
+        for line in shown.dropped:
+            found.append(self.diagnostic(document.lines_range(line, line), HINT, "not carried out", "DROPPED"))
+        for extent, answer in document.refused:
+            operation = document.statement(extent).operation or Part("", 0, 1)
+            cause = document.causes.get(extent.first) or manuals.meaning(answer)
+            found.append(self.diagnostic(document.range_of(extent, operation), WARNING,
+                                         ": ".join([answer, cause] if cause else [answer]), answer))
+        first = document.lines_range(1, 1)
+        return found + [self.diagnostic(first, WARNING, it, listing.WARNING) for it in shown.warnings]
+
+    @staticmethod
+    def marked(document: Document, mark: listing.Mark) -> Message:
+        """What a caret marks: the rest of its operand, or of its word."""
+        begin, end = (mark.line, mark.column), (mark.line, mark.column + 1)
+        extent = document.at(mark.line)
+        if extent and mark.kind not in (listing.WARNING, "CONTINUATION"):
+            statement, at = document.statement(extent), (mark.line - extent.first + 1, mark.column)
+            for it in statement.operands:
+                if statement.place(it.begin) <= at < statement.end(it):
+                    line, column = statement.end(it)
+                    return document.range(begin, max(end, (extent.first - 1 + line, column)))
+            rest = document.raw[mark.line - 1][mark.column:LAST_COLUMN]
+            end = (mark.line, mark.column + max(1, len(rest.split(b" ")[0].split(b",")[0])))
+        return document.range(begin, end)
+
+
+METHODS: dict[str, Callable[[Server, Message], Any]] = {
+    "initialize": Server.initialize, "initialized": Server.configure, "shutdown": Server.shut_down,
+    "$/cancelRequest": Server.cancel, "$/setTrace": lambda *_: None,
+    "workspace/didChangeConfiguration": Server.configure, "textDocument/didOpen": Server.opened,
+    "textDocument/didChange": Server.changed, "textDocument/didClose": Server.closed,
+    "textDocument/didSave": lambda *_: None,
+}

@@ -1,0 +1,85 @@
+"""Programs that run while an editor is heard; a request that waits for one can be cancelled."""
+from __future__ import annotations
+
+import os
+import subprocess
+import tempfile
+from dataclasses import dataclass, field
+from typing import Any, Callable, Optional, Sequence
+
+from .bench import MOST_OUTPUT, end_group, start
+from .rpc import SIGNALS
+
+Then = Callable[[bytes, int], None]
+
+
+@dataclass
+class Run:
+    """A program over a script, whose output goes to `then` with its status."""
+    child: subprocess.Popen[bytes]
+    then: Then
+    document: str
+    request: Any = None     # the number of the request that waits for it; None if none does
+    output: bytearray = field(default_factory=bytearray)
+
+
+class Runs:
+    """Those that are under way. What a program says on standard error is taken as its output."""
+
+    def __init__(self) -> None:
+        self.runs: list[Run] = []
+
+    @property
+    def sources(self) -> list[Any]:
+        """What is to be waited for."""
+        return [it.child.stdout for it in self.runs]
+
+    def start(self, words: Sequence[str], script: bytes, then: Then, document: str, request: Any = None) -> None:
+        with tempfile.TemporaryFile() as given:
+            given.write(script)
+            given.seek(0)
+            with SIGNALS:
+                child = start(words[0], words[1:], given, subprocess.PIPE, subprocess.STDOUT)  # type: ignore[arg-type]
+                self.runs.append(Run(child, then, document, request))
+
+    def gather(self, ready: Sequence[Any]) -> None:
+        """Takes what has been printed, and passes on the output of each run that has come to its end."""
+        for run in [it for it in self.runs if it.child.stdout in ready]:
+            if run not in self.runs:    # what came of another run has ended it
+                continue
+            assert run.child.stdout
+            piece = os.read(run.child.stdout.fileno(), 1 << 20)
+            run.output += piece
+            if not piece or len(run.output) > MOST_OUTPUT:
+                self.wait(run)
+                self.end(run)
+                run.then(bytes(run.output), run.child.returncode)
+
+    @staticmethod
+    def wait(run: Run) -> None:
+        try:
+            run.child.wait(2)    # its output has ended, so does it
+        except subprocess.TimeoutExpired:
+            pass
+
+    def end(self, run: Run) -> None:
+        """Ends a run and its program."""
+        self.runs.remove(run)
+        end_group(run.child)
+        if run.child.stdout:
+            run.child.stdout.close()
+
+    def end_all(self, document: Optional[str] = None, is_asked: bool = True) -> list[Any]:
+        """Ends all runs, or those over a document; without `is_asked` only those that no request waits for. The numbers
+        of the requests that waited for one of them."""
+        ended = [it for it in self.runs if document in (None, it.document) and (is_asked or it.request is None)]
+        for run in ended:
+            self.end(run)
+        return [it.request for it in ended if it.request is not None]
+
+    def cancel(self, request: Any) -> bool:
+        """Ends the run that a request waits for; whether one did."""
+        found = [it for it in self.runs if it.request is not None and it.request == request]
+        for run in found:
+            self.end(run)
+        return bool(found)
