@@ -54,7 +54,7 @@ def on_page(text: str) -> Words:
         known.forms |= set(form[0].split("|") if form else [])
         known.keywords |= set(re.findall(r"([A-Z]+)=", operands))
         apart |= set(re.findall(r"\[,(\w+)=value\|(\w+)=value\]", operands))
-    anywhere = re.search(r"(?m)^(.*) may stand in each (.*?), with any value", text)
+    anywhere = re.search(r"(?m)^(.*) are allowed in each (.*?), with any value", text)
     idle = set(words_in(anywhere[1])) if anywhere else set()
     for operation in words_in(anywhere[2]) if anywhere else []:
         operations[operation].keywords |= idle
