@@ -14,56 +14,55 @@ pub(crate) struct Message {
 static FAULTS: [Message; 8] = [
     Message {
         texts: &["FAULT COLUMN"],
-        meaning: "Column 1 is neither blank nor the first of a name of at most 63 letters and digits \
-                with a blank behind it.",
-        advice: "Begin the statement behind a blank; begin a comment with an asterisk.",
+        meaning: "Column 1 is neither blank nor the start of a name of at most 63 letters and digits, \
+                followed by a blank.",
+        advice: "Begin the statement after a blank; begin a comment with an asterisk.",
     },
     Message {
         texts: &["FAULT CONTINUATION"],
         meaning: "Columns 1 to 15 of a line that continues a statement aren't blank; or operands that \
-                end with a comma don't go on in column 16; or there are more than nine such lines; \
-                or the script ends where one should come. The lines that follow are dropped as long \
-                as the line before has a character in column 72.",
-        advice: "The usual cause is a remark that is too long, so that its last character stands in \
-                column 72; the next line was taken for its continuation then, and wasn't carried \
-                out. See Continuation lines.",
+                end with a comma don't continue in column 16; or there are more than nine such \
+                lines; or the script ends where one should follow. The lines that follow are dropped \
+                as long as the line before has a character in column 72.",
+        advice: "Usually a remark is too long, with its last character in column 72; the next line \
+                was taken for its continuation, and wasn't carried out. See Continuation lines.",
     },
     Message {
         texts: &["FAULT OPERATION"],
-        meaning: "There is no operation, or none that the bench knows.",
-        advice: "See STATEMENTS.md; an operation begins behind a blank.",
+        meaning: "The operation is missing or unknown.",
+        advice: "See STATEMENTS.md; an operation begins after a blank.",
     },
     Message {
         texts: &["FAULT OPERAND"],
-        meaning: "An operand is empty, isn't one of the statement, or has an apostrophe or a \
-                parenthesis that isn't closed.",
-        advice: "A comma too many is the most common cause, or a line that isn't continued.",
+        meaning: "An operand is empty, isn't the statement's, or has an apostrophe or a parenthesis \
+                that isn't closed.",
+        advice: "The usual cause is a comma too many, or a line that isn't continued.",
     },
     Message {
         texts: &["FAULT REPEATED"],
-        meaning: "A keyword stands twice.",
+        meaning: "A keyword is written twice.",
         advice: "Write it once.",
     },
     Message {
         texts: &["FAULT MISSING"],
-        meaning: "A required operand isn't there.",
+        meaning: "A required operand is missing.",
         advice: "STORAGE OBTAIN needs LENGTH, GETMAIN LV (EC and EU A too), STORAGE RELEASE LENGTH \
-                and ADDR or SP alone, FREEMAIN LV and A or SP alone, CPOOL BUILD PCELLCT, CSIZE and \
+                and ADDR or only SP, FREEMAIN LV and A or only SP, CPOOL BUILD PCELLCT, CSIZE and \
                 CPID, CPOOL GET and DELETE CPID, CPOOL FREE CPID and CELL, POKE and PEEK two \
                 operands, DETACH and RUN a task, BACK and FORWARD a number.",
     },
     Message {
         texts: &["FAULT VALUE"],
-        meaning: "A value isn't of its kind, as 8K, P+8, a number above 4294967295, register 13 for \
-                ADDR or CELL, a number or a register for CPID, an HDR without apostrophes or of more \
-                than 24 characters, an odd number of digits in POKE, or more than 256 bytes; or a \
-                pair where one length is asked for, or one length where VRC and VRU want a pair.",
+        meaning: "A value isn't of its kind, for example 8K, P+8, a number above 4294967295, register \
+                13 for ADDR or CELL, a number or a register for CPID, an HDR without apostrophes or \
+                of more than 24 characters, an odd number of digits in POKE, or more than 256 bytes; \
+                or a pair instead of one length, or one length where VRC and VRU need a pair.",
         advice: "See Values.",
     },
     Message {
         texts: &["FAULT LEFTOUT"],
-        meaning: "The form, the keyword, or the kind of value, is one that the bench leaves out; \
-                STATEMENTS.md lists them.",
+        meaning: "The bench leaves out the form, the keyword, or the kind of value; STATEMENTS.md \
+                lists them.",
         advice: "Do without it.",
     },
 ];
@@ -76,27 +75,27 @@ pub(crate) fn faults() -> &'static [Message] {
 static REFUSALS: [Message; 4] = [
     Message {
         texts: &["REFUSED NAME"],
-        meaning: "A value is a name that isn't defined: no accepted statement has stored in it, or \
-                that statement is undone.",
+        meaning: "A value is an undefined name: no accepted statement stored in it, or that statement \
+                is undone.",
         advice: "Define it by ADDR of a STORAGE OBTAIN, A of a GETMAIN EU or CELL of a CPOOL GET.",
     },
     Message {
         texts: &["REFUSED KEPT"],
-        meaning: "BACK is by more changes than are kept; the number says how many are.",
-        advice: "Go back by at most as many. A change that the history has forgotten can't be undone.",
+        meaning: "BACK is by more changes than are kept, whose number is printed.",
+        advice: "Go back by at most that number. A forgotten change can't be undone.",
     },
     Message {
         texts: &["REFUSED UNDONE"],
-        meaning: "FORWARD is by more changes than are undone; the number says how many are.",
-        advice: "Go forward by at most as many. A statement that was accepted after the BACK has \
-                taken the place of what was undone.",
+        meaning: "FORWARD is by more changes than are undone, whose number is printed.",
+        advice: "Go forward by at most that number. A statement accepted after the BACK discards what \
+                was undone.",
     },
     Message {
         texts: &["REFUSED MEMORY"],
-        meaning: "The statement would have been accepted, but the program got no memory for it.",
-        advice: "Give the program more memory, or go on: nothing has changed. The memory that it did \
-                get is kept for later statements. So after a large statement that is refused a small \
-                one can be too, which alone would be accepted.",
+        meaning: "The statement would have been accepted, but memory ran out.",
+        advice: "Give the program more memory, or continue: nothing changed. Memory that it did get \
+                is kept for later statements. So after a large refused statement a small one can be \
+                refused too, though by itself it would be accepted.",
     },
 ];
 
@@ -108,19 +107,19 @@ pub(crate) fn refusals() -> &'static [Message] {
 static USER_CODES: [Message; 13] = [
     Message {
         texts: &["U3007"],
-        meaning: "Subpools 131 and 132 need operands that the bench doesn't have.",
+        meaning: "Subpools 131 and 132 need operands that the bench lacks.",
         advice: "Take a number from 0 to 127.",
     },
     Message {
         texts: &["U3001"],
         meaning: "The length is zero; or of two bounds the minimum is zero or above the maximum.",
-        advice: "Write a length of at least 1, the maximum first; mind that a register or name as a \
-                length may hold 0.",
+        advice: "Write a length of at least 1, the maximum first; a register or name as a length may \
+                hold 0.",
     },
     Message {
         texts: &["U3013"],
-        meaning: "ADDR, A of GETMAIN, or CELL of CPOOL GET is a name that isn't defined, and 1,024 \
-                names are. ATTACH: there are 64 tasks. CPOOL BUILD: there are 256 cell pools.",
+        meaning: "ADDR, A of GETMAIN, or CELL of CPOOL GET is a new name, and 1,024 are already \
+                defined. ATTACH: there are 64 tasks. CPOOL BUILD: there are 256 cell pools.",
         advice: "Use a name again, or a register; end a task; delete a cell pool.",
     },
     Message {
@@ -136,14 +135,13 @@ static USER_CODES: [Message; 13] = [
     },
     Message {
         texts: &["U3005"],
-        meaning: "The task doesn't own the subpool that is to be released whole, or that ATTACH is to \
-                give away.",
-        advice: "Let its owner do it; a subpool that is shared can be shared further.",
+        meaning: "The task doesn't own the subpool to be released whole, or given away by ATTACH.",
+        advice: "Let its owner do it; a shared subpool can be shared further.",
     },
     Message {
         texts: &["U3006"],
-        meaning: "The area has storage of a cell pool's extent, be its cells free or in use.",
-        advice: "Give a cell back by CPOOL FREE, all of them by CPOOL DELETE.",
+        meaning: "The area has storage of a cell pool's extent, with its cells free or in use.",
+        advice: "Use CPOOL FREE for a cell, CPOOL DELETE for all.",
     },
     Message {
         texts: &["U3008"],
@@ -153,32 +151,30 @@ static USER_CODES: [Message; 13] = [
     },
     Message {
         texts: &["U3009"],
-        meaning: "There is a cell pool of this name already, perhaps in a subpool that the task \
-                doesn't see.",
+        meaning: "A cell pool has this name already, perhaps in a subpool that the task doesn't see.",
         advice: "Take another name, or delete that cell pool first.",
     },
     Message {
         texts: &["U3010"],
-        meaning: "There is no cell pool of this name, or its subpool isn't the one that the task sees: \
-                it was deleted, its subpool was released whole or given away, or its owner ended.",
+        meaning: "There is no cell pool of this name, or the task doesn't see its subpool: it was \
+                deleted, its subpool was released whole or given away, or its owner ended.",
         advice: "See the map for the cell pools and the owners of their subpools.",
     },
     Message {
         texts: &["U3011"],
-        meaning: "CPOOL FREE of an address that isn't that of a cell of this cell pool, or of a cell \
-                that is free.",
-        advice: "See which statement freed it already; mind that an address within a cell won't do.",
+        meaning: "CPOOL FREE of an address that is no cell's of this cell pool, or of a free cell.",
+        advice: "See which statement already freed it; an address within a cell won't do.",
     },
     Message {
         texts: &["U3012"],
-        meaning: "CPOOL BUILD: a cell size that is no multiple of 4 from 4 to 4096, or a count that \
-                isn't from 1 to 4096.",
-        advice: "Round the size up; mind that a register or name may hold 0.",
+        meaning: "CPOOL BUILD: a cell size that is no multiple of 4 from 4 to 4096, or a count not \
+                from 1 to 4096.",
+        advice: "Round the size up; a register or name may hold 0.",
     },
     Message {
         texts: &["U3014"],
-        meaning: "A number that ATTACH gives or shares is 0 or above 127, or is named twice.",
-        advice: "Subpool 0 goes by SZERO; see what the bytes of the list are.",
+        meaning: "A number that ATTACH gives or shares is 0, above 127, or named twice.",
+        advice: "Use SZERO for subpool 0; check the bytes of the list.",
     },
 ];
 
@@ -198,10 +194,10 @@ static SYSTEM_CODES: [Message; 6] = [
         texts: &["S878", "S80A", "S804"],
         meaning: "There is no place, for a STORAGE, RU or VRU, for form R, for GETMAIN EU; S878 also \
                 for the extent of a CPOOL BUILD, and for a further one of a CPOOL GET that finds no \
-                free cell: neither a free area of the subpool nor a run of unassigned pages is as \
-                long.",
-        advice: "Release something, ask for less, or use a conditional form, or give cells back. \
-                Areas of other subpools, and free storage in their pages, can't be used.",
+                free cell: no free area of the subpool and no run of unassigned pages is long \
+                enough.",
+        advice: "Release something, ask for less, use a conditional form, or free cells. Areas of \
+                other subpools, and free storage in their pages, can't be used.",
     },
     Message {
         texts: &["S978", "S90A", "S905"],
@@ -210,9 +206,8 @@ static SYSTEM_CODES: [Message; 6] = [
     },
     Message {
         texts: &["SA78", "SA0A", "SA05"],
-        meaning: "A part of the area isn't taken: it's free in the subpool, or its page isn't \
-                assigned.",
-        advice: "See which statement has released it already; mind that a length is rounded up.",
+        meaning: "A part of the area isn't taken: it's free in the subpool, or in an unassigned page.",
+        advice: "See which statement already released it; a length is rounded up.",
     },
     Message {
         texts: &["SA03"],
@@ -221,10 +216,9 @@ static SYSTEM_CODES: [Message; 6] = [
     },
     Message {
         texts: &["S0C4"],
-        meaning: "A byte of a POKE or PEEK, or of a list of ATTACH, lies in a page that isn't \
-                assigned, or past X'FFFFFFFF'.",
-        advice: "See what the address is: a register may hold 0. A page leaves once nothing in it is \
-                taken.",
+        meaning: "A byte of a POKE or PEEK, or of a list of ATTACH, is in an unassigned page, or past \
+                X'FFFFFFFF'.",
+        advice: "Check the address: a register may hold 0. A page leaves once nothing in it is taken.",
     },
 ];
 
@@ -239,18 +233,18 @@ static ANSWERS: [Message; 11] = [
         meaning: "STORAGE OBTAIN, GETMAIN: the area was obtained. A is its address, L its length in \
                 bytes, rounded up to a multiple of 8, both in hexadecimal.",
         advice: "Register 15 is 0; register 1, and the name or register that ADDR or A names, have \
-                the address; register 0 has the length where two bounds were asked for. The change \
-                is kept.",
+                the address; register 0 has the length if two bounds were asked for. The change is \
+                kept.",
     },
     Message {
         texts: &["RC=0 A L"],
         meaning: "CPOOL BUILD: the cell pool was made. A is the address of its first extent, L its \
                 length in bytes, rounded up to a multiple of 8.",
-        advice: "Register 15 is 0, and no other register changes. The change is kept.",
+        advice: "Only register 15 changes, to 0. The change is kept.",
     },
     Message {
         texts: &["RC=0 A"],
-        meaning: "CPOOL GET: the cell at this address was handed out.",
+        meaning: "CPOOL GET: the cell is at this address.",
         advice: "Register 15 is 0; register 1, and the name or register that CELL names, have the \
                 address. The change is kept.",
     },
@@ -266,8 +260,8 @@ static ANSWERS: [Message; 11] = [
         meaning: "STORAGE with COND=YES, GETMAIN RC, VRC and EC, FREEMAIN RC and EC: there was no \
                 place for the area, or it couldn't be released. CPOOL GET with C or COND: no cell is \
                 free.",
-        advice: "Register 15 is 4, and nothing else has changed: no subpool is made, no extent of \
-                cells and no name defined. The change is kept, and what was undone is gone.",
+        advice: "Only register 15 changed, to 4: no subpool or extent of cells is made, and no name \
+                defined. The change is kept, and what was undone is gone.",
     },
     Message {
         texts: &["RC=0 T"],
@@ -276,7 +270,7 @@ static ANSWERS: [Message; 11] = [
     },
     Message {
         texts: &["T"],
-        meaning: "RUN, ENDTASK: the task that makes the requests now.",
+        meaning: "RUN, ENDTASK: the task that now makes the requests.",
         advice: "No register. The change is kept.",
     },
     Message {
@@ -296,7 +290,7 @@ static ANSWERS: [Message; 11] = [
     },
     Message {
         texts: &["KEPT"],
-        meaning: "BACK or FORWARD: the step was made; so many changes are kept now, in decimal.",
+        meaning: "BACK or FORWARD: the step was made; this number of changes is kept now, in decimal.",
         advice: "The state that these changes lead to.",
     },
 ];
