@@ -1,14 +1,14 @@
 -- A node whose element said already what stands below it, as it does now.
-use Rattle.std.proofs.Common.{◌≡◌, ℕ, zero, suc, ◌+◌, ◌-◌, ◌<◌, ◌≤◌, List, [], ◌∷◌, ◌++◌, length, false, take, drop, set, Some, refl, sym, ap, ◌∙◌, arith, IsSome, subst}
+use Rattle.std.proofs.Common.{◌≡◌, ℕ, suc, ◌+◌, ◌-◌, ◌<◌, ◌≤◌, List, [], ◌∷◌, ◌++◌, length, false, take, drop, set, Some, refl, sym, ap, ◌∙◌, arith, IsSome, subst}
 use Rattle.std.specs.Prelude.{slice_get}
-use Rattle.std.proofs.lemmas.List.{take-append-drop, set_split}
+use Rattle.std.proofs.lemmas.List.{take-append-drop, set-get_or, set_split}
 use Rattle.std.proofs.lemmas.Option.{get_or_from_slice_get, slice_get-get_or}
 use Rattle.vsm_elements.specs.Store.{Store, at, among}
 use Rattle.run_tree.specs.declared.run.Run.{Run}
 use Rattle.run_tree.specs.declared.tree.RunTree.{RunTree}
 use Rattle.run_tree.specs.declared.shape.RunNode.{RunNode}
 use Rattle.run_tree.specs.declared.shape.Rooms.{Rooms}
-use Rattle.run_tree.specs.Searches.{none, run_at}
+use Rattle.run_tree.specs.Searches.{none}
 use Rattle.run_tree.specs.Nodes.{AreRooms, Adds, Changes, Announces}
 use Rattle.run_tree.specs.Trees.{runs, owned, Puts, CutsOut, Writes}
 use Rattle.run_tree.proofs.AnnounceLemmas.{stands, still_live, still_out, puts_from, cuts_from, writes_from}
@@ -116,13 +116,8 @@ module _ (s u : Store) (h : RunTree) (n : RunNode) (count : ℕ) (rooms one : Ro
 
 -- a run gives way
 
-or_parts : (rs : List Run) (k : ℕ) → k < length rs → rs ≡ take k rs ++ run_at rs k ∷ drop (suc k) rs
-or_parts [] k low = absurd (omega (arith, low))
-or_parts (r ∷ rs) zero low = refl
-or_parts (r ∷ rs) (suc k) low = ap (λ (xs : List Run). r ∷ xs) (or_parts rs k (omega (arith, low)))
-
 parts_at : (rs : List Run) (k : ℕ) (r : Run) → k < length rs → slice_get rs k ≡ Some r → rs ≡ take k rs ++ r ∷ drop (suc k) rs
-parts_at rs k r low e = or_parts rs k low ∙ ap (λ (x : Run). take k rs ++ x ∷ drop (suc k) rs) (get_or_from_slice_get rs k r none e)
+parts_at rs k r low e = sym (set-get_or rs k none) ∙ ap (set rs k) (get_or_from_slice_get rs k r none e) ∙ set_split rs k r low
 
 module _ (s u : Store) (h : RunTree) (n : RunNode) (count : ℕ) (rooms was now : Rooms) (a : Announces s u h n count rooms)
     (k : ℕ) (old : Run) (within : k < length (runs s h)) (there : slice_get (runs s h) k ≡ Some old) (is : AreRooms n.rooms (runs s h)) (of : AreRooms was (old ∷ [])) (changes : Changes n.rooms was now rooms) where

@@ -1,5 +1,5 @@
-ghost use Rattle.std.specs.Prelude.{◌≡◌, ◌≢◌, ℕ, ◌+◌, ◌-◌, ◌%◌, ◌^◌, ◌<◌, ◌≤◌, ◌++◌, ◌∷◌, [], Some, IsSome, true, false, Bool, slice_get};
-ghost use Rattle.std.specs.Prelude.{slice_set, take, drop, length};
+ghost use Rattle.std.specs.Prelude.{◌≡◌, ◌≢◌, ℕ, ◌+◌, ◌-◌, ◌%◌, ◌^◌, ◌<◌, ◌≤◌, ◌++◌, ◌∷◌, [], Some, IsSome, true, false};
+ghost use Rattle.std.specs.Prelude.{Bool, slice_get, slice_set, take, drop, length};
 ghost use Rattle.vsm_elements.specs.Store.{Store, Distinct, at, among};
 ghost use Rattle.vsm_elements.specs.Ownership.{Leaves};
 ghost use Rattle.run_tree.specs.Shape.{longest, room_of, total};
@@ -81,7 +81,7 @@ impl RunTree {
         }
     }
 
-    // Whether the top stays at the top where the element comes into the tree.
+    // Whether the top stays the top if this element comes into the tree.
     fn stays(self, id: Id) -> bool
         ensures { result ≡ true → 0 < self.count }
     {
@@ -100,7 +100,7 @@ impl RunTree {
         RunTree::join(elements, before, id, run, behind)
     }
 
-    // A live element becomes the run at `k` below the top, which stays. What the nodes on the way say then is known.
+    // A live element becomes the run at `k`, below the top, which stays. Each node on the way says at once what it will.
     fn put(self, elements: &mut Elements, k: u32, id: Id, run: Run)
         requires tree { IsTree elements.old self }
         requires some { 0 < self.count }
@@ -171,8 +171,8 @@ impl RunTree {
         }
     }
 
-    // The run at `k`, below the top, goes: the top stays. What the nodes on the way say then is known as long as it
-    // hasn't the most room of all below them.
+    // The run at `k`, which is this one, goes; it's below the top, which stays. Each node on the way says at once what it
+    // will, until one is reached at whose top it is, or in which no run had more room.
     fn cut_below(self, elements: &mut Elements, k: u32, was: Run) -> Id
         requires tree { IsTree elements.old self }
         requires place { k < self.count }
@@ -238,8 +238,9 @@ impl RunTree {
         }
     }
 
-    // The run at `k` is another one. What the nodes on the way say then is known as long as the old one hadn't the most
-    // room of all below them.
+    // The run at `k`, which is this one, gives way to another. Each node on the way says at once what it will, until one
+    // is reached at whose top it is, or in which no run had more room, and the new one has less.
+    #[inline(never)]
     fn exchange(self, elements: &mut Elements, k: u32, was: Run, run: Run)
         requires tree { IsTree elements.old self }
         requires place { k < self.count }
