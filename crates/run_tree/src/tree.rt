@@ -138,6 +138,9 @@ impl RunTree {
         requires apart { among id (owned elements.old self) ≡ false }
         ensures { Puts elements.old elements.new self k id run result }
     {
+        if self.count == 0 {
+            return RunTree::join(elements, self, id, run, self);
+        }
         if !self.stays(id) {
             return self.put_over(elements, k, id, run);
         }
