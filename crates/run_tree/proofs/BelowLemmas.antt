@@ -60,9 +60,6 @@ head_is h r n root count = ap (λ (i : ℕ). record { root = i; count = r.count 
 pub put_head : (s t : Store) (h r : RunTree) (k id : ℕ) (run : Run) → r.root ≡ h.root → Puts s t h k id run r → Puts s t h k id run (record { root = h.root; count = h.count + 1 })
 put_head s t h r k id run root g = let P : RunTree → Type 0 = Puts s t h k id run in subst P (head_is h r (h.count + 1) root g.count) g
 
-pub cut_head : (s t : Store) (h r : RunTree) (k id : ℕ) → r.root ≡ h.root → CutsOut s t h k r id → CutsOut s t h k (record { root = h.root; count = h.count - 1 }) id
-cut_head s t h r k id root g = let P : RunTree → Type 0 = λ x. CutsOut s t h k x id in subst P (head_is h r (h.count - 1) root (omega (arith, g.count))) g
-
 -- a run comes besides
 module _ (s u : Store) (h : RunTree) (n : RunNode) (count : ℕ) (rooms one : Rooms) (a : Announces s u h n count rooms)
     (id : ℕ) (run : Run) (live : IsSome (at s id)) (out : among id (owned s h) ≡ false) (is : AreRooms n.rooms (runs s h)) (of : AreRooms one (run ∷ [])) (adds : Adds n.rooms one rooms) where
