@@ -86,17 +86,17 @@ impl RunSet {
             (Some(left), Some(right)) => {
                 let len = left.len + run.len + right.len;
                 let start = left.start;
-                self.bridge(elements, place, Run { start, len })
+                self.bridge(elements, place, left, right, Run { start, len })
             }
             (Some(left), None) => {
                 let len = left.len + run.len;
                 let start = left.start;
-                self.write_before(elements, place, Run { start, len })
+                self.write_before(elements, place, left, Run { start, len })
             }
             (None, Some(right)) => {
                 let len = run.len + right.len;
                 let start = run.start;
-                self.write(elements, place, Run { start, len });
+                self.write(elements, place, right, Run { start, len });
             }
             (None, None) => self.put(elements, place, run),
         }
@@ -135,14 +135,14 @@ impl RunSet {
         };
         if before.len > 0 {
             if behind.len > 0 {
-                self.split(elements, place, before, behind);
+                self.split(elements, place, whole, before, behind);
             } else {
-                self.write(elements, place, before);
+                self.write(elements, place, whole, before);
             }
         } else if behind.len > 0 {
-            self.write(elements, place, behind);
+            self.write(elements, place, whole, behind);
         } else {
-            self.take_out(elements, place);
+            self.take_out(elements, place, whole);
         }
     }
 

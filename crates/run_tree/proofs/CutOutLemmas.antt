@@ -1,5 +1,5 @@
 -- A run that is taken out of a tree.
-use Rattle.std.proofs.Common.{◌≡◌, ℕ, ◌+◌, ◌-◌, ◌<◌, true, false, inl, inr, List, [], ◌∷◌, ◌++◌, length, take, drop, None, refl, sym, ap, ◌∙◌, arith, IsSome, subst, append_assoc, length-append}
+use Rattle.std.proofs.Common.{◌≡◌, ◌≢◌, ℕ, ◌+◌, ◌-◌, ◌<◌, true, false, inl, inr, List, [], ◌∷◌, ◌++◌, length, take, drop, None, refl, sym, ap, ◌∙◌, arith, IsSome, subst, append_assoc, length-append}
 use Rattle.std.proofs.lemmas.List.{take_at, take-append-le, drop-append-le}
 use Rattle.std.proofs.lemmas.Bool.Decides.{eqb_tells}
 use Rattle.vsm_elements.specs.Store.{Store, at, among, Distinct, Updates}
@@ -119,24 +119,32 @@ module _ (s : Store) (h : RunTree) (n : RunNode) (o : Opens s h n) where
     pub up_distinct : Distinct (owned u m ++ n.id ∷ owned u n.right)
     up_distinct = let P : List ℕ → Type 0 = Distinct in subst P (sym ids) less_distinct
 
+    pub up_kept : at u n.id ≡ at s n.id
+    up_kept = same n.id (among_first n.id R)
+
     pub up_live : IsSome (at u n.id)
-    up_live = let e : at u n.id ≡ at s n.id = same n.id (among_first n.id R) in rw e o.live
+    up_live = rw up_kept o.live
 
     in_left_part : among id L ≡ true
     in_left_part = ap (among id) g.was ∙ in_middle (take k L) id (drop (k + 1) L)
 
+    pub other_id : id ≢ n.id
+    other_id = not_middle L n.id R o.distinct id (in_left id L R in_left_part)
+
+    pub up_are : runs u m ++ n.run ∷ runs u n.right ≡ take k (runs s h) ++ drop (k + 1) (runs s h)
+    up_are = ap (λ (x : List Run). runs u m ++ n.run ∷ x) (runs_kept s u n.right o.right (λ i q. same i (among_later i n.id R q)))
+        ∙ ap (λ (x : List Run). x ++ n.run ∷ runs s n.right) g.are
+        ∙ gone_left k (runs s n.left) n.run (runs s n.right) (omega (arith, low, length-tree s n.left o.left))
+        ∙ ap (λ (x : List Run). take k x ++ drop (k + 1) x) (sym o.are)
+
     pub cut_before : (t : Store) (r : RunTree) → Joins u t m n.id n.run n.right r → CutsOut s t h k r id
     cut_before t r j = record {
       tree = j.tree;
-      are = j.are
-          ∙ ap (λ (x : List Run). runs u m ++ n.run ∷ x) (runs_kept s u n.right o.right (λ i q. same i (among_later i n.id R q)))
-          ∙ ap (λ (x : List Run). x ++ n.run ∷ runs s n.right) g.are
-          ∙ gone_left k (runs s n.left) n.run (runs s n.right) (omega (arith, low, length-tree s n.left o.left))
-          ∙ ap (λ (x : List Run). take k x ++ drop (k + 1) x) (sym o.are);
+      are = j.are ∙ up_are;
       own = j.own ∙ ids;
       was = was_before;
       count = omega (arith, j.count, g.count, o.count);
-      kept = j.others id (out_of_cons id n.id [] (not_middle L n.id R o.distinct id (in_left id L R in_left_part)) refl) ∙ g.kept;
+      kept = j.others id (out_of_cons id n.id [] other_id refl) ∙ g.kept;
       others = λ i out. j.others i (not_top i out) ∙ g.others i (parts i out).0;
       spare = j.spare ∙ g.spare;
       as_many = j.as_many ∙ g.as_many;
@@ -173,24 +181,32 @@ module _ (s : Store) (h : RunTree) (n : RunNode) (o : Opens s h n) where
     pub up_distinct' : Distinct (owned u n.left ++ n.id ∷ owned u m)
     up_distinct' = let P : List ℕ → Type 0 = Distinct in subst P (sym ids') less_distinct'
 
+    pub up_kept' : at u n.id ≡ at s n.id
+    up_kept' = g.others n.id (distinct_right L (n.id ∷ R) o.distinct).0
+
     pub up_live' : IsSome (at u n.id)
-    up_live' = let e : at u n.id ≡ at s n.id = g.others n.id (distinct_right L (n.id ∷ R) o.distinct).0 in rw e o.live
+    up_live' = rw up_kept' o.live
 
     in_right_part : among id R ≡ true
     in_right_part = ap (among id) g.was ∙ in_middle (take k' R) id (drop (k' + 1) R)
 
+    pub other_id' : id ≢ n.id
+    other_id' = not_middle L n.id R o.distinct id (in_right id L R in_right_part)
+
+    pub up_are' : runs u n.left ++ n.run ∷ runs u m ≡ take k (runs s h) ++ drop (k + 1) (runs s h)
+    up_are' = ap (λ (x : List Run). x ++ n.run ∷ runs u m) (runs_kept s u n.left o.left same')
+        ∙ ap (λ (x : List Run). runs s n.left ++ n.run ∷ x) g.are
+        ∙ gone_right k k' (runs s n.left) n.run (runs s n.right) (omega (arith, high, less, length-tree s n.left o.left))
+        ∙ ap (λ (x : List Run). take k x ++ drop (k + 1) x) (sym o.are)
+
     pub cut_behind : (t : Store) (r : RunTree) → Joins u t n.left n.id n.run m r → CutsOut s t h k r id
     cut_behind t r j = record {
       tree = j.tree;
-      are = j.are
-          ∙ ap (λ (x : List Run). x ++ n.run ∷ runs u m) (runs_kept s u n.left o.left same')
-          ∙ ap (λ (x : List Run). runs s n.left ++ n.run ∷ x) g.are
-          ∙ gone_right k k' (runs s n.left) n.run (runs s n.right) (omega (arith, high, less, length-tree s n.left o.left))
-          ∙ ap (λ (x : List Run). take k x ++ drop (k + 1) x) (sym o.are);
+      are = j.are ∙ up_are';
       own = j.own ∙ ids';
       was = was_behind;
       count = omega (arith, j.count, g.count, o.count);
-      kept = j.others id (out_of_cons id n.id [] (not_middle L n.id R o.distinct id (in_right id L R in_right_part)) refl) ∙ g.kept;
+      kept = j.others id (out_of_cons id n.id [] other_id' refl) ∙ g.kept;
       others = λ i out. j.others i (not_top i out) ∙ g.others i (out_cons i n.id R (parts i out).1).1;
       spare = j.spare ∙ g.spare;
       as_many = j.as_many ∙ g.as_many;

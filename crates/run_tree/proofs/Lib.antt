@@ -12,3 +12,6 @@ pub mod CutOutLemmas
 pub mod PutLemmas
 pub mod TotalLemmas
 pub mod OneLemmas
+pub mod RoomLemmas
+pub mod AnnounceLemmas
+pub mod BelowLemmas

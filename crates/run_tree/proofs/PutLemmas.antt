@@ -169,17 +169,22 @@ module _ (s : Store) (h : RunTree) (n : RunNode) (o : Opens s h n) (id : ℕ) (r
         let P : List ℕ → Type 0 = Distinct in
         subst P (sym ids) (put_distinct k (owned s h) id (subst P (sym o.own) o.distinct) out)
 
+    pub up_kept : at u n.id ≡ at s n.id
+    up_kept = same n.id (among_first n.id R)
+
     pub up_live : IsSome (at u n.id)
-    up_live = let e : at u n.id ≡ at s n.id = same n.id (among_first n.id R) in rw e o.live
+    up_live = rw up_kept o.live
+
+    pub up_are : runs u m ++ n.run ∷ runs u n.right ≡ take k (runs s h) ++ run ∷ drop k (runs s h)
+    up_are = ap (λ (x : List Run). runs u m ++ n.run ∷ x) right_runs
+        ∙ ap (λ (x : List Run). x ++ n.run ∷ runs s n.right) g.are
+        ∙ put_left k (runs s n.left) n.run run (runs s n.right) (omega (arith, low, length-tree s n.left o.left))
+        ∙ ap (λ (x : List Run). take k x ++ run ∷ drop k x) (sym o.are)
 
     pub put_before : (t : Store) (r : RunTree) → Joins u t m n.id n.run n.right r → Puts s t h k id run r
     put_before t r j = record {
       tree = j.tree;
-      are = j.are
-          ∙ ap (λ (x : List Run). runs u m ++ n.run ∷ x) right_runs
-          ∙ ap (λ (x : List Run). x ++ n.run ∷ runs s n.right) g.are
-          ∙ put_left k (runs s n.left) n.run run (runs s n.right) (omega (arith, low, length-tree s n.left o.left))
-          ∙ ap (λ (x : List Run). take k x ++ run ∷ drop k x) (sym o.are);
+      are = j.are ∙ up_are;
       own = j.own ∙ ids;
       count = omega (arith, j.count, g.count, o.count);
       others = λ i q. (let p = out_cons i id (owned s h) q in
@@ -221,19 +226,22 @@ module _ (s : Store) (h : RunTree) (n : RunNode) (o : Opens s h n) (id : ℕ) (r
         let P : List ℕ → Type 0 = Distinct in
         subst P (sym ids') (put_distinct k (owned s h) id (subst P (sym o.own) o.distinct) out)
 
+    pub up_kept' : at u n.id ≡ at s n.id
+    up_kept' = g.others n.id (out_of_cons n.id id R (λ q. not_id (sym q)) (distinct_right L (n.id ∷ R) o.distinct).0)
+
     pub up_live' : IsSome (at u n.id)
-    up_live' =
-        let e : at u n.id ≡ at s n.id = g.others n.id (out_of_cons n.id id R (λ q. not_id (sym q)) (distinct_right L (n.id ∷ R) o.distinct).0) in
-        rw e o.live
+    up_live' = rw up_kept' o.live
+
+    pub up_are' : runs u n.left ++ n.run ∷ runs u m ≡ take k (runs s h) ++ run ∷ drop k (runs s h)
+    up_are' = ap (λ (x : List Run). x ++ n.run ∷ runs u m) left_runs
+        ∙ ap (λ (x : List Run). runs s n.left ++ n.run ∷ x) g.are
+        ∙ put_right k k' (runs s n.left) n.run run (runs s n.right) at_runs
+        ∙ ap (λ (x : List Run). take k x ++ run ∷ drop k x) (sym o.are)
 
     pub put_behind : (t : Store) (r : RunTree) → Joins u t n.left n.id n.run m r → Puts s t h k id run r
     put_behind t r j = record {
       tree = j.tree;
-      are = j.are
-          ∙ ap (λ (x : List Run). x ++ n.run ∷ runs u m) left_runs
-          ∙ ap (λ (x : List Run). runs s n.left ++ n.run ∷ x) g.are
-          ∙ put_right k k' (runs s n.left) n.run run (runs s n.right) at_runs
-          ∙ ap (λ (x : List Run). take k x ++ run ∷ drop k x) (sym o.are);
+      are = j.are ∙ up_are';
       own = j.own ∙ ids';
       count = omega (arith, j.count, g.count, o.count);
       others = λ i q. (let p = out_cons i id (owned s h) q in

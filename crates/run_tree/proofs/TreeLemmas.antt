@@ -1,5 +1,5 @@
 -- Trees of elements: what a node opens to, what is joined, and that a tree stays whose elements are as they were.
-use Rattle.std.proofs.Common.{◌≡◌, ℕ, zero, suc, ◌+◌, ◌-◌, ◌%◌, ◌^◌, ◌<◌, ◌≤◌, true, List, [], ◌∷◌, ◌++◌, length, take, drop, get_or, max, Some, Option, refl, sym, ap, ◌∙◌, arith, IsSome, subst, inl, inr, length-append}
+use Rattle.std.proofs.Common.{◌≡◌, ℕ, zero, suc, ◌+◌, ◌-◌, ◌%◌, ◌^◌, ◌<◌, ◌≤◌, true, false, List, [], ◌∷◌, ◌++◌, length, take, drop, get_or, max, Some, Option, refl, sym, ap, ◌∙◌, arith, IsSome, subst, inl, inr, length-append}
 use Rattle.std.specs.Prelude.{unwrap_or}
 use Rattle.std.proofs.lemmas.List.{nil_from_length}
 use Rattle.std.proofs.lemmas.Bool.Decides.{eqb_tells}
@@ -16,7 +16,7 @@ use Rattle.run_tree.specs.declared.shape.Rooms.{Rooms}
 use Rattle.run_tree.specs.Shape.{Shape, leaf, node, runs_in, ids_in, size, top, written, grown, longest, plain, paged, total, IsTreeOf}
 use Rattle.run_tree.specs.Nodes.{IsLinked, AreRooms}
 use Rattle.run_tree.specs.Trees.{fitted, runs, owned, IsTree, Opens, Joins}
-use Rattle.run_tree.proofs.Lists.{in_parts, in_left, in_right, out_cons, distinct_left, distinct_right, not_middle}
+use Rattle.run_tree.proofs.Lists.{in_parts, in_middle, in_left, in_right, out_cons, distinct_left, distinct_right, not_middle}
 use Rattle.run_tree.proofs.ShapeLemmas.{longest_node, total_node, size_node, Held-same, live_in, read_off, length-runs}
 
 -- from a shape
@@ -108,6 +108,7 @@ opened h e = record {
   id = h.root;
   run = record { start = get_or e.words 2 0; len = get_or e.words 3 0 };
   right = record { root = get_or e.words 0 0; count = h.count - 1 - get_or e.words 1 0 };
+  rooms = record { plain = get_or e.words 4 0; paged = get_or e.words 5 0; total = get_or e.words 6 0 };
 }
 
 top_is : (s : Store) (h : RunTree) (l : Shape) (id : ℕ) (r : Run) (q : Shape) (e : Element) → IsTreeOf s h (node l id r q) → at s h.root ≡ Some e → e ≡ written l r q
@@ -157,6 +158,7 @@ opens_linked s h e x some a = go (grown s h.count h.root) x where
       record {
         next = ap (λ (z : Element). z.next) is;
         front = ap (λ (z : Element). take 3 z.words) is ∙ subst P (sym w) refl;
+        len = ap (λ (z : Element). get_or z.words 3 0) is;
         end = ap (λ (z : Element). drop 7 z.words) (is ∙ w);
       }
 
@@ -166,6 +168,13 @@ top_live s h x some = go (grown s h.count h.root) x where
   go : (y : Shape) → IsTreeOf s h y → IsSome (at s h.root)
   go leaf t = absurd (omega (arith, t.count, some))
   go (node l id r q) t = let Q : ℕ → Type 0 = λ i. IsSome (at s i) in subst Q (sym t.root) (some_of s id (written l r q) t.held.1)
+
+pub top_in : (s : Store) (h : RunTree) → IsTree s h → 0 < h.count → among h.root (owned s h) ≡ true
+unfolding IsTree
+top_in s h x some = go (grown s h.count h.root) x where
+  go : (y : Shape) → IsTreeOf s h y → among h.root (owned s h) ≡ true
+  go leaf t = absurd (omega (arith, t.count, some))
+  go (node l id r q) t = ap (λ (i : ℕ). among i (owned s h)) t.root ∙ ap (among id) (owned_are s h (node l id r q) t) ∙ in_middle (ids_in l) id (ids_in q)
 
 pub left_fits : (s : Store) (h : RunTree) (e : Element) → IsTree s h → 0 < h.count → at s h.root ≡ Some e → get_or e.words 1 0 + 1 ≤ h.count
 left_fits s h e x some a = let o : Opens s h (opened h e) = opens s h e x some a in omega (arith, o.count, some)
@@ -232,6 +241,7 @@ linked_kept s u n e l =
     record {
       next = ap (λ (z : Element). z.next) is ∙ l.next;
       front = ap (λ (z : Element). take 3 z.words) is ∙ l.front;
+      len = ap (λ (z : Element). get_or z.words 3 0) is ∙ l.len;
       end = ap (λ (z : Element). drop 7 z.words) is ∙ l.end;
     }
 
@@ -276,4 +286,15 @@ room_for s left id right tl tq distinct live range =
           | inl p ↦ (let Q : ℕ → Type 0 = λ j. IsSome (at s j) in subst Q (sym p.1) live)
           | inr p ↦ owned_live s right tq i (sym (among_cons i id (owned s right) p.1) ∙ k)
         ]
+      ]
+
+pub room_for_one : (s : Store) (h : RunTree) (id : ℕ) → IsTree s h → IsSome (at s id) → among id (owned s h) ≡ false
+    → ((i : ℕ) → IsSome (at s i) → (0 < i) × (i ≤ 4294967040)) → h.count + 1 ≤ 4294967040
+room_for_one s h id tree live out range =
+    let few : length (id ∷ owned s h) ≤ 4294967040 = length-distinct 4294967040 (id ∷ owned s h) (out, owned_distinct s h tree) (λ i m. range i (here i m)) in
+    omega (arith, few, length-owned s h tree) where
+      here : (i : ℕ) → among i (id ∷ owned s h) ≡ true → IsSome (at s i)
+      here i m = elim (eqb_tells i id) [
+        | inl p ↦ (let Q : ℕ → Type 0 = λ j. IsSome (at s j) in subst Q (sym p.1) live)
+        | inr p ↦ owned_live s h tree i (sym (among_cons i id (owned s h) p.1) ∙ m)
       ]

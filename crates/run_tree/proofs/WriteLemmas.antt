@@ -12,7 +12,7 @@ use Rattle.run_tree.specs.Trees.{runs, owned, IsTree, Opens, Joins, Writes}
 use Rattle.run_tree.proofs.Lists.{out_parts, out_cons, out_of_cons, distinct_right, distinct_apart, distinct_apart_back}
 use Rattle.run_tree.proofs.TreeLemmas.{tree_kept, runs_kept, owned_kept, linked_kept, length-tree}
 
-module _ (s : Store) (h : RunTree) (n : RunNode) (o : Opens s h n) (tree : IsTree s h) (k : ℕ) (run : Run) where
+module _ (s : Store) (h : RunTree) (n : RunNode) (o : Opens s h n) (k : ℕ) (run : Run) where
   not_top : (i : ℕ) → among i (owned s h) ≡ false → among i (n.id ∷ []) ≡ false
   not_top i out =
       let p = out_parts i (owned s n.left) (n.id ∷ owned s n.right) (ap (among i) (sym o.own) ∙ out) in
@@ -52,7 +52,7 @@ module _ (s : Store) (h : RunTree) (n : RunNode) (o : Opens s h n) (tree : IsTre
     pub up_distinct : Distinct (owned u n.left ++ n.id ∷ owned u n.right)
     up_distinct = let P : List ℕ → Type 0 = Distinct in subst P ids o.distinct
 
-    up_kept : at u n.id ≡ at s n.id
+    pub up_kept : at u n.id ≡ at s n.id
     up_kept = g.others n.id (distinct_apart_back (owned s n.left) (n.id ∷ owned s n.right) o.distinct n.id (among_first n.id (owned s n.right)))
 
     pub up_live : IsSome (at u n.id)
@@ -61,13 +61,15 @@ module _ (s : Store) (h : RunTree) (n : RunNode) (o : Opens s h n) (tree : IsTre
     pub up_linked : IsLinked s n → IsLinked u n
     up_linked = linked_kept s u n up_kept
 
+    pub up_are : runs u n.left ++ n.run ∷ runs u n.right ≡ set (runs s h) k run
+    up_are = ap (λ (x : List Run). runs u n.left ++ n.run ∷ x) (runs_kept s u n.right o.right same)
+        ∙ ap (λ (x : List Run). x ++ n.run ∷ runs s n.right) g.are
+        ∙ sym (ap (λ (x : List Run). set x k run) o.are ∙ set-append_left (runs s n.left) (n.run ∷ runs s n.right) k run (omega (arith, low, length-tree s n.left o.left)))
+
     pub write_left : (t : Store) → Joins u t n.left n.id n.run n.right head → Writes s t h k run
     write_left t up = let j = joined u t n.run up in record {
       tree = j.tree;
-      are = j.are
-          ∙ ap (λ (x : List Run). runs u n.left ++ n.run ∷ x) (runs_kept s u n.right o.right same)
-          ∙ ap (λ (x : List Run). x ++ n.run ∷ runs s n.right) g.are
-          ∙ sym (ap (λ (x : List Run). set x k run) o.are ∙ set-append_left (runs s n.left) (n.run ∷ runs s n.right) k run (omega (arith, low, length-tree s n.left o.left)));
+      are = j.are ∙ up_are;
       own = j.own ∙ sym ids ∙ sym o.own;
       others = λ i out. j.others i (not_top i out) ∙ g.others i (out_parts i (owned s n.left) (n.id ∷ owned s n.right) (ap (among i) (sym o.own) ∙ out)).0;
       spare = j.spare ∙ g.spare;
@@ -91,7 +93,7 @@ module _ (s : Store) (h : RunTree) (n : RunNode) (o : Opens s h n) (tree : IsTre
     pub up_distinct' : Distinct (owned u n.left ++ n.id ∷ owned u n.right)
     up_distinct' = let P : List ℕ → Type 0 = Distinct in subst P ids' o.distinct
 
-    up_kept' : at u n.id ≡ at s n.id
+    pub up_kept' : at u n.id ≡ at s n.id
     up_kept' = g.others n.id (distinct_right (owned s n.left) (n.id ∷ owned s n.right) o.distinct).0
 
     pub up_live' : IsSome (at u n.id)
@@ -107,13 +109,15 @@ module _ (s : Store) (h : RunTree) (n : RunNode) (o : Opens s h n) (tree : IsTre
         set-append_right (runs s n.left) (n.run ∷ runs s n.right) n.left.count k run len (omega arith)
         ∙ ap (λ (i : ℕ). runs s n.left ++ set (n.run ∷ runs s n.right) i run) e
 
+    pub up_are' : runs u n.left ++ n.run ∷ runs u n.right ≡ set (runs s h) k run
+    up_are' = ap (λ (x : List Run). x ++ n.run ∷ runs u n.right) (runs_kept s u n.left o.left same')
+        ∙ ap (λ (x : List Run). runs s n.left ++ n.run ∷ x) g.are
+        ∙ sym (ap (λ (x : List Run). set x k run) o.are ∙ set_behind)
+
     pub write_right : (t : Store) → Joins u t n.left n.id n.run n.right head → Writes s t h k run
     write_right t up = let j = joined u t n.run up in record {
       tree = j.tree;
-      are = j.are
-          ∙ ap (λ (x : List Run). x ++ n.run ∷ runs u n.right) (runs_kept s u n.left o.left same')
-          ∙ ap (λ (x : List Run). runs s n.left ++ n.run ∷ x) g.are
-          ∙ sym (ap (λ (x : List Run). set x k run) o.are ∙ set_behind);
+      are = j.are ∙ up_are';
       own = j.own ∙ sym ids' ∙ sym o.own;
       others = λ i out. j.others i (not_top i out) ∙ g.others i (out_cons i n.id (owned s n.right) (out_parts i (owned s n.left) (n.id ∷ owned s n.right) (ap (among i) (sym o.own) ∙ out)).1).1;
       spare = j.spare ∙ g.spare;

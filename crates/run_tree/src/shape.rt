@@ -1,4 +1,4 @@
-ghost use Rattle.std.specs.Prelude.{◌≡◌, max, ◌+◌, ◌%◌, ◌^◌, ◌<◌, ◌∷◌, ◌++◌, IsSome, []};
+ghost use Rattle.std.specs.Prelude.{◌≡◌, ℕ, max, ◌+◌, ◌%◌, ◌^◌, ◌<◌, ◌∷◌, ◌++◌, IsSome, IfSome, []};
 ghost use Rattle.vsm_elements.specs.Store.{Store, at, Distinct};
 ghost use Rattle.run_tree.specs.Shape.{longest, plain, paged, room_of, total};
 
@@ -13,6 +13,7 @@ pub(crate) struct RunNode {
     pub(crate) id: Id,
     pub(crate) run: Run,
     pub(crate) right: RunTree,
+    pub(crate) rooms: Rooms,
 }
 
 // How much room the longest run has, from its first number and from its first number on a page; and how many numbers
@@ -44,7 +45,66 @@ pub(crate) fn room(run: Run, paged: bool) -> u32
     if paged { paged_room(run) } else { run.len }
 }
 
+// The most of some numbers, of which one gave way to another; `None` where it's that one, and the other is less.
+fn most_after(most: u32, was: u32, now: u32) -> Option<u32>
+    ensures { IfSome result (λ next. (others : ℕ) → most ≡ max others was → next ≡ max others now) }
+{
+    if now < was && was == most {
+        None
+    } else {
+        Some(most.max(now))
+    }
+}
+
 impl Rooms {
+    ghost use Rattle.run_tree.specs.Nodes.{AreRooms, Adds, Changes};
+
+    // Those of no run.
+    pub(crate) fn none() -> Rooms
+        ensures { AreRooms result [] }
+    {
+        Rooms {
+            plain: 0,
+            paged: 0,
+            total: 0,
+        }
+    }
+
+    // Those of one run.
+    pub(crate) fn of(run: Run) -> Rooms
+        ensures { AreRooms result (run ∷ []) }
+    {
+        Rooms {
+            plain: run.len,
+            paged: paged_room(run),
+            total: run.len,
+        }
+    }
+
+    // Those of a list in which some runs come besides.
+    pub(crate) fn with(self, more: Rooms) -> Rooms
+        ensures { Adds self more result }
+    {
+        Rooms {
+            plain: self.plain.max(more.plain),
+            paged: self.paged.max(more.paged),
+            total: self.total.wrapping_add(more.total),
+        }
+    }
+
+    // Those of a list in which some runs give way to others; `None` where all its runs have to be asked.
+    pub(crate) fn changed(self, was: Rooms, now: Rooms) -> Option<Rooms>
+        ensures { IfSome result (λ next. Changes self was now next) }
+    {
+        let plain = most_after(self.plain, was.plain, now.plain)?;
+        let paged = most_after(self.paged, was.paged, now.paged)?;
+        Some(Rooms {
+            plain,
+            paged,
+            total: self.total.wrapping_sub(was.total).wrapping_add(now.total),
+        })
+    }
+
     // The most room of two lists and a run between them, and their numbers.
     fn around(self, run: Run, behind: Rooms) -> Rooms
         ensures plain { result.plain ≡ max (max self.plain (plain run)) behind.plain }
@@ -61,7 +121,7 @@ impl Rooms {
 
 impl RunTree {
     ghost use Rattle.run_tree.specs.Trees.{runs, owned, IsTree, Opens, Joins};
-    ghost use Rattle.run_tree.specs.Nodes.{IsLinked, AreRooms};
+    ghost use Rattle.run_tree.specs.Nodes.{IsLinked, AreRooms, Announces, top_place};
 
     // The tree without runs.
     pub(crate) fn empty() -> RunTree
@@ -80,6 +140,8 @@ impl RunTree {
         requires some { 0 < self.count }
         ensures opens { Opens elements.now self result }
         ensures linked { IsLinked elements.now result }
+        ensures rooms { AreRooms result.rooms (runs elements.now self) }
+        ensures place { result.left.count ≡ top_place elements.now self }
     {
         let element = elements.get(self.root);
         let words = element.words;
@@ -97,7 +159,45 @@ impl RunTree {
                 root: words[0],
                 count: self.count - 1 - words[1],
             },
+            rooms: Rooms {
+                plain: words[4],
+                paged: words[5],
+                total: words[6],
+            },
         }
+    }
+
+    // How many runs are before the one at the top.
+    pub(crate) fn top_place(self, elements: &Elements) -> u32
+        requires tree { IsTree elements.now self }
+        requires some { 0 < self.count }
+        ensures { result ≡ top_place elements.now self }
+    {
+        elements.get(self.root).words[1]
+    }
+
+    // The node's element says already how many runs will be before it, and what room there will be.
+    pub(crate) fn announce(self, elements: &mut Elements, node: RunNode, count: u32, rooms: Rooms)
+        requires opens { Opens elements.old self node }
+        requires linked { IsLinked elements.old node }
+        ensures { Announces elements.old elements.new self node count rooms }
+    {
+        let words = [
+            node.right.root,
+            count,
+            node.run.start,
+            node.run.len,
+            rooms.plain,
+            rooms.paged,
+            rooms.total,
+        ];
+        elements.set(
+            node.id,
+            Element {
+                next: node.left.root,
+                words,
+            },
+        );
     }
 
     // The most room of the tree's runs, and their numbers.

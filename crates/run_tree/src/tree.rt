@@ -1,5 +1,5 @@
-ghost use Rattle.std.specs.Prelude.{◌≡◌, ℕ, ◌+◌, ◌%◌, ◌^◌, ◌<◌, ◌≤◌, ◌++◌, ◌∷◌, [], Some, IsSome, false, Bool, slice_get};
-ghost use Rattle.std.specs.Prelude.{slice_set, take, drop, length};
+ghost use Rattle.std.specs.Prelude.{◌≡◌, ◌≢◌, ℕ, ◌+◌, ◌-◌, ◌%◌, ◌^◌, ◌<◌, ◌≤◌, ◌++◌, ◌∷◌, [], Some, IsSome, true, false};
+ghost use Rattle.std.specs.Prelude.{Bool, slice_get, slice_set, take, drop, length};
 ghost use Rattle.vsm_elements.specs.Store.{Store, Distinct, at, among};
 ghost use Rattle.vsm_elements.specs.Ownership.{Leaves};
 ghost use Rattle.run_tree.specs.Shape.{longest, room_of, total};
@@ -33,7 +33,7 @@ fn rank(id: Id) -> u32 {
 
 impl RunTree {
     ghost use Rattle.run_tree.specs.Trees.{runs, owned, IsTree, Merges, Splits, Puts, CutsOut, Writes};
-    ghost use Rattle.run_tree.specs.Nodes.{AreRooms};
+    ghost use Rattle.run_tree.specs.Nodes.{AreRooms, top_place};
     ghost use Rattle.run_tree.specs.Searches.{SeeksTo, FindsRuns, RoomsTo, IsMost};
 
     // The runs of both, those of the other tree behind.
@@ -81,8 +81,57 @@ impl RunTree {
         }
     }
 
+    // Whether the top stays the top if this element comes into the tree.
+    fn stays(self, id: Id) -> bool
+        ensures { result ≡ true → 0 < self.count }
+    {
+        self.count > 0 && rank(id) <= rank(self.root)
+    }
+
+    // A live element becomes the run at `k`, and the top.
+    fn put_over(self, elements: &mut Elements, k: u32, id: Id, run: Run) -> RunTree
+        requires tree { IsTree elements.old self }
+        requires place { k ≤ self.count }
+        requires live { IsSome (at elements.old id) }
+        requires apart { among id (owned elements.old self) ≡ false }
+        ensures { Puts elements.old elements.new self k id run result }
+    {
+        let (before, behind) = self.split(elements, k);
+        RunTree::join(elements, before, id, run, behind)
+    }
+
+    // A live element becomes the run at `k`, below the top, which stays. Each node on the way says at once what it will.
+    fn put(self, elements: &mut Elements, k: u32, id: Id, run: Run)
+        requires tree { IsTree elements.old self }
+        requires some { 0 < self.count }
+        requires place { k ≤ self.count }
+        requires live { IsSome (at elements.old id) }
+        requires apart { among id (owned elements.old self) ≡ false }
+        ensures { Puts elements.old elements.new self k id run
+            (record { root = self.root; count = self.count + 1 }) }
+    {
+        let node = self.open(elements);
+        let middle = node.left.count;
+        let rooms = node.rooms.with(Rooms::of(run));
+        if k <= middle {
+            if node.left.stays(id) {
+                self.announce(elements, node, middle + 1, rooms);
+                node.left.put(elements, k, id, run);
+            } else {
+                let left = node.left.put_over(elements, k, id, run);
+                let _head = RunTree::join(elements, left, node.id, node.run, node.right);
+            }
+        } else if node.right.stays(id) {
+            self.announce(elements, node, middle, rooms);
+            node.right.put(elements, k - middle - 1, id, run);
+        } else {
+            let right = node.right.put_over(elements, k - middle - 1, id, run);
+            let _head = RunTree::join(elements, node.left, node.id, node.run, right);
+        }
+    }
+
     // A live element becomes the run at `k`.
-    fn put(self, elements: &mut Elements, k: u32, id: Id, run: Run) -> RunTree
+    fn put_in(self, elements: &mut Elements, k: u32, id: Id, run: Run) -> RunTree
         requires tree { IsTree elements.old self }
         requires place { k ≤ self.count }
         requires live { IsSome (at elements.old id) }
@@ -92,17 +141,14 @@ impl RunTree {
         if self.count == 0 {
             return RunTree::join(elements, self, id, run, self);
         }
-        if rank(id) > rank(self.root) {
-            let (before, behind) = self.split(elements, k);
-            return RunTree::join(elements, before, id, run, behind);
+        if !self.stays(id) {
+            return self.put_over(elements, k, id, run);
         }
-        let node = self.open(elements);
-        if k <= node.left.count {
-            let left = node.left.put(elements, k, id, run);
-            RunTree::join(elements, left, node.id, node.run, node.right)
-        } else {
-            let right = node.right.put(elements, k - node.left.count - 1, id, run);
-            RunTree::join(elements, node.left, node.id, node.run, right)
+        elements.ids_in_range();
+        self.put(elements, k, id, run);
+        RunTree {
+            root: self.root,
+            count: self.count + 1,
         }
     }
 
@@ -110,7 +156,8 @@ impl RunTree {
     fn cut(self, elements: &mut Elements, k: u32) -> (RunTree, Id)
         requires tree { IsTree elements.old self }
         requires place { k < self.count }
-        ensures { CutsOut elements.old elements.new self k result.0 result.1 }
+        ensures cuts { CutsOut elements.old elements.new self k result.0 result.1 }
+        ensures root { k ≢ top_place elements.old self → result.0.root ≡ self.root }
     {
         let node = self.open(elements);
         if k < node.left.count {
@@ -125,6 +172,51 @@ impl RunTree {
             let rest = RunTree::join(elements, node.left, node.id, node.run, right);
             (rest, id)
         }
+    }
+
+    // The run at `k`, which is this one, goes; it's below the top, which stays. Each node on the way says at once what it
+    // will, until one is reached at whose top it is, or in which no run had more room.
+    fn cut_below(self, elements: &mut Elements, k: u32, was: Run) -> Id
+        requires tree { IsTree elements.old self }
+        requires place { k < self.count }
+        requires below { k ≢ top_place elements.old self }
+        requires was { slice_get (runs elements.old self) k ≡ Some was }
+        ensures { CutsOut elements.old elements.new self k
+            (record { root = self.root; count = self.count - 1 }) result }
+    {
+        let node = self.open(elements);
+        let middle = node.left.count;
+        if let Some(rooms) = node.rooms.changed(Rooms::of(was), Rooms::none()) {
+            if k < middle {
+                if k != node.left.top_place(elements) {
+                    self.announce(elements, node, middle - 1, rooms);
+                    return node.left.cut_below(elements, k, was);
+                }
+            } else if k > middle && k - middle - 1 != node.right.top_place(elements) {
+                self.announce(elements, node, middle, rooms);
+                return node.right.cut_below(elements, k - middle - 1, was);
+            }
+        }
+        let (_rest, id) = self.cut(elements, k);
+        id
+    }
+
+    // The tree without the run at `k`, which is this one, and the id of its element, which stays live.
+    fn cut_out(self, elements: &mut Elements, k: u32, was: Run) -> (RunTree, Id)
+        requires tree { IsTree elements.old self }
+        requires place { k < self.count }
+        requires was { slice_get (runs elements.old self) k ≡ Some was }
+        ensures { CutsOut elements.old elements.new self k result.0 result.1 }
+    {
+        if k == self.top_place(elements) {
+            return self.cut(elements, k);
+        }
+        let id = self.cut_below(elements, k, was);
+        let rest = RunTree {
+            root: self.root,
+            count: self.count - 1,
+        };
+        (rest, id)
     }
 
     // The run at `k` is another one. It answers the most room of the tree's runs then, and their numbers.
@@ -147,6 +239,30 @@ impl RunTree {
             let behind = node.right.rewrite(elements, k - middle - 1, run);
             RunTree::renew(elements, node, before, behind)
         }
+    }
+
+    // The run at `k`, which is this one, gives way to another. Each node on the way says at once what it will, until one
+    // is reached at whose top it is, or in which no run had more room, and the new one has less.
+    #[inline(never)]
+    fn exchange(self, elements: &mut Elements, k: u32, was: Run, run: Run)
+        requires tree { IsTree elements.old self }
+        requires place { k < self.count }
+        requires was { slice_get (runs elements.old self) k ≡ Some was }
+        ensures { Writes elements.old elements.new self k run }
+    {
+        let node = self.open(elements);
+        let middle = node.left.count;
+        if let Some(rooms) = node.rooms.changed(Rooms::of(was), Rooms::of(run)) {
+            if k < middle {
+                self.announce(elements, node, middle, rooms);
+                return node.left.exchange(elements, k, was, run);
+            }
+            if k > middle {
+                self.announce(elements, node, middle, rooms);
+                return node.right.exchange(elements, k - middle - 1, was, run);
+            }
+        }
+        let _rooms = self.rewrite(elements, k, run);
     }
 
     // The run of a tree of one is another one: that needs no descent.
@@ -181,13 +297,14 @@ impl RunTree {
         ensures spares { elements.new.spare + 1 ≡ elements.old.spare }
     {
         let id = elements.take(Element::BLANK);
-        *self = self.put(elements, k, id, run);
+        *self = self.put_in(elements, k, id, run);
     }
 
-    /// Takes the run at `k` out. Its element becomes a spare one.
-    pub fn remove(&mut self, elements: &mut Elements, k: u32)
+    /// Takes the run at `k` out, which is this one. Its element becomes a spare one.
+    pub fn remove(&mut self, elements: &mut Elements, k: u32, was: Run)
         requires tree { IsTree elements.old self.old }
         requires place { k < self.old.count }
+        requires was { slice_get (runs elements.old self.old) k ≡ Some was }
         ensures tree { IsTree elements.new self.new }
         ensures runs { runs elements.new self.new
             ≡ take k (runs elements.old self.old) ++ drop (k + 1) (runs elements.old self.old) }
@@ -195,15 +312,16 @@ impl RunTree {
             (owned elements.old self.old) (owned elements.new self.new) }
         ensures spares { elements.new.spare ≡ elements.old.spare + 1 }
     {
-        let (rest, id) = self.cut(elements, k);
+        let (rest, id) = self.cut_out(elements, k, was);
         elements.give(id);
         *self = rest;
     }
 
-    /// The run at `k` is another one. The head stays.
-    pub fn set(self, elements: &mut Elements, k: u32, run: Run)
+    /// The run at `k`, which is this one, gives way to another. The head stays.
+    pub fn set(self, elements: &mut Elements, k: u32, was: Run, run: Run)
         requires tree { IsTree elements.old self }
         requires place { k < self.count }
+        requires was { slice_get (runs elements.old self) k ≡ Some was }
         ensures tree { IsTree elements.new self }
         ensures runs { runs elements.new self
             ≡ take k (runs elements.old self) ++ run ∷ drop (k + 1) (runs elements.old self) }
@@ -213,7 +331,7 @@ impl RunTree {
         if self.count == 1 {
             self.rewrite_one(elements, run);
         } else {
-            let _rooms = self.rewrite(elements, k, run);
+            self.exchange(elements, k, was, run);
         }
     }
 

@@ -1,5 +1,5 @@
 use Rattle.std.proofs.Common.{◌+◌, ◌≤◌, get_or, arith}
-use Rattle.run_tree.proofs.TreeLemmas.{opens, opens_linked, top_live, left_fits}
+use Rattle.run_tree.proofs.TreeLemmas.{opens, opens_linked, top_live, top_rooms, left_fits}
 use Rattle.run_tree.proofs.tree.RunTree.open.Goals as goal
 
 pub get-element-requires : goal.get-element-requires
@@ -15,3 +15,6 @@ returns-clause-opens c = opens c.args.elements.now c.args.self c.get-element.res
 
 pub returns-clause-linked : goal.returns-clause-linked
 returns-clause-linked c = opens_linked c.args.elements.now c.args.self c.get-element.result c.requires.tree c.requires.some c.get-element.ensures
+
+pub returns-clause-rooms : goal.returns-clause-rooms
+returns-clause-rooms c = top_rooms c.args.elements.now c.args.self c.get-element.result c.requires.tree c.requires.some c.get-element.ensures

@@ -12,4 +12,4 @@ returns-then-self-eq1-clause-runs c =
     set_parts s t c.args.self c.args.k c.args.run c.requires.tree c.requires.place at
 
 pub returns-else-self-eq1-clause-runs : goal.returns-else-self-eq1-clause-runs
-returns-else-self-eq1-clause-runs c = set_parts c.args.elements.now c.rewrite-rooms.new.elements c.args.self c.args.k c.args.run c.requires.tree c.requires.place c.rewrite-rooms.ensures.writes
+returns-else-self-eq1-clause-runs c = set_parts c.args.elements.now c.exchange.new.elements c.args.self c.args.k c.args.run c.requires.tree c.requires.place c.exchange.ensures
