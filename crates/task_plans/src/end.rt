@@ -26,7 +26,7 @@ use crate::ended::{EndOfTasks, Tree, is_ended, push_ended, read_parents, tasks_t
 use crate::registers::set_register;
 use crate::sights::{SubpoolInSight, behind_number, first_seen, next_seen};
 use crate::{Builder, Pushed};
-use descriptor_queue::Extents;
+use run_set::RunSet;
 use std::alloc::AllocError;
 use storage_changes::tasks::{ending_leads, ends_are_in_order};
 use storage_changes::{OwnRecord, PagesRecord, QueuesRecord, Record, SharerRecord, TurnRecord};
@@ -313,7 +313,7 @@ fn push_extents(storage: &mut Parts, builder: &mut Builder, subpool: Subpool) ->
         ≤ storage.old.elements.spare → IsOk result }
 {
     let extents = storage.subpools.extents(&storage.elements, subpool);
-    let mut place = Extents::first_place();
+    let mut place = RunSet::first_place();
     while let Some((run, next)) = extents.next_run(&storage.elements, place) {
         let leave = Record::Pages(PagesRecord {
             run,
