@@ -42,9 +42,11 @@ make-requires-clause-few c =
 pub make-requires-clause-spare : goal.make-requires-clause-spare
 make-requires-clause-spare c =
     let P : Subpools → Type 0 = λ m. elements_for m c.args.emptied (length c.args.records.now) c.args.blanks ≤ c.grow.new.storage.elements.spare in
-    subst P (sym (grown-subpools c.args.storage.now c.grow.new.storage c.requires.stands c.requires.once c.grow.ensures.grown)) (omega (arith,
-    c.elements_needed-elements.ensures (subpools_of c.args.storage.now.elements c.args.storage.now.subpools) (c.count.ensures c.args.storage.now.elements ∙ ap (λ (rs : List Run). length rs) c.extents_emptied-pages.ensures.runs),
-    c.in_ok-grow.ensures.elements))
+    subst P (sym (grown-subpools c.args.storage.now c.grow.new.storage c.requires.stands c.requires.once c.grow.ensures.grown)) (omega (
+      arith,
+      c.elements_needed-elements.ensures (subpools_of c.args.storage.now.elements c.args.storage.now.subpools) (c.count.ensures c.args.storage.now.elements ∙ ap (λ (rs : List Run). length rs) c.extents_emptied-pages.ensures.runs),
+      c.in_ok-grow.ensures.elements,
+    ))
 
 pub returns-clause-ok : goal.returns-clause-ok
 returns-clause-ok c =
