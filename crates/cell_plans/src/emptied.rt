@@ -1,6 +1,5 @@
 //! Which pages an extent of a cell pool empties, once those before it are given back.
 ghost use Rattle.std.specs.Prelude.{◌≡◌, ◌+◌, ◌/◌, ◌^◌, ◌<◌, ◌≤◌};
-ghost use Rattle.run_set.specs.Runs.{contains};
 ghost use Rattle.vsm_model.specs.Regions.{pages_for};
 ghost use Rattle.vsm_model.specs.Search.{all_pass};
 ghost use Rattle.storage_changes.specs.StorageActions.{emptied_pages};
@@ -24,14 +23,6 @@ fn free_end(storage: &Parts, subpool: Subpool, doubleword: u32) -> u32
     queue.end_from(&storage.elements, doubleword)
 }
 
-// The end of the doublewords of these extents that begin with this one; the doubleword itself where none has it.
-fn given_end(storage: &Parts, given: FirstExtents, doubleword: u32) -> u32
-    requires { AreNoted storage.now given }
-    ensures { IsFreeUpTo (λ d. contains d (first_areas (state_of storage.now) given)) doubleword result }
-{
-    given.areas.end_from(&storage.elements, doubleword)
-}
-
 // The end of free doublewords of the subpool, with the extents that were given back, that begin with this one; the
 // doubleword itself where it isn't free.
 fn end_of_free(storage: &Parts, subpool: Subpool, given: FirstExtents, doubleword: u32) -> u32
@@ -40,7 +31,7 @@ fn end_of_free(storage: &Parts, subpool: Subpool, given: FirstExtents, doublewor
     ensures { IsFreeUpTo ((freed (state_of storage.now).subpools subpool
         (first_areas (state_of storage.now) given)).free subpool) doubleword result }
 {
-    let end = given_end(storage, given, doubleword);
+    let end = given.areas.end_from(&storage.elements, doubleword);
     if doubleword < end {
         end
     } else {

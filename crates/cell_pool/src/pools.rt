@@ -154,7 +154,7 @@ impl CellPools {
         ensures takes { TakesOut (is_of id) elements.old elements.new self.old self.new result.pools }
         ensures spares { elements.new.spare ≡ elements.old.spare }
     {
-        let place = self.place(elements, id);
+        let place = self.seek(elements, id);
         let mut table = ListTable::new();
         self.table
             .move_row(elements, place.index, place.before, &mut table);
@@ -229,17 +229,6 @@ impl CellPools {
         while table.count(elements) > 0 {
             table.drop_first(elements);
         }
-    }
-
-    // The place of the row of this id.
-    fn place(&self, elements: &Elements, id: CellId) -> TablePlace
-        requires pools { IsCellPools elements.now self.now }
-        requires there { IsSome (by_id elements.now self.now id) }
-        ensures place { IsPlace elements.now self.now.table result.index result.before }
-        ensures within { result.index < length (entries elements.now self.now.table) }
-        ensures here { IfSome (slice_get (entries elements.now self.now.table) result.index) (λ e. e.id ≡ id) }
-    {
-        self.seek(elements, id)
     }
 
     // The row of this id, in hand, without a walk.

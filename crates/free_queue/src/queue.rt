@@ -151,14 +151,6 @@ impl FreeQueue {
         self.set.sums(elements, line)
     }
 
-    /// The place before the first free area of any subpool.
-    pub fn first_place() -> RunPlace
-        ensures place { (s : Store) (q : FreeQueue) → IsPlace s q result }
-        ensures index { place_index result ≡ 0 }
-    {
-        RunSet::first_place()
-    }
-
     /// The free area behind the place, and the place behind that area; `None` behind the last. From the first place on,
     /// the areas come in ascending order, each at the cost of one element.
     pub fn next_area(&self, elements: &Elements, place: RunPlace) -> Option<(Area, RunPlace)>

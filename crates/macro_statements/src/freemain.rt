@@ -1,14 +1,6 @@
 //! FREEMAIN: its forms that release one area, or all of a subpool.
 
-ghost use Rattle.std.specs.Prelude.{◌≡◌};
-ghost use Rattle.operand_texts.specs.Field.{operands};
-ghost use Rattle.macro_statements.specs.Forms.{macro_of};
-ghost use Rattle.macro_statements.specs.Freemain.{freemain_macro};
-ghost use Rattle.macro_statements.specs.Rooms.{left};
-
-use crate::forms::{
-    LEFT_OUT_KEYWORDS, StorageForm, StorageMacro, releasing, request_of, storage_row,
-};
+use crate::forms::{LEFT_OUT_KEYWORDS, StorageForm, StorageMacro, releasing, storage_row};
 use macro_operands::rows::OperandRow;
 use macro_operands::{FaultKind, Form, Request, keyword};
 use vsm_model::Family;
@@ -41,10 +33,3 @@ pub const FREEMAIN: StorageMacro = StorageMacro {
     ],
     left_out: &[b"L", b"LC", b"LU", b"V", b"VC", b"VU"],
 };
-
-/// FREEMAIN with its operand field.
-pub(crate) fn freemain(field: &[u8], request: &mut Request) -> Result<(), FaultKind>
-    ensures { left result request.new ≡ macro_of freemain_macro (operands field.now) }
-{
-    request_of(&FREEMAIN, field, request)
-}

@@ -1,14 +1,6 @@
 //! GETMAIN: its forms that obtain one area.
 
-ghost use Rattle.std.specs.Prelude.{◌≡◌};
-ghost use Rattle.operand_texts.specs.Field.{operands};
-ghost use Rattle.macro_statements.specs.Forms.{macro_of};
-ghost use Rattle.macro_statements.specs.Getmain.{getmain_macro};
-ghost use Rattle.macro_statements.specs.Rooms.{left};
-
-use crate::forms::{
-    LEFT_OUT_KEYWORDS, StorageForm, StorageMacro, obtaining, request_of, storage_row,
-};
+use crate::forms::{LEFT_OUT_KEYWORDS, StorageForm, StorageMacro, obtaining, storage_row};
 use macro_operands::rows::OperandRow;
 use macro_operands::{FaultKind, Form, Request, keyword};
 use vsm_model::Family;
@@ -45,10 +37,3 @@ pub const GETMAIN: StorageMacro = StorageMacro {
     ],
     left_out: &[b"LC", b"LU", b"VC", b"VU"],
 };
-
-/// GETMAIN with its operand field.
-pub(crate) fn getmain(field: &[u8], request: &mut Request) -> Result<(), FaultKind>
-    ensures { left result request.new ≡ macro_of getmain_macro (operands field.now) }
-{
-    request_of(&GETMAIN, field, request)
-}

@@ -11,13 +11,14 @@ ghost use Rattle.macro_statements.specs.Rooms.{left};
 use crate::attach::attach;
 use crate::cpool::cpool;
 use crate::detach::detach;
-use crate::freemain::freemain;
-use crate::getmain::getmain;
+use crate::forms::request_of;
+use crate::freemain::FREEMAIN;
+use crate::getmain::GETMAIN;
 use crate::peek::peek;
 use crate::poke::poke;
 use crate::run::run;
 use crate::steps::{back, forward};
-use crate::storage::storage;
+use crate::storage::STORAGE;
 use macro_operands::rows::Behind;
 use macro_operands::{FaultKind, Request, Statement};
 use operand_texts::nesting::is_balanced;
@@ -90,9 +91,9 @@ fn asked_of(operation: Operation, field: &[u8], request: &mut Request) -> Result
     ensures { left result request.new ≡ asked_of operation (operands field.now) }
 {
     match operation {
-        Operation::Storage => storage(field, request),
-        Operation::Getmain => getmain(field, request),
-        Operation::Freemain => freemain(field, request),
+        Operation::Storage => request_of(&STORAGE, field, request),
+        Operation::Getmain => request_of(&GETMAIN, field, request),
+        Operation::Freemain => request_of(&FREEMAIN, field, request),
         Operation::Cpool => cpool(field, request),
         Operation::Attach => attach(field, request),
         Operation::Detach => detach(field, request),

@@ -1,13 +1,7 @@
 //! STORAGE: its forms OBTAIN and RELEASE.
 
-ghost use Rattle.std.specs.Prelude.{◌≡◌};
-ghost use Rattle.operand_texts.specs.Field.{operands};
-ghost use Rattle.macro_statements.specs.Forms.{macro_of};
-ghost use Rattle.macro_statements.specs.Storage.{storage_macro};
-ghost use Rattle.macro_statements.specs.Rooms.{left};
-
 use crate::forms::{
-    LEFT_OUT_KEYWORDS, StorageForm, StorageMacro, obtaining, releasing, request_of, storage_row,
+    LEFT_OUT_KEYWORDS, StorageForm, StorageMacro, obtaining, releasing, storage_row,
 };
 use macro_operands::rows::OperandRow;
 use macro_operands::{FaultKind, Form, Request, keyword};
@@ -31,10 +25,3 @@ pub const STORAGE: StorageMacro = StorageMacro {
     ],
     left_out: &[],
 };
-
-/// STORAGE with its operand field.
-pub(crate) fn storage(field: &[u8], request: &mut Request) -> Result<(), FaultKind>
-    ensures { left result request.new ≡ macro_of storage_macro (operands field.now) }
-{
-    request_of(&STORAGE, field, request)
-}

@@ -12,7 +12,8 @@ use Rattle.cell_pool.specs.Pools.{Pool, id_in, meets, overlaps}
 use Rattle.storage_changes.specs.NamedPools.{AreNamed}
 use Rattle.storage_changes.specs.PoolTable.{extent_of, cell_pool_of, cell_pools_in}
 use Rattle.storage_changes.specs.TableLaws.{PoolsAreFound, OthersAreNotFound, RowsAreCounted, OverlapsAreMet, overlaps_table}
-use Rattle.storage_changes.proofs.PoolRows.{some_none, same_some, put_counted, any_found, found_any}
+use Rattle.service_laws.proofs.Options.{some_none, same_some}
+use Rattle.storage_changes.proofs.PoolRows.{put_counted, any_found, found_any}
 use Rattle.storage_changes.proofs.TabledPools.{same_number, number_is, number_apart, has_or_not, in_is, table_of, has}
 use Rattle.storage_changes.proofs.TableChanges.{new_pools_have_a_row}
 

@@ -10,7 +10,9 @@ use Rattle.cell_pool.proofs.OrderLemmas.{before_chain, before_itself}
 use Rattle.storage_changes.specs.NamedPools.{AreNamed}
 use Rattle.storage_changes.specs.PoolTable.{cell_pool_of, cell_pools_in}
 use Rattle.storage_changes.specs.TableOrder.{rows_behind, RowsComeInOrder}
-use Rattle.storage_changes.proofs.PoolRows.{by_name, same_name, own_name, found_first, found_later, none_below, some_none, same_some}
+use Rattle.service_laws.proofs.Options.{some_none, same_some}
+use Rattle.service_laws.proofs.TaskTables.{found_first, found_later}
+use Rattle.storage_changes.proofs.PoolRows.{by_name, same_name, own_name, none_below}
 use Rattle.storage_changes.proofs.TabledPools.{Has, has_or_not, table_of, has}
 
 abbrev Row : Type 0

@@ -7,8 +7,9 @@ use Rattle.cell_pool.specs.Pools.{Pool, at_id, all_but}
 use Rattle.storage_changes.specs.NamedPools.{AreNamed}
 use Rattle.storage_changes.specs.PoolTable.{cell_pool_of, cell_pools_in}
 use Rattle.storage_changes.specs.TableLaws.{ChangedPoolsHaveTheirRow, NewPoolsHaveARow, GonePoolsHaveNoRow, RowsOfTheOthersStay, AllRowsChange}
-use Rattle.storage_changes.proofs.PoolRows.{by_name, same_name, own_name, some_none, same_some, put_found, put_others, put_ascends, without_found, without_others, without_ascends}
-use Rattle.storage_changes.proofs.PoolRows.{left_ascends, left_found, left_none, left_no_more, changed_ascends, changed_found}
+use Rattle.service_laws.proofs.Options.{some_none, same_some}
+use Rattle.service_laws.proofs.TaskTables.{ascending_left, found_still, none_still, found_no_more, ascending_changed, found_changed}
+use Rattle.storage_changes.proofs.PoolRows.{by_name, same_name, own_name, put_found, put_others, put_ascends, without_found, without_others, without_ascends}
 use Rattle.storage_changes.proofs.TabledPools.{same_number, number_is, number_apart, Has, has_or_not, IsTableOf, AreSingle, in_is, table_of}
 
 -- a value that comes of a change was another before it
@@ -251,7 +252,7 @@ module _ (pools : ℕ → Option Pool) (named : AreNamed pools) where
     other_is_found : (name : List ℕ) (h : Has others (2 ^ 32) name) → cell_pool_in of_others name ≡ Some (cell_pool_of h.p)
     other_is_found name h =
         let before = left_of test (pools h.id) h.p h.there in
-        left_found stays table name (cell_pool_of h.p)
+        found_still stays table name (cell_pool_of h.p)
         (is_table.found name (record { id = h.id; p = h.p; below = h.below; there = before.0; named = h.named }))
         (ap not (alike h.p ∙ before.1))
 
@@ -259,7 +260,7 @@ module _ (pools : ℕ → Option Pool) (named : AreNamed pools) where
     other_is_none name lacks =
         elim (has_or_not pools (2 ^ 32) name) [
           | inl h ↦ elim (cases_Bool (test h.p)) [
-            | inl is ↦ left_no_more stays table is_table.ascends name (cell_pool_of h.p) (is_table.found name h) (ap not (alike h.p ∙ is))
+            | inl is ↦ found_no_more stays table is_table.ascends name (cell_pool_of h.p) (is_table.found name h) (ap not (alike h.p ∙ is))
             | inr other ↦ absurd (lacks (record {
               id = h.id;
               p = h.p;
@@ -268,12 +269,12 @@ module _ (pools : ℕ → Option Pool) (named : AreNamed pools) where
               named = h.named;
             }))
           ]
-          | inr none ↦ left_none stays table name (is_table.none name none)
+          | inr none ↦ none_still stays table name (is_table.none name none)
         ]
 
     others_table : cell_pools_in others ≡ of_others
     others_table = in_is others of_others others_single (record {
-      ascends = left_ascends stays table is_table.ascends;
+      ascends = ascending_left stays table is_table.ascends;
       found = other_is_found;
       none = other_is_none;
     })
@@ -299,7 +300,7 @@ module _ (pools : ℕ → Option Pool) (named : AreNamed pools) where
     all_are_found : (name : List ℕ) (h : Has all (2 ^ 32) name) → cell_pool_in all_rows name ≡ Some (cell_pool_of h.p)
     all_are_found name h =
         let before = mapped change (pools h.id) h.p h.there in
-        changed_found row_change table name
+        found_changed row_change table name
         ∙ ap (option_map row_change) (is_table.found name (record {
           id = h.id;
           p = before.0;
@@ -311,7 +312,7 @@ module _ (pools : ℕ → Option Pool) (named : AreNamed pools) where
 
     all_are_none : (name : List ℕ) → (Has all (2 ^ 32) name → ⊥) → cell_pool_in all_rows name ≡ None
     all_are_none name lacks =
-        changed_found row_change table name
+        found_changed row_change table name
         ∙ ap (option_map row_change) (is_table.none name (λ h. lacks (record {
           id = h.id;
           p = change h.p;
@@ -322,7 +323,7 @@ module _ (pools : ℕ → Option Pool) (named : AreNamed pools) where
 
     all_table : cell_pools_in all ≡ all_rows
     all_table = in_is all all_rows all_single (record {
-      ascends = changed_ascends row_change table ∙ is_table.ascends;
+      ascends = ascending_changed row_change table ∙ is_table.ascends;
       found = all_are_found;
       none = all_are_none;
     })

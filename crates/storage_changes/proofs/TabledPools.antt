@@ -8,7 +8,8 @@ use Rattle.vsm_model.proofs.Tables.{tables_are_equal}
 use Rattle.cell_pool.specs.Pools.{Pool}
 use Rattle.storage_changes.specs.NamedPools.{AreNamed}
 use Rattle.storage_changes.specs.PoolTable.{cell_pool_of, with_row, cell_pools_below, cell_pools_in}
-use Rattle.storage_changes.proofs.PoolRows.{by_name, same_name, own_name, some_none, same_some, put_found, put_others, put_ascends}
+use Rattle.service_laws.proofs.Options.{some_none, same_some}
+use Rattle.storage_changes.proofs.PoolRows.{by_name, same_name, own_name, put_found, put_others, put_ascends}
 
 -- Two numbers that are one, and the test of it.
 pub same_number : (a b : ℕ) → (a == b) ≡ true → a ≡ b

@@ -33,7 +33,7 @@ impl Storage {
     pub fn current(&self) -> u8
         ensures { result ≡ (state_of self.now).current }
     {
-        plans::current(&self.parts)
+        self.parts.tasks.current()
     }
 
     /// The cell pools, to be read in [`Storage::elements`], as long as the storage stays as it is.

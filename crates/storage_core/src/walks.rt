@@ -16,7 +16,7 @@ use crate::storage::Storage;
 use descriptor_queue::laws::pages_stand;
 use descriptor_queue::{Extents, Pages};
 use free_queue::{Area, FreeQueue};
-use run_set::{Run, RunPlace, SideSums};
+use run_set::{Run, RunPlace, RunSet, SideSums};
 use storage_changes::maps::{runs_are_shown, unassigned_are_shown};
 use subpool_storage::{SharerPlace, SubpoolPlace, SubpoolStorage};
 use vsm_model::Subpool;
@@ -98,7 +98,7 @@ impl Storage {
     {
         ExtentPlace {
             extents: self.parts.subpools.extents_at(&self.parts.elements, place),
-            place: Extents::first_place(),
+            place: RunSet::first_place(),
         }
     }
 
@@ -112,7 +112,7 @@ impl Storage {
                 .parts
                 .subpools
                 .free_areas_at(&self.parts.elements, place),
-            place: FreeQueue::first_place(),
+            place: RunSet::first_place(),
         }
     }
 
@@ -122,7 +122,7 @@ impl Storage {
     {
         ExtentPlace {
             extents: self.parts.subpools.extents(&self.parts.elements, subpool),
-            place: Extents::first_place(),
+            place: RunSet::first_place(),
         }
     }
 
@@ -161,7 +161,7 @@ impl Storage {
                 .parts
                 .subpools
                 .free_areas(&self.parts.elements, subpool),
-            place: FreeQueue::first_place(),
+            place: RunSet::first_place(),
         }
     }
 

@@ -16,7 +16,7 @@ mod whole;
 
 pub use obtain::plan_obtain;
 pub use plan::{PLAN_RECORDS, PlanRecords, PlannedStorage, StoragePlan};
-pub use reading::{current, load, register};
+pub use reading::{load, register};
 pub use release::plan_release;
 pub use store::{STORE_BLOCKS, STORE_MOST, StorePlan, block_records, plan_store};
 pub use whole::plan_whole;

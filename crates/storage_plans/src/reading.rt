@@ -1,4 +1,4 @@
-//! Readings of the storage: bytes of assigned pages, registers, and the current task.
+//! Readings of the storage: bytes of assigned pages, and registers.
 ghost use Rattle.std.specs.Prelude.{◌≡◌, length, None, Some, OnOk, OnErr, IfErr};
 ghost use Rattle.vsm_model.specs.Bytes.{load};
 ghost use Rattle.storage_changes.specs.Meaning.{model_of};
@@ -32,11 +32,4 @@ pub fn register(storage: &Parts, task: u8, number: u8) -> u32
     } else {
         0
     }
-}
-
-/// The task that makes the requests.
-pub fn current(storage: &Parts) -> u8
-    ensures { result ≡ (model_of (state_of storage.now)).current }
-{
-    storage.tasks.current()
 }

@@ -8,6 +8,9 @@ use Rattle.vsm_elements.specs.Owners.{times, Moves}
 use Rattle.vsm_elements.proofs.MoveLemmas.{moves-of, moves-follow, moves-like, moves-none, rest-same, chain-live, chain-once, chain-kept}
 use Rattle.run_set.specs.Runs.{Run, inside}
 use Rattle.run_set.proofs.RunLemmas.{inside_true}
+use Rattle.run_set.proofs.SetLemmas.{growth_keeps_sets}
+use Rattle.descriptor_queue.specs.declared.extents.Extents.{Extents}
+use Rattle.descriptor_queue.specs.Extents.{IsExtents, extents as runs_of}
 use Rattle.raw_region.specs.Frames.{PageFrame, zeros}
 use Rattle.raw_region.specs.Pages.{Pages as Tables, byte_of, byte_at, has_table, HaveTables, SamePages, SameTables}
 use Rattle.raw_region.specs.Parked.{held_at}
@@ -237,6 +240,9 @@ module _ (p m : Parts) (k : Stand p) (one : (i : ℕ) → hold p i ≤ 1) (g : G
 
   pub grown-subpools : subpools_of m.elements m.subpools ≡ subpools_of p.elements p.subpools
   grown-subpools = ap (λ (z : StorageState). z.subpools) grown-state
+
+  pub grown-extents : (q : Extents) → IsExtents p.elements q → IsExtents m.elements q × (runs_of m.elements q ≡ runs_of p.elements q)
+  grown-extents q h = let kept = growth_keeps_sets p.elements m.elements q.set g.elements h in (kept.0, kept.1)
 
   grown-hold : (i : ℕ) → hold m i ≡ hold p i
   grown-hold i = ap (λ (z : Parts). hold z i) g.same ∙ moved-hold p m.elements m.region k one no_ids still g.pages i

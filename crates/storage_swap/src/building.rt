@@ -16,7 +16,7 @@ ghost use Rattle.storage_swap.specs.Building.{pool_as, pool_elements, elements_t
 
 use crate::chains::building_records;
 use crate::change::Change;
-use crate::reserve::{grow, take_blanks, take_frames};
+use crate::reserve::{grow, take_blanks};
 use crate::storage::Parts;
 use run_set::Run;
 use std::alloc::AllocError;
@@ -121,7 +121,7 @@ fn make_building(
     let (parked, id) = park_pool(&mut storage.elements, pool);
     let records = building_records(&mut storage.elements, id, records);
     let blanks = take_blanks(&mut storage.elements, blanks);
-    let frames = take_frames(&mut storage.region, fresh);
+    let frames = storage.region.park_zeros(fresh.start, fresh.len);
     let change = Change {
         records,
         blanks,

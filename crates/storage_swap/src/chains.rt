@@ -10,6 +10,7 @@ ghost use Rattle.storage_swap.specs.Beside.{records_of};
 ghost use Rattle.storage_swap.specs.Reserve.{emptying};
 
 use descriptor_queue::Extents;
+use run_set::RunSet;
 use storage_changes::{CellPoolRecord, PagesRecord, QueuesRecord, Record};
 use subpool_storage::CellId;
 use vsm_elements::{Chain, Elements, Id};
@@ -110,7 +111,7 @@ fn append_extents(
     ensures spare { elements.new.spare + length (extents elements.old emptied_extents) ≡ elements.old.spare }
 {
     let mut before = last;
-    let mut place = Extents::first_place();
+    let mut place = RunSet::first_place();
     while let Some((run, next)) = emptied_extents.next_run(elements, place) {
         let record = Record::Pages(PagesRecord {
             run,

@@ -158,7 +158,7 @@ impl Parts {
         }
     }
 
-    // The pages of a run are assigned, or unassigned.
+    // The pages of a run are assigned, whose frames stand in the tables already, or unassigned.
     fn exchange_pages(&mut self, given: &mut Parked, r: PagesRecord)
         requires stands { Stand self.old }
         requires fits { (parked : TheParked) × (kept : ℕ) × PagesFits (walk_of self.old given.old parked kept) r }
@@ -166,22 +166,10 @@ impl Parts {
             → Exchanges self.old self.new given.old given.new parked parked (Assignment r) }
     {
         if r.assigned {
-            self.assign(r.run);
+            self.unassigned.remove_run(&mut self.elements, r.run);
         } else {
             self.unassign(given, r.run);
         }
-    }
-
-    // The pages of a run are assigned. Their frames stand in the tables already.
-    fn assign(&mut self, run: Run)
-        requires stands { Stand self.old }
-        requires fits { (given : List PageFrame) × (parked : TheParked) × (kept : ℕ)
-            × PagesFits (walk_of self.old given parked kept) (record { run = run; assigned = true }) }
-        ensures { (given : List PageFrame) (parked : TheParked) → StandsWith self.old parked
-            → Exchanges self.old self.new given given parked parked
-            (Assignment (record { run = run; assigned = true })) }
-    {
-        self.unassigned.remove_run(&mut self.elements, run);
     }
 
     // The pages of a run become unassigned, and their frames are given to the change.

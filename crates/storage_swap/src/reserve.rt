@@ -2,17 +2,15 @@
 //! memory.
 
 ghost use Rattle.std.specs.Prelude.{◌≡◌, ℕ, ◌+◌, ◌^◌, ◌<◌, ◌≤◌, true, None, Some, [], length, IsTrue, IsOk};
-ghost use Rattle.std.specs.Prelude.{OnOk, IfOk, IfErr, IfSome, if◌then◌else◌};
+ghost use Rattle.std.specs.Prelude.{OnOk, IfOk, IfErr, IfSome};
 ghost use Rattle.vsm_elements.specs.Store.{made, live_count};
 ghost use Rattle.vsm_elements.specs.Chain.{owned, IsChain};
 ghost use Rattle.vsm_elements.specs.Ownership.{Leaves};
 ghost use Rattle.vsm_elements.specs.Owners.{Moves};
 ghost use Rattle.run_set.specs.Runs.{inside};
 ghost use Rattle.descriptor_queue.specs.Extents.{extents, IsExtents};
-ghost use Rattle.raw_region.specs.Frames.{zeros};
-ghost use Rattle.raw_region.specs.Pages.{bytes_at, has_segment, HaveTables, SamePages, SameTables};
-ghost use Rattle.raw_region.specs.Parked.{held_at};
-ghost use Rattle.subpool_storage.specs.Subpools.{is_there};
+ghost use Rattle.raw_region.specs.Pages.{has_segment, HaveTables};
+ghost use Rattle.subpool_storage.specs.Subpools.{Subpools, is_there};
 ghost use Rattle.subpool_storage.specs.SubpoolStorage.{subpools_of, hold as held_parked, Stands};
 ghost use Rattle.storage_changes.specs.Changes.{change_from};
 ghost use Rattle.storage_swap.specs.Storage.{hold, state_of, Stand, IsFrameless};
@@ -24,7 +22,6 @@ use crate::change::Change;
 use crate::records::settle;
 use crate::storage::Parts;
 use descriptor_queue::Extents;
-use raw_region::{Parked, Region};
 use run_set::Run;
 use std::alloc::AllocError;
 use storage_changes::Record;
@@ -79,20 +76,21 @@ impl Change {
             → fresh.len ≤ storage.old.region.spare → HaveTables storage.old.region fresh.start fresh.len
             → IsOk result }
     {
+        let pages = extents_emptied(storage, emptied);
         let count = records.len() as u32;
-        let elements = elements_needed(storage, emptied, count, blanks);
+        let elements = elements_needed(emptied, pages.count(), count, blanks);
         grow(storage, elements, fresh)?;
-        Ok(make(storage, emptied, records, blanks, fresh))
+        Ok(make(storage, emptied, pages, records, blanks, fresh))
     }
 }
 
-// How many elements the change takes.
-fn elements_needed(storage: &Parts, emptied: Option<Subpool>, records: u32, blanks: u32) -> u32
-    requires stands { Stand storage.now }
+// How many elements the change takes, by how many extents the subpool has that is emptied.
+fn elements_needed(emptied: Option<Subpool>, extents: u32, records: u32, blanks: u32) -> u32
+    requires few { extents ≤ 2 ^ 29 }
     requires size { records + blanks ≤ 2 ^ 20 }
-    ensures { result ≡ elements_for (state_of storage.now).subpools emptied records blanks }
+    ensures { (m : Subpools) → extents ≡ length (emptied_extents m emptied)
+        → result ≡ elements_for m emptied records blanks }
 {
-    let extents = extents_emptied(storage, emptied).count();
     match emptied {
         Some(_) => 2 + 2 * extents + (records + blanks),
         None => records + blanks,
@@ -137,6 +135,7 @@ pub(crate) fn grow(storage: &mut Parts, elements: u32, fresh: Run) -> Result<(),
 fn make(
     storage: &mut Parts,
     emptied: Option<Subpool>,
+    pages: Extents,
     records: &[Record],
     blanks: u32,
     fresh: Run,
@@ -145,6 +144,9 @@ fn make(
     requires once { (i : ℕ) → hold storage.old i ≤ 1 }
     requires frameless { IsFrameless storage.old }
     requires there { IfSome emptied (λ p. is_there (state_of storage.old).subpools p ≡ true) }
+    requires extents { IsExtents storage.old.elements pages }
+    requires runs { extents storage.old.elements pages ≡ emptied_extents (state_of storage.old).subpools emptied }
+    requires few { length (extents storage.old.elements pages) ≤ 2 ^ 29 }
     requires size { length records.now + blanks ≤ 2 ^ 20 }
     requires spare { elements_for (state_of storage.old).subpools emptied (length records.now) blanks
         ≤ storage.old.elements.spare }
@@ -162,11 +164,10 @@ fn make(
     ensures as_many_frames { storage.new.region.made ≡ storage.old.region.made }
 {
     subpools_are_there();
-    let extents = extents_emptied(storage, emptied);
-    let records = take_records(&mut storage.elements, emptied, extents, records);
-    let blanks = take_blanks(&mut storage.elements, extents.count() + blanks);
+    let records = take_records(&mut storage.elements, emptied, pages, records);
+    let blanks = take_blanks(&mut storage.elements, pages.count() + blanks);
     let parked = park_empty(&mut storage.elements, emptied);
-    let frames = take_frames(&mut storage.region, fresh);
+    let frames = storage.region.park_zeros(fresh.start, fresh.len);
     Change {
         records,
         blanks,
@@ -204,26 +205,4 @@ fn park_empty(elements: &mut Elements, emptied: Option<Subpool>) -> SubpoolStora
         parked.create(elements, subpool);
     }
     parked
-}
-
-// Frames of zeros for the pages of a run. The pages themselves stay as they are.
-pub(crate) fn take_frames(region: &mut Region, run: Run) -> Parked
-    requires range { run.start + run.len ≤ 2 ^ 20 }
-    requires tables { HaveTables region.old run.start run.len }
-    requires frameless { (page : ℕ) → inside page run ≡ true → bytes_at region.old page ≡ None }
-    requires room { run.len ≤ region.old.spare }
-    ensures frames { (page : ℕ) → held_at result page ≡ (if inside page run then Some zeros else None) }
-    ensures pages { SamePages region.old region.new }
-    ensures tables { SameTables region.old region.new }
-    ensures count { length result ≡ run.len }
-    ensures out { region.new.out ≡ region.old.out + run.len }
-    ensures made { region.new.made ≡ region.old.made }
-{
-    let end = run.start + run.len;
-    let mut page = run.start;
-    while page < end {
-        region.assign(page);
-        page += 1;
-    }
-    region.park(run.start, run.len)
 }

@@ -7,7 +7,7 @@ use Rattle.storage_changes.specs.State.{StorageState}
 use Rattle.storage_changes.specs.Ending.{SightRow, ended_below, ending_tasks, row_at, rows_at}
 use Rattle.task_plans.specs.Parents.{AreParents}
 use Rattle.task_plans.specs.declared.ended.EndOfTasks.{EndOfTasks}
-use Rattle.task_plans.specs.declared.sights.SeenSubpool.{SeenSubpool}
+use Rattle.task_plans.specs.declared.sights.SubpoolInSight.{SubpoolInSight}
 use Rattle.task_plans.specs.declared.sights.SightPlace.{SightPlace}
 
 -- the tasks that end
@@ -15,7 +15,7 @@ abbrev pub ended_by : StorageState → EndOfTasks → List ℕ
 ended_by m ending = ended_below m.tasks.parents ending.tree.top
 
 -- as a row of sight
-abbrev pub row_of : SeenSubpool → SightRow
+abbrev pub row_of : SubpoolInSight → SightRow
 row_of seen = (seen.subpool, seen.task)
 
 -- the tasks of a subtree in ascending order

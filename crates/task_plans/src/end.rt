@@ -24,9 +24,9 @@ ghost use Rattle.task_plans.specs.TaskPlans.{rest_records, CanBeEnded, CanPark, 
 
 use crate::ended::{EndOfTasks, Tree, is_ended, push_ended, read_parents, tasks_that_end};
 use crate::registers::set_register;
-use crate::sights::{SeenSubpool, behind_number, first_seen, next_seen};
+use crate::sights::{SubpoolInSight, behind_number, first_seen, next_seen};
 use crate::{Builder, Pushed};
-use descriptor_queue::Extents;
+use run_set::RunSet;
 use std::alloc::AllocError;
 use storage_changes::tasks::{ending_leads, ends_are_in_order};
 use storage_changes::{OwnRecord, PagesRecord, QueuesRecord, Record, SharerRecord, TurnRecord};
@@ -245,7 +245,7 @@ fn park_owned(storage: &mut Parts, builder: &mut Builder, ending: &EndOfTasks) -
 }
 
 // One is parked under this name, where the task owns what it sees.
-fn park_one(storage: &mut Parts, builder: &mut Builder, seen: SeenSubpool) -> Pushed
+fn park_one(storage: &mut Parts, builder: &mut Builder, seen: SubpoolInSight) -> Pushed
     requires building { IsBuilding storage.old builder.old }
     requires can { CanPark (parked_in storage.old builder.old) (owned_in (row_of seen ∷ [])) }
     ensures builds { Builds storage.old builder.old storage.new builder.new }
@@ -283,7 +283,7 @@ fn push_released(storage: &mut Parts, builder: &mut Builder, ending: &EndOfTasks
 }
 
 // So does that of one, where the task owns what it sees.
-fn push_emptied(storage: &mut Parts, builder: &mut Builder, seen: SeenSubpool) -> Pushed
+fn push_emptied(storage: &mut Parts, builder: &mut Builder, seen: SubpoolInSight) -> Pushed
     requires building { IsBuilding storage.old builder.old }
     ensures builds { Builds storage.old builder.old storage.new builder.new }
     ensures ok { OnOk result (Pushes storage.old builder.old (flat_map
@@ -313,7 +313,7 @@ fn push_extents(storage: &mut Parts, builder: &mut Builder, subpool: Subpool) ->
         ≤ storage.old.elements.spare → IsOk result }
 {
     let extents = storage.subpools.extents(&storage.elements, subpool);
-    let mut place = Extents::first_place();
+    let mut place = RunSet::first_place();
     while let Some((run, next)) = extents.next_run(&storage.elements, place) {
         let leave = Record::Pages(PagesRecord {
             run,
@@ -360,7 +360,7 @@ fn push_unseen(
     storage: &mut Parts,
     builder: &mut Builder,
     ending: &EndOfTasks,
-    seen: SeenSubpool,
+    seen: SubpoolInSight,
 ) -> Pushed
     requires building { IsBuilding storage.old builder.old }
     requires ending { IsEnding (state_of storage.old) ending.now }
@@ -437,7 +437,7 @@ fn push_removed(storage: &mut Parts, builder: &mut Builder, ending: &EndOfTasks)
 }
 
 // So is one, where the task owns what it sees.
-fn push_gone(storage: &mut Parts, builder: &mut Builder, seen: SeenSubpool) -> Pushed
+fn push_gone(storage: &mut Parts, builder: &mut Builder, seen: SubpoolInSight) -> Pushed
     requires building { IsBuilding storage.old builder.old }
     ensures builds { Builds storage.old builder.old storage.new builder.new }
     ensures ok { OnOk result (Pushes storage.old builder.old (map removed (owned_in (row_of seen ∷ [])))

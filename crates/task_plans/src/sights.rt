@@ -13,7 +13,7 @@ use vsm_model::Subpool;
 
 /// A row of sight: a subpool, and a task that sees it.
 #[derive(Clone, Copy)]
-pub(crate) struct SeenSubpool {
+pub(crate) struct SubpoolInSight {
     pub(crate) subpool: Subpool,
     pub(crate) task: u8,
 }
@@ -25,7 +25,7 @@ pub(crate) struct SightPlace {
     asked: usize,
 }
 
-impl SeenSubpool {
+impl SubpoolInSight {
     /// Whether the task owns what it sees.
     pub(crate) fn is_own(self) -> bool
         ensures { result ≡ is_own (row_of self) }
@@ -62,7 +62,7 @@ fn seen_at(
     storage: &Parts,
     ending: &EndOfTasks,
     place: SightPlace,
-) -> Option<(SeenSubpool, SightPlace)>
+) -> Option<(SubpoolInSight, SightPlace)>
     requires stands { Stand storage.now }
     requires ending { IsEnding (state_of storage.now) ending.now }
     ensures none { IfNone result (rows_from (state_of storage.now) ending.now.tree.top place ≡ []) }
@@ -76,7 +76,7 @@ fn seen_at(
     for asked in place.asked..ending.tasks.len() {
         let task = ending.tasks[asked];
         if let Some(owner) = storage.subpools.owner_seen(&storage.elements, task, number) {
-            let seen = SeenSubpool {
+            let seen = SubpoolInSight {
                 subpool: Subpool { number, owner },
                 task,
             };
@@ -96,7 +96,7 @@ pub(crate) fn next_seen(
     storage: &Parts,
     ending: &EndOfTasks,
     place: SightPlace,
-) -> Option<(SeenSubpool, SightPlace)>
+) -> Option<(SubpoolInSight, SightPlace)>
     requires stands { Stand storage.now }
     requires ending { IsEnding (state_of storage.now) ending.now }
     ensures none { IfNone result (seen_left (state_of storage.now) ending.now.tree.top place ≡ []) }

@@ -6,8 +6,9 @@ ghost use Rattle.subpool_storage.specs.SubpoolStorage.{subpools_of, hold, Stands
 
 use crate::checks::{all_given_back, holds, same, stocked};
 use crate::subpool_steps::{create, exchange, is_made};
-use descriptor_queue::{Extents, Run};
-use free_queue::{Area, Cover, FreeQueue};
+use descriptor_queue::Run;
+use free_queue::{Area, Cover};
+use run_set::RunSet;
 use std::process::Abort;
 use std::test::Fail;
 use subpool_storage::SubpoolStorage;
@@ -175,7 +176,7 @@ fn only_extent(elements: &Elements, storage: &SubpoolStorage, subpool: Subpool) 
     requires { Stands elements.now storage.now }
 {
     let extents = storage.extents(elements, subpool);
-    let (run, _) = extents.next_run(elements, Extents::first_place())?;
+    let (run, _) = extents.next_run(elements, RunSet::first_place())?;
     (extents.count() == 1).then_some(run)
 }
 
@@ -184,7 +185,7 @@ fn only_area(elements: &Elements, storage: &SubpoolStorage, subpool: Subpool) ->
     requires { Stands elements.now storage.now }
 {
     let areas = storage.free_areas(elements, subpool);
-    let (area, behind) = areas.next_area(elements, FreeQueue::first_place())?;
+    let (area, behind) = areas.next_area(elements, RunSet::first_place())?;
     areas.next_area(elements, behind).is_none().then_some(area)
 }
 

@@ -5,6 +5,7 @@ ghost use Rattle.free_queue.specs.FreeQueue.{IsFreeQueue};
 
 use crate::checks::{holds, same, stocked};
 use free_queue::{Area, Cover, FreeQueue};
+use run_set::RunSet;
 use std::process::Abort;
 use std::test::Fail;
 use vsm_elements::Elements;
@@ -174,7 +175,7 @@ fn compare_in(rt: &impl Abort, elements: &Elements, queue: &FreeQueue, free: &[b
 fn compare_areas(rt: &impl Abort, elements: &Elements, queue: &FreeQueue, free: &[bool])
     requires { IsFreeQueue elements.now queue.now }
 {
-    let mut place = FreeQueue::first_place();
+    let mut place = RunSet::first_place();
     let mut from = 0;
     for _ in 0..=SIZE {
         let Some((area, behind)) = queue.next_area(elements, place) else {

@@ -6,6 +6,7 @@ ghost use Rattle.descriptor_queue.specs.Pages.{IsPages};
 
 use crate::checks::{holds, same, stocked};
 use descriptor_queue::{Extents, Page, Pages, Run};
+use run_set::RunSet;
 use std::process::Abort;
 use std::test::Fail;
 use vsm_elements::Elements;
@@ -51,7 +52,7 @@ fn first_three(elements: &Elements, extents: &Extents) -> [Option<Run>; 3]
     requires { IsExtents elements.now extents.now }
 {
     let mut runs = [None; 3];
-    let mut place = Extents::first_place();
+    let mut place = RunSet::first_place();
     for i in 0..3 {
         if let Some((run, behind)) = extents.next_run(elements, place) {
             runs[i] = Some(run);

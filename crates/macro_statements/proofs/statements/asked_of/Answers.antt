@@ -4,13 +4,13 @@ use Rattle.macro_statements.specs.Statements.{asked_of}
 use Rattle.macro_statements.proofs.statements.asked_of.Goals as goal
 
 pub returns-in-Storage : goal.returns-in-Storage
-returns-in-Storage c = c.storage.ensures ∙ ap (λ o. asked_of o (operands c.args.field.now)) (sym c.in-Storage.is)
+returns-in-Storage c = c.request_of.ensures ∙ ap (λ o. asked_of o (operands c.args.field.now)) (sym c.in-Storage.is)
 
 pub returns-in-Getmain : goal.returns-in-Getmain
-returns-in-Getmain c = c.getmain.ensures ∙ ap (λ o. asked_of o (operands c.args.field.now)) (sym c.in-Getmain.is)
+returns-in-Getmain c = c.request_of-in-Getmain.ensures ∙ ap (λ o. asked_of o (operands c.args.field.now)) (sym c.in-Getmain.is)
 
 pub returns-in-Freemain : goal.returns-in-Freemain
-returns-in-Freemain c = c.freemain.ensures ∙ ap (λ o. asked_of o (operands c.args.field.now)) (sym c.in-Freemain.is)
+returns-in-Freemain c = c.request_of-in-Freemain.ensures ∙ ap (λ o. asked_of o (operands c.args.field.now)) (sym c.in-Freemain.is)
 
 pub returns-in-Cpool : goal.returns-in-Cpool
 returns-in-Cpool c = c.cpool.ensures ∙ ap (λ o. asked_of o (operands c.args.field.now)) (sym c.in-Cpool.is)
@@ -25,7 +25,7 @@ pub returns-in-Run : goal.returns-in-Run
 returns-in-Run c = c.run.ensures ∙ ap (λ o. asked_of o (operands c.args.field.now)) (sym c.in-Run.is)
 
 pub returns-in-Poke : goal.returns-in-Poke
-returns-in-Poke c = cc (ap (λ o. asked_of o (operands c.args.field.now)) c.in-Poke.is)
+returns-in-Poke c = c.poke.ensures ∙ ap (λ o. asked_of o (operands c.args.field.now)) (sym c.in-Poke.is)
 
 pub returns-in-Back : goal.returns-in-Back
 returns-in-Back c = c.back.ensures ∙ ap (λ o. asked_of o (operands c.args.field.now)) (sym c.in-Back.is)
@@ -34,7 +34,7 @@ pub returns-in-Forward : goal.returns-in-Forward
 returns-in-Forward c = c.forward.ensures ∙ ap (λ o. asked_of o (operands c.args.field.now)) (sym c.in-Forward.is)
 
 pub returns-in-Peek : goal.returns-in-Peek
-returns-in-Peek c = cc (ap (λ o. asked_of o (operands c.args.field.now)) c.in-Peek.is)
+returns-in-Peek c = c.peek.ensures ∙ ap (λ o. asked_of o (operands c.args.field.now)) (sym c.in-Peek.is)
 
 pub returns-in-EndTask : goal.returns-in-EndTask
 returns-in-EndTask c = ap (λ o. asked_of o (operands c.args.field.now)) (sym c.in-EndTask.is)

@@ -8,7 +8,7 @@ use Rattle.storage_swap.proofs.building.make_building.Goals as goal
 pub returns-clause-reserves : goal.returns-clause-reserves
 returns-clause-reserves c =
     reserves-behind c.args.storage.now (change_building (pool_as c.args.pool.now c.park_pool-id.result.1) (change_of c.args.records.now c.args.blanks c.args.fresh)) c.args.fresh c.requires.stands c.requires.once c.requires.frameless c.requires.tables (λ a. refl)
-    c.take_frames-frames.new.region c.take_frames-frames.result c.take_frames-frames.ensures.frames c.take_frames-frames.ensures.pages c.take_frames-frames.ensures.tables c.take_frames-frames.ensures.count c.take_frames-frames.ensures.out
+    c.park_zeros-frames.new.self c.park_zeros-frames.result c.park_zeros-frames.ensures.frames c.park_zeros-frames.ensures.pages c.park_zeros-frames.ensures.tables c.park_zeros-frames.ensures.count c.park_zeros-frames.ensures.out
     c.park_pool-id.new.elements c.park_pool-id.result.0 c.park_pool-id.ensures.stands c.park_pool-id.ensures.subpools c.park_pool-id.ensures.moves
     c.building_records-records.new.elements c.building_records-records.result c.building_records-records.ensures.chain c.building_records-records.ensures.records c.building_records-records.ensures.owned
     c.take_blanks-blanks.new.elements c.take_blanks-blanks.result c.take_blanks-blanks.ensures.chain c.take_blanks-blanks.ensures.count c.take_blanks-blanks.ensures.owned

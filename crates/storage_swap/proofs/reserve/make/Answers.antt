@@ -8,14 +8,14 @@ use Rattle.storage_swap.proofs.reserve.make.Goals as goal
 
 pub take_records-records-requires-clause-room : goal.take_records-records-requires-clause-room
 take_records-records-requires-clause-room c =
-    omega (arith, c.requires.spare, parts-take (subpools_of c.args.storage.now.elements c.args.storage.now.subpools) c.args.emptied (length c.args.records.now) c.args.blanks, ap (λ (rs : List Run). length (emptying c.args.emptied rs)) c.extents_emptied-extents.ensures.runs)
+    omega (arith, c.requires.spare, parts-take (subpools_of c.args.storage.now.elements c.args.storage.now.subpools) c.args.emptied (length c.args.records.now) c.args.blanks, ap (λ (rs : List Run). length (emptying c.args.emptied rs)) c.requires.runs)
 
 pub overflow_add-count : goal.overflow_add-count
-overflow_add-count c = omega (arith, c.requires.size, c.count.ensures c.args.storage.now.elements, c.extents_emptied-extents.ensures.few)
+overflow_add-count c = omega (arith, c.requires.size, c.count.ensures c.args.storage.now.elements, c.requires.few)
 
 pub take_blanks-blanks-requires : goal.take_blanks-blanks-requires
 take_blanks-blanks-requires c = record {
-  room = omega (arith, c.requires.spare, c.take_records-records.ensures.spare, c.count.ensures c.args.storage.now.elements, parts-take (subpools_of c.args.storage.now.elements c.args.storage.now.subpools) c.args.emptied (length c.args.records.now) c.args.blanks, ap (λ (rs : List Run). length rs) c.extents_emptied-extents.ensures.runs, ap (λ (rs : List Run). length (emptying c.args.emptied rs)) c.extents_emptied-extents.ensures.runs);
+  room = omega (arith, c.requires.spare, c.take_records-records.ensures.spare, c.count.ensures c.args.storage.now.elements, parts-take (subpools_of c.args.storage.now.elements c.args.storage.now.subpools) c.args.emptied (length c.args.records.now) c.args.blanks, ap (λ (rs : List Run). length rs) c.requires.runs, ap (λ (rs : List Run). length (emptying c.args.emptied rs)) c.requires.runs);
 }
 
 pub park_empty-parked-requires-clause-range : goal.park_empty-parked-requires-clause-range
@@ -23,19 +23,19 @@ park_empty-parked-requires-clause-range c = parked-range c.args.storage.now.elem
 
 pub park_empty-parked-requires-clause-room : goal.park_empty-parked-requires-clause-room
 park_empty-parked-requires-clause-room c = room-parked c.args.emptied c.take_blanks-blanks.new.elements.spare
-    (omega (arith, c.requires.spare, c.take_records-records.ensures.spare, c.take_blanks-blanks.ensures.spare, c.count.ensures c.args.storage.now.elements, parts-take (subpools_of c.args.storage.now.elements c.args.storage.now.subpools) c.args.emptied (length c.args.records.now) c.args.blanks, ap (λ (rs : List Run). length rs) c.extents_emptied-extents.ensures.runs, ap (λ (rs : List Run). length (emptying c.args.emptied rs)) c.extents_emptied-extents.ensures.runs))
+    (omega (arith, c.requires.spare, c.take_records-records.ensures.spare, c.take_blanks-blanks.ensures.spare, c.count.ensures c.args.storage.now.elements, parts-take (subpools_of c.args.storage.now.elements c.args.storage.now.subpools) c.args.emptied (length c.args.records.now) c.args.blanks, ap (λ (rs : List Run). length rs) c.requires.runs, ap (λ (rs : List Run). length (emptying c.args.emptied rs)) c.requires.runs))
 
 pub returns-clause-reserves : goal.returns-clause-reserves
 returns-clause-reserves c =
     let m = (subpools_of c.args.storage.now.elements c.args.storage.now.subpools) in
     reserves c.args.storage.now (change_from m c.args.emptied c.args.records.now c.args.blanks c.args.fresh) c.args.fresh c.requires.stands c.requires.once c.requires.frameless c.requires.tables
     (meant-frames m c.args.records.now c.args.blanks c.args.fresh c.args.emptied)
-    c.take_frames-frames.new.region c.take_frames-frames.result c.take_frames-frames.ensures.frames c.take_frames-frames.ensures.pages c.take_frames-frames.ensures.tables c.take_frames-frames.ensures.count c.take_frames-frames.ensures.out
+    c.park_zeros-frames.new.self c.park_zeros-frames.result c.park_zeros-frames.ensures.frames c.park_zeros-frames.ensures.pages c.park_zeros-frames.ensures.tables c.park_zeros-frames.ensures.count c.park_zeros-frames.ensures.out
     c.take_records-records.new.elements c.take_records-records.result c.take_records-records.ensures.chain
-    (c.take_records-records.ensures.records ∙ ap (λ (rs : List Run). emptying c.args.emptied rs ++ c.args.records.now) c.extents_emptied-extents.ensures.runs ∙ sym (meant-records m c.args.records.now c.args.blanks c.args.fresh c.args.emptied))
+    (c.take_records-records.ensures.records ∙ ap (λ (rs : List Run). emptying c.args.emptied rs ++ c.args.records.now) c.requires.runs ∙ sym (meant-records m c.args.records.now c.args.blanks c.args.fresh c.args.emptied))
     c.take_records-records.ensures.owned
     c.take_blanks-blanks.new.elements c.take_blanks-blanks.result c.take_blanks-blanks.ensures.chain
-    (c.take_blanks-blanks.ensures.count ∙ ap (λ (n : ℕ). n + c.args.blanks) (c.count.ensures c.args.storage.now.elements ∙ ap (λ (rs : List Run). length rs) c.extents_emptied-extents.ensures.runs) ∙ sym (meant-blanks m c.args.records.now c.args.blanks c.args.fresh c.args.emptied))
+    (c.take_blanks-blanks.ensures.count ∙ ap (λ (n : ℕ). n + c.args.blanks) (c.count.ensures c.args.storage.now.elements ∙ ap (λ (rs : List Run). length rs) c.requires.runs) ∙ sym (meant-blanks m c.args.records.now c.args.blanks c.args.fresh c.args.emptied))
     c.take_blanks-blanks.ensures.owned
     c.park_empty-parked.new.elements c.park_empty-parked.result c.park_empty-parked.ensures.stands
     (c.park_empty-parked.ensures.subpools ∙ sym (meant-parked m c.args.records.now c.args.blanks c.args.fresh c.args.emptied))
@@ -43,4 +43,4 @@ returns-clause-reserves c =
 
 pub returns-clause-spare : goal.returns-clause-spare
 returns-clause-spare c =
-    omega (arith, c.take_records-records.ensures.spare, c.take_blanks-blanks.ensures.spare, c.park_empty-parked.ensures.spare, c.count.ensures c.args.storage.now.elements, parts-take (subpools_of c.args.storage.now.elements c.args.storage.now.subpools) c.args.emptied (length c.args.records.now) c.args.blanks, ap (λ (rs : List Run). length rs) c.extents_emptied-extents.ensures.runs, ap (λ (rs : List Run). length (emptying c.args.emptied rs)) c.extents_emptied-extents.ensures.runs)
+    omega (arith, c.take_records-records.ensures.spare, c.take_blanks-blanks.ensures.spare, c.park_empty-parked.ensures.spare, c.count.ensures c.args.storage.now.elements, parts-take (subpools_of c.args.storage.now.elements c.args.storage.now.subpools) c.args.emptied (length c.args.records.now) c.args.blanks, ap (λ (rs : List Run). length rs) c.requires.runs, ap (λ (rs : List Run). length (emptying c.args.emptied rs)) c.requires.runs)
