@@ -18,7 +18,7 @@ use cell_pool::CellId;
 use service_laws::cells::cell_pools_stay_well_formed;
 use std::alloc::AllocError;
 use storage_changes::cells::deleting_leads;
-use storage_changes::{CellPoolRecord, Record, RegisterRecord};
+use storage_changes::{CellPoolRecord, Record};
 use storage_swap::{Change, ChangeBuilder, Parts};
 use subpool_storage::laws::cell_pools_are_named;
 use vsm_model::Cause;
@@ -107,14 +107,9 @@ impl DeletePlan {
             pool: self.pool,
             present: false,
         });
-        let returned = Record::Register(RegisterRecord {
-            task: current,
-            register: 15,
-            word: 0,
-        });
         builder.push(storage, gone)?;
         let extents = push_extents(storage, builder, self.pool)?;
-        builder.push(storage, returned)?;
+        builder.push_return(storage, current, 0)?;
         Ok(4 * extents + 1)
     }
 }

@@ -1,7 +1,8 @@
 -- Registers that are set, and what a change whose last records set them leads to.
-use Rattle.std.proofs.Common.{◌≡◌, ℕ, suc, ◌≤◌, Bool, true, false, not, ◌&&◌, ◌==◌, if◌then◌else◌, List, [], ◌∷◌, ◌++◌, map, Option, Some, None, IsSome, is_some, refl, sym, ◌∙◌, ap, arith, subst}
+use Rattle.std.proofs.Common.{◌≡◌, ◌≢◌, ℕ, suc, ◌≤◌, Bool, true, false, not, ◌&&◌, ◌==◌, if◌then◌else◌, List, [], ◌∷◌, ◌++◌, length, map, Option, Some, None, IsSome, is_some, refl, sym, ◌∙◌, ap, arith, subst}
 use Rattle.std.specs.Prelude.{◌/◌}
-use Rattle.std.proofs.lemmas.Bool.{and_parts, cond-false, eqb-true}
+use Rattle.std.proofs.lemmas.Bool.{and_parts, cond-false, eq-eqb, eqb-true, ne_eqb}
+use Rattle.std.proofs.lemmas.List.{append_assoc, length-map}
 use Rattle.run_set.specs.Runs.{Run, inside}
 use Rattle.vsm_model.specs.declared.Subpool.{Subpool}
 use Rattle.vsm_model.specs.declared.limits.Settings.{Settings}
@@ -82,6 +83,24 @@ pub same_rows : (m n : StorageState) (rows : List (ℕ × ℕ)) → n.tasks.curr
     → ((r : ℕ) → n.tasks.words m.tasks.current r ≡ m.tasks.words m.tasks.current r) → register_records n rows ≡ register_records m rows
 same_rows m n rows current words =
     ap (λ c. set_records c (n.tasks.words c) rows) current ∙ (λ i. set_records m.tasks.current (λ r. words r i) rows)
+
+-- a return code that register 15 has, or gets
+pub code_stays : (task : ℕ) (words : ℕ → ℕ) (code : ℕ) → words 15 ≡ code → set_records task words ((15, code) ∷ []) ≡ []
+code_stays task words code e = ap (λ b. (if b then [] else register_record task (15, code) ∷ []) ++ []) (eq-eqb (words 15) code e)
+
+pub code_changes : (task : ℕ) (words : ℕ → ℕ) (code : ℕ) → words 15 ≢ code → set_records task words ((15, code) ∷ []) ≡ register_record task (15, code) ∷ []
+code_changes task words code e = ap (λ b. (if b then [] else register_record task (15, code) ∷ []) ++ []) (ne_eqb (words 15) code e)
+
+-- behind the first register each has a record
+pub rows_behind : (task : ℕ) (words : ℕ → ℕ) (row : ℕ × ℕ) (rows : List (ℕ × ℕ))
+    → set_records task words (row ∷ []) ++ map (register_record task) rows ≡ set_records task words (row ∷ rows)
+rows_behind task words row rows = append_assoc (if words row.0 == row.1 then [] else register_record task row ∷ []) [] (map (register_record task) rows)
+
+pub few_records : (task : ℕ) (words : ℕ → ℕ) (row : ℕ × ℕ) (rows : List (ℕ × ℕ)) → length (set_records task words (row ∷ rows)) ≤ suc (length rows)
+few_records task words row rows = go (words row.0 == row.1) where
+  go : (b : Bool) → length ((if b then [] else register_record task row ∷ []) ++ map (register_record task) rows) ≤ suc (length rows)
+  go true = omega (arith, length-map rows (register_record task))
+  go false = omega (arith, length-map rows (register_record task))
 
 pub rows_go :
     (m : StorageState) (b g : ℕ → Option ℕ) (s left : ℕ) (rows : List (ℕ × ℕ)) → IsSome (m.tasks.parents m.tasks.current) → AreRegisters rows → left ≤ s

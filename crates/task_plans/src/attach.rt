@@ -160,11 +160,13 @@ impl AttachPlan {
         ensures builds { Builds storage.old builder.old storage.new builder.new }
         ensures ok { OnOk result (Pushes storage.old builder.old
             (register_records (state_of storage.old) ((15, 0) ∷ (1, self.task) ∷ [])) storage.new builder.new) }
-        ensures made { OnErr result (MakesElements storage.old.elements storage.new.elements 2) }
-        ensures needless { 2 ≤ storage.old.elements.spare → IsOk result }
+        ensures made { OnErr result (MakesElements storage.old.elements storage.new.elements
+            (length (register_records (state_of storage.old) ((15, 0) ∷ (1, self.task) ∷ [])))) }
+        ensures needless { length (register_records (state_of storage.old) ((15, 0) ∷ (1, self.task) ∷ []))
+            ≤ storage.old.elements.spare → IsOk result }
     {
         let current = storage.tasks.current();
-        builder.push(storage, set_register(current, 15, 0))?;
+        builder.push_return(storage, current, 0)?;
         builder.push(storage, set_register(current, 1, u32::from(self.task)))
     }
 }
