@@ -53,8 +53,8 @@ pub fn plan_delete(storage: &Parts, name: &str) -> Result<DeletePlan, Cause>
 
 impl DeletePlan {
     /// The change: a record for the cell pool, and up to four for each of its extents, which is given back with the
-    /// pages that it empties once those before it are given back; one for register 15; and four blank elements for each
-    /// extent, and one more. The state of the storage stays as it is.
+    /// pages that it empties once those before it are given back; one for register 15 if it isn't 0; and four blank
+    /// elements for each extent, and one more. The state of the storage stays as it is.
     ///
     /// `AllocError` where memory is refused: what was made before that stays, as spare elements. No more spare elements
     /// are used than it has records and blank elements; where so many are spare, it takes no memory. At most a block of

@@ -92,8 +92,8 @@ pub fn push_place(records: &mut PlanRecords, subpool: Subpool, place: AreaPlace,
     }
 }
 
-// Up to four more records: the return code 0, where register 15 hasn't it, the address in register 1 and in the one that is named, and the length in
-// register 0 where it was asked for by bounds.
+// Up to four more records: the return code 0 if register 15 has another word, the address in register 1 and in the one
+// that is named, and the length in register 0 where it was asked for by bounds.
 fn push_reply(records: &mut PlanRecords, storage: &Parts, o: Obtain, address: u32, length: u32)
     requires few { array_vec_len records.old ≤ 4 }
     requires stands { Stand storage.now }
