@@ -10,6 +10,7 @@ use Rattle.storage_changes.specs.declared.record.Record.{Record}
 use Rattle.storage_changes.specs.State.{StorageState}
 use Rattle.storage_changes.specs.StorageActions.{run_of, area_records, returned_records, give_back_records, emptied_pages, register_records}
 use Rattle.storage_changes.specs.CellActions.{extents_given_back, deleting_records}
+use Rattle.storage_changes.proofs.Rows.{few_records}
 use Rattle.cell_plans.specs.CellPlans.{deleting_change, extents_of_pool}
 
 -- an area is one record, or none
@@ -59,5 +60,6 @@ delete-short m (Some p) =
     omega (
       arith,
       length-append (deleting_records m.subpools p) (register_records m ((15, 0) ∷ [])),
+      few_records m.tasks.current (m.tasks.words m.tasks.current) (15, 0) [],
       extents-short m.subpools p.settings.subpool p.settings.size p.extents,
     )

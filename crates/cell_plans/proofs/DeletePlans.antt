@@ -13,6 +13,7 @@ use Rattle.vsm_model.specs.Causes.{first_cause}
 use Rattle.vsm_model.specs.Cells.{deleted, sees_pool}
 use Rattle.vsm_model.specs.Regions.{doublewords, settings_valid}
 use Rattle.vsm_model.specs.Registers.{with_registers}
+use Rattle.storage_changes.specs.StorageActions.{set_records}
 use Rattle.vsm_model.specs.Services.{delete}
 use Rattle.vsm_model.specs.Standing.{Accepted, Refused}
 use Rattle.vsm_model.specs.State.{State}
@@ -29,7 +30,7 @@ use Rattle.cell_pool.specs.Pools.{Pool}
 use Rattle.storage_changes.specs.NamedPools.{AreNamed}
 use Rattle.storage_changes.specs.PoolTable.{cell_pool_of, extent_of}
 use Rattle.storage_changes.specs.declared.record.Record.{Record}
-use Rattle.storage_changes.specs.declared.record.Record.TheVariants.{CellPool as CellPoolRow, Register}
+use Rattle.storage_changes.specs.declared.record.Record.TheVariants.{CellPool as CellPoolRow}
 use Rattle.storage_changes.specs.Changes.{change_of, no_pages}
 use Rattle.storage_changes.specs.Meaning.{model_of, IsSound}
 use Rattle.storage_changes.specs.State.{StorageState}
@@ -110,21 +111,22 @@ module _ (settings : Settings) (names_full : Bool) (m : StorageState) (name : Li
         let P : Option Pool → Type 0 = λ o. IsAccepted settings names_full m (delete name) (deleting_change m o) (Returned 0) in
         (∥∥₁_map sound (λ h. subst P (sym its.there) (is_accepted valid h)), can valid sound, omega (arith, weight_is))
 
+-- the record of the return code 0, if it has one
+abbrev pub last : StorageState → ℕ → List Record
+last x current = set_records current (x.tasks.words current) ((15, 0) ∷ [])
+
 -- the records of its change, and how many blank elements it has
 module _ (m u : StorageState) (same : u ≡ m) (id : ℕ) (p : Pool) (there : m.subpools.cells id ≡ Some p) (own : p.id ≡ id) where
   abbrev row : ℕ → Record
   row i = CellPoolRow (record { pool = i; present = false })
 
-  abbrev last : ℕ → Record
-  last current = Register (record { task = current; register = 15; word = 0 })
-
   abbrev back_in : StorageState → List Record
   back_in x = pool_given_back x.subpools (x.subpools.cells id)
 
-  pub records_are : (current : ℕ) → current ≡ m.tasks.current → ((row id ∷ []) ++ back_in u) ++ last current ∷ [] ≡ (delete_change m (record { pool = id })).records
-  records_are current now =
-      (λ i. ((row (sym own i) ∷ []) ++ back_in (same i)) ++ last (now i) ∷ [])
-      ∙ ap (λ (o : Option Pool). ((row p.id ∷ []) ++ pool_given_back m.subpools o) ++ last m.tasks.current ∷ []) there
+  pub records_are : (v : StorageState) → v ≡ m → (current : ℕ) → current ≡ m.tasks.current → ((row id ∷ []) ++ back_in u) ++ last v current ≡ (delete_change m (record { pool = id })).records
+  records_are v kept current now =
+      (λ i. ((row (sym own i) ∷ []) ++ back_in (same i)) ++ last (kept i) (now i))
+      ∙ ap (λ (o : Option Pool). ((row p.id ∷ []) ++ pool_given_back m.subpools o) ++ last m m.tasks.current) there
       ∙ ap (λ (o : Option Pool). (deleting_change m o).records) (sym there)
 
   pub blanks_are : (count : ℕ) → count ≡ extents_of_pool (u.subpools.cells id) → 4 * count + 1 ≡ (delete_change m (record { pool = id })).blanks
@@ -132,8 +134,10 @@ module _ (m u : StorageState) (same : u ≡ m) (id : ℕ) (p : Pool) (there : m.
       ap (λ (n : ℕ). 4 * n + 1) (so_many ∙ ap (λ (x : StorageState). extents_of_pool (x.subpools.cells id)) same ∙ ap extents_of_pool there)
       ∙ ap (λ (o : Option Pool). (deleting_change m o).blanks) (sym there)
 
-  pub all_counted : length (delete_change m (record { pool = id })).records ≡ 2 + length (back_in u)
-  all_counted = omega (arith, ap length (sym (records_are m.tasks.current refl)), length-append ((row id ∷ []) ++ back_in u) (last m.tasks.current ∷ []), length-append (row id ∷ []) (back_in u))
+  pub all_counted : (v : StorageState) → v ≡ m → (current : ℕ) → current ≡ m.tasks.current
+      → length (delete_change m (record { pool = id })).records ≡ 1 + length (back_in u) + length (last v current)
+  all_counted v kept current now =
+      omega (arith, ap length (sym (records_are v kept current now)), length-append ((row id ∷ []) ++ back_in u) (last v current), length-append (row id ∷ []) (back_in u))
 
 -- a change of a cell pool that goes has no frame and has parked nothing
 pub delete_is : (m : StorageState) (o : Option Pool) → record (change_of (deleting_change m o).records (deleting_change m o).blanks no_pages) { parked = no_subpools } ≡ deleting_change m o

@@ -29,7 +29,7 @@ use storage_plans::PlanRecords;
 use storage_plans::areas::{check_number, side_of, subpool_for};
 use storage_plans::obtain::{address_of, needs_of, push_own, push_place};
 use storage_plans::places::{AreaPlace, area_place};
-use storage_plans::plan::push_register;
+use storage_plans::plan::push_return;
 use storage_swap::Parts;
 use subpool_storage::laws::cell_pools_are_named;
 use vsm_model::geometry::{MOST_CELL_BYTES, MOST_CELL_POOLS, MOST_CELLS};
@@ -135,6 +135,7 @@ fn plan_pool(
     place: AreaPlace,
     is_new: bool,
 ) -> BuildPlan
+    requires stands { Stand storage.now }
     requires bytes { settings.primary * settings.size < 2 ^ 32 }
     requires words { (place_address place < 2 ^ 32) × (0 < doublewords (settings.primary * settings.size))
         × (doublewords (settings.primary * settings.size) < 2 ^ 29) }
@@ -154,7 +155,7 @@ fn plan_pool(
     let mut records = ArrayVec::new();
     push_own(&mut records, settings.subpool, is_new);
     push_place(&mut records, settings.subpool, place, count);
-    push_register(&mut records, storage.tasks.current(), 15, 0);
+    push_return(&mut records, storage, 0);
     let (blanks, fresh) = needs_of(place, count);
     let start = address_of(place);
     BuildPlan {

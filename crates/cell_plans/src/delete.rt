@@ -18,7 +18,7 @@ use cell_pool::CellId;
 use service_laws::cells::cell_pools_stay_well_formed;
 use std::alloc::AllocError;
 use storage_changes::cells::deleting_leads;
-use storage_changes::{CellPoolRecord, Record, RegisterRecord};
+use storage_changes::{CellPoolRecord, Record};
 use storage_swap::{Change, ChangeBuilder, Parts};
 use subpool_storage::laws::cell_pools_are_named;
 use vsm_model::Cause;
@@ -53,8 +53,8 @@ pub fn plan_delete(storage: &Parts, name: &str) -> Result<DeletePlan, Cause>
 
 impl DeletePlan {
     /// The change: a record for the cell pool, and up to four for each of its extents, which is given back with the
-    /// pages that it empties once those before it are given back; one for register 15; and four blank elements for each
-    /// extent, and one more. The state of the storage stays as it is.
+    /// pages that it empties once those before it are given back; one for register 15 if it isn't 0; and four blank
+    /// elements for each extent, and one more. The state of the storage stays as it is.
     ///
     /// `AllocError` where memory is refused: what was made before that stays, as spare elements. No more spare elements
     /// are used than it has records and blank elements; where so many are spare, it takes no memory. At most a block of
@@ -107,14 +107,9 @@ impl DeletePlan {
             pool: self.pool,
             present: false,
         });
-        let returned = Record::Register(RegisterRecord {
-            task: current,
-            register: 15,
-            word: 0,
-        });
         builder.push(storage, gone)?;
         let extents = push_extents(storage, builder, self.pool)?;
-        builder.push(storage, returned)?;
+        builder.push_return(storage, current, 0)?;
         Ok(4 * extents + 1)
     }
 }

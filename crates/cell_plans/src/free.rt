@@ -15,7 +15,7 @@ use cell_pool::CellId;
 use service_laws::cells::cell_pools_stay_well_formed;
 use storage_changes::cells::giving_back_cells_leads;
 use storage_changes::{CellRecord, Record};
-use storage_plans::plan::{NO_PAGES, push_register};
+use storage_plans::plan::{NO_PAGES, push_return};
 use storage_plans::{PlannedStorage, StoragePlan};
 use storage_swap::Parts;
 use subpool_storage::laws::cell_pools_are_named;
@@ -23,6 +23,7 @@ use vsm_model::{Cause, Reply};
 
 // The plan by which a cell in use is the first free one.
 fn plan_given_back(storage: &Parts, pool: CellId, cell: u32) -> StoragePlan
+    requires { Stand storage.now }
     ensures emptied { result.emptied ≡ None }
     ensures records { result.records.items
         ≡ given_back_records pool cell ++ register_records (state_of storage.now) ((15, 0) ∷ []) }
@@ -36,7 +37,7 @@ fn plan_given_back(storage: &Parts, pool: CellId, cell: u32) -> StoragePlan
         cell,
         free: true,
     }));
-    push_register(&mut records, storage.tasks.current(), 15, 0);
+    push_return(&mut records, storage, 0);
     StoragePlan {
         emptied: None,
         records,

@@ -5,7 +5,7 @@ ghost use Rattle.vsm_model.specs.declared.replies.Reply.TheVariants.{Cell};
 ghost use Rattle.vsm_model.specs.Regions.{settings_valid};
 ghost use Rattle.vsm_model.specs.Services.{get};
 ghost use Rattle.storage_changes.specs.StorageActions.{run_of};
-ghost use Rattle.storage_swap.specs.Storage.{state_of};
+ghost use Rattle.storage_swap.specs.Storage.{state_of, Stand};
 ghost use Rattle.storage_plans.specs.Places.{StandsSound};
 ghost use Rattle.storage_changes.specs.CellActions.{extent_blanks as blanks_for};
 ghost use Rattle.cell_plans.specs.CellPlans.{IsCellPlanned};
@@ -20,7 +20,7 @@ use storage_changes::cells::{extending_leads, handing_out_leads};
 use storage_changes::{CellExtentRecord, CellRecord, Record};
 use storage_plans::obtain::{address_of, needs_of, push_place};
 use storage_plans::places::{AreaPlace, area_place};
-use storage_plans::plan::{NO_PAGES, answer_four, push_register};
+use storage_plans::plan::{NO_PAGES, answer_four, push_register, push_return};
 use storage_plans::{PlanRecords, PlannedStorage, StoragePlan};
 use storage_swap::Parts;
 use subpool_storage::laws::cell_pools_are_named;
@@ -34,7 +34,8 @@ fn push_handed_out(
     cell: u32,
     register: Option<u8>,
 )
-    requires { array_vec_len records.old ≤ 4 }
+    requires few { array_vec_len records.old ≤ 4 }
+    requires stands { Stand storage.now }
     ensures { records.new.items ≡ records.old.items ++ cell_records (state_of storage.now) pool cell register }
 {
     records.push(Record::Cell(CellRecord {
@@ -43,7 +44,7 @@ fn push_handed_out(
         free: false,
     }));
     let current = storage.tasks.current();
-    push_register(records, current, 15, 0);
+    push_return(records, storage, 0);
     push_register(records, current, 1, cell);
     if let Some(register) = register {
         push_register(records, current, register, cell);
@@ -52,6 +53,7 @@ fn push_handed_out(
 
 // The plan by which the first free cell is handed out.
 fn plan_cell(storage: &Parts, pool: CellId, cell: u32, register: Option<u8>) -> StoragePlan
+    requires { Stand storage.now }
     ensures emptied { result.emptied ≡ None }
     ensures records { result.records.items ≡ cell_records (state_of storage.now) pool cell register }
     ensures blanks { result.blanks ≡ 0 }
@@ -85,7 +87,8 @@ fn plan_further(
     place: AreaPlace,
     register: Option<u8>,
 ) -> StoragePlan
-    requires { CanExtend cells place }
+    requires stands { Stand storage.now }
+    requires can { CanExtend cells place }
     ensures { IsFurther (state_of storage.now) pool cells place register result }
 {
     let start = address_of(place);

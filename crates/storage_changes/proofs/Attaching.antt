@@ -1,5 +1,5 @@
 -- A task comes, with its subpools.
-use Rattle.std.proofs.Common.{◌≡◌, ◌≢◌, ℕ, ◌+◌, ◌-◌, ◌*◌, ◌≤◌, Bool, true, false, not, ◌||◌, ◌==◌, if◌then◌else◌, Option, Some, None, IsSome, is_some, List, [], ◌∷◌, ◌++◌, length, map, refl, sym, ◌∙◌, ap, subst, arith, inl, inr, true≢false}
+use Rattle.std.proofs.Common.{◌≡◌, ◌≢◌, ℕ, ◌+◌, ◌-◌, ◌*◌, ◌≤◌, Bool, true, false, not, ◌||◌, ◌==◌, if◌then◌else◌, Option, Some, None, IsSome, is_some, List, [], ◌∷◌, ◌++◌, length, refl, sym, ◌∙◌, ap, subst, arith, inl, inr, true≢false}
 use Rattle.std.specs.Prelude.{◌/◌}
 use Rattle.std.specs.List.{flat_map}
 use Rattle.std.proofs.lemmas.Bool.{cond-false, eqb-true, ne_eqb, both_ways, false_from_ne_true, not-true, or_cases}
@@ -14,7 +14,7 @@ use Rattle.vsm_model.proofs.Least.{least_among}
 use Rattle.storage_changes.specs.TableLaws.{PoolsAreFound, AllRowsChange}
 use Rattle.storage_changes.specs.NamedPools.{AreNamed}
 use Rattle.storage_changes.specs.declared.record.Record.{Record}
-use Rattle.storage_changes.specs.declared.record.Record.TheVariants.{Register, Task}
+use Rattle.storage_changes.specs.declared.record.Record.TheVariants.{Task}
 use Rattle.storage_changes.specs.Changes.{change_parking, no_pages}
 use Rattle.storage_changes.specs.Meaning.{model_of, IsSound}
 use Rattle.storage_changes.specs.State.{StorageState, Tasks}
@@ -22,7 +22,7 @@ use Rattle.storage_changes.specs.StorageActions.{register_records}
 use Rattle.storage_changes.specs.Leads.{AreRegisters}
 use Rattle.storage_changes.proofs.ActionCases.{none_from}
 use Rattle.storage_changes.proofs.Goes.{at, Goes, goes_on, goes_step}
-use Rattle.storage_changes.proofs.Rows.{Stands, with_rows, rows_go, leads_to, stands_of, task_is_there, none_fresh, none_brought, fresh_of}
+use Rattle.storage_changes.proofs.Rows.{Stands, with_rows, rows_go, same_rows, leads_to, stands_of, task_is_there, none_fresh, none_brought, fresh_of}
 use Rattle.service_laws.proofs.Numbers.{IsPrivate, AreApart, good_numbers, apart_left, apart_right, all_in, in_all, in_left, in_right, not_in_both, none_any}
 use Rattle.service_laws.proofs.Options.{same_some}
 use Rattle.storage_changes.specs.Attaching.{attach_records, attach_blanks, gift_records, made, share_records, sharing_records, zero_records, with_attached}
@@ -186,8 +186,10 @@ module _ (settings : Settings) (m : StorageState) (task : ℕ) (sound : IsSound 
 
       registers_go : (b g : ℕ → Option ℕ) (spare : ℕ) → 1 ≤ spare → Goes (at n b g spare) (register_records m rows) (with_rows n rows) b g 1
       registers_go b g spare less =
-          let P : ℕ → Type 0 = λ current. Goes (at n b g spare) (map (λ row. Register (record { task = current; register = row.0; word = row.1 })) rows) (with_rows n rows) b g 1 in
-          subst P (ap (λ (t : Tasks). t.current) all_behind.tasks) (rows_go n b g spare 1 rows (there n.tasks all_behind.tasks) are less)
+          let P : List Record → Type 0 = λ rs. Goes (at n b g spare) rs (with_rows n rows) b g 1 in
+          let current : n.tasks.current ≡ m.tasks.current = ap (λ (t : Tasks). t.current) all_behind.tasks in
+          let same = same_rows m n rows current (λ r. ap (λ (t : Tasks). t.words m.tasks.current r) all_behind.tasks) in
+          subst P same (rows_go n b g spare 1 rows (there n.tasks all_behind.tasks) are less)
 
       pub all_go : (b g : ℕ → Option ℕ) → Goes (at m b g (attach_blanks gifts shares)) (attach_records m task shares_zero gifts shares ++ register_records m rows) (with_rows n rows) b g 1
       all_go b g =

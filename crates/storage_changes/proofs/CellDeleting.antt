@@ -1,5 +1,5 @@
 -- A cell pool that goes, with its extents.
-use Rattle.std.proofs.Common.{◌≡◌, inl, inr, ℕ, ◌/◌, ◌<◌, Bool, false, ◌==◌, if◌then◌else◌, List, ◌++◌, map, Option, Some, None, IsSome, is_some, refl, sym, ◌∙◌, ap, subst, arith}
+use Rattle.std.proofs.Common.{◌≡◌, inl, inr, ℕ, ◌/◌, ◌<◌, Bool, false, ◌==◌, if◌then◌else◌, List, ◌++◌, Option, Some, None, IsSome, is_some, refl, sym, ◌∙◌, ap, subst, arith}
 use Rattle.std.specs.Prelude.{All, unwrap_or}
 use Rattle.run_set.specs.Runs.{inside}
 use Rattle.vsm_model.specs.declared.limits.Settings.{Settings}
@@ -22,7 +22,7 @@ use Rattle.storage_changes.specs.PoolTable.{cell_pool_of}
 use Rattle.subpool_storage.specs.Subpools.{Subpools, no_subpools}
 use Rattle.storage_changes.specs.declared.record.CellPoolRecord.{CellPoolRecord}
 use Rattle.storage_changes.specs.declared.record.Record.{Record}
-use Rattle.storage_changes.specs.declared.record.Record.TheVariants.{CellPool as CellPoolRow, Register}
+use Rattle.storage_changes.specs.declared.record.Record.TheVariants.{CellPool as CellPoolRow}
 use Rattle.storage_changes.specs.Changes.{Change, change_of, outset}
 use Rattle.storage_changes.specs.Fits.{Fits, FitInTurn}
 use Rattle.storage_changes.specs.Meaning.{model_of, IsSound}
@@ -32,7 +32,7 @@ use Rattle.storage_changes.specs.Walk.{Walk}
 use Rattle.storage_changes.specs.Leads.{AreRegisters}
 use Rattle.storage_changes.specs.StorageActions.{run_of, register_records}
 use Rattle.storage_changes.proofs.Goes.{walk_on, fits_on}
-use Rattle.storage_changes.proofs.Rows.{with_rows, rows_fit, rows_walk, stands_of, leads_to, fresh_of, none_fresh, none_brought, task_is_there}
+use Rattle.storage_changes.proofs.Rows.{with_rows, rows_fit, rows_walk, same_rows, stands_of, leads_to, fresh_of, none_fresh, none_brought, task_is_there}
 use Rattle.storage_changes.specs.CellActions.{extents_given_back, deleting_records, deleting_blanks}
 use Rattle.storage_changes.specs.CellLaws.{DeletingLeads}
 use Rattle.storage_changes.proofs.Elsewhere.{with_cells}
@@ -110,6 +110,9 @@ module _ (settings : Settings) (s : State) (w : IsWellFormed settings s) (p : Po
   pub current_stays : (without_extents without pool pool.extents).current ≡ s.current
   current_stays = ap (λ (t : State). t.current) (extents_are_emptied settings without pages_kept pool pool.extents)
 
+  pub words_stay : (task r : ℕ) → (without_extents without pool pool.extents).words task r ≡ s.words task r
+  words_stay task r = ap (λ (t : State). t.words task r) (extents_are_emptied settings without pages_kept pool pool.extents)
+
 module _ (m : StorageState) (p : Pool) (named : AreNamed m.subpools.cells) (there : m.subpools.cells p.id ≡ Some p) where
   abbrev r : CellPoolRecord
   r = record { pool = p.id; present = false }
@@ -183,8 +186,8 @@ deleting_leads gone_row are_found settings m p rows valid sound named there are 
     let without : model_of n ≡ without_extents (record s { cell_pools = table }) pool pool.extents =
     all.leads ∙ ap (λ t. without_extents t pool pool.extents) listed in
     let current : n.tasks.current ≡ m.tasks.current = ap (λ (t : State). t.current) without ∙ current_stays settings s w p found in
-    let same : register_records n rows ≡ registers =
-    ap (λ c. map (λ row. Register (record { task = c; register = row.0; word = row.1 })) rows) current in
+    let same : register_records n rows ≡ registers = same_rows m n rows current
+    (λ r. ap (λ (t : State). t.words m.tasks.current r) without ∙ words_stay settings s w p found m.tasks.current r) in
     let task = task_is_there settings n all.sound in
     leads_to settings m n change rows (deleted s p.name).0
     (goes m p named there change refl, fit_all begin n reached.given away rows back registers reached.fits reached.there task are same)

@@ -1,5 +1,5 @@
 -- The end of tasks: their records lead to its effect.
-use Rattle.std.proofs.Common.{◌≡◌, ◌≢◌, ℕ, Bool, true, false, not, ◌&&◌, ◌||◌, ◌==◌, if◌then◌else◌, List, [], ◌∷◌, ◌++◌, Option, Some, None, is_some, refl, sym, ◌∙◌, ap, true≢false}
+use Rattle.std.proofs.Common.{◌≡◌, ◌≢◌, ℕ, Bool, true, false, not, ◌&&◌, ◌||◌, ◌==◌, if◌then◌else◌, List, [], ◌∷◌, ◌++◌, Option, Some, None, is_some, refl, sym, ◌∙◌, ap, subst, true≢false}
 use Rattle.std.specs.Prelude.{◌/◌}
 use Rattle.std.specs.List.{flat_map}
 use Rattle.run_set.specs.Runs.{inside}
@@ -21,7 +21,7 @@ use Rattle.storage_changes.specs.Changes.{Change, change_parking, outset}
 use Rattle.storage_changes.specs.Meaning.{model_of, IsSound}
 use Rattle.storage_changes.specs.StorageActions.{register_records, run_of}
 use Rattle.storage_changes.specs.Leads.{Leads, AreRegisters}
-use Rattle.storage_changes.proofs.Rows.{with_rows, task_is_there, leads_to, none_fresh, fresh_of}
+use Rattle.storage_changes.proofs.Rows.{with_rows, same_rows, task_is_there, leads_to, none_fresh, fresh_of}
 use Rattle.storage_changes.specs.Ending.{owned_by_these, released_records, rows_unseen, unshared_records, removed_records, ended_records}
 use Rattle.storage_changes.specs.Ending.{end_records, end_blanks, with_turn, CanEnd}
 use Rattle.storage_changes.specs.TaskLaws.{EndingLeads}
@@ -115,7 +115,9 @@ module _ (settings : Settings) (m : StorageState) (ended : List ℕ) (next : ℕ
 
   all_comes : Comes (outset m change) change.records (with_rows last set)
   all_comes =
-      rows_then (outset m change) (end_records m ended next) last set (ap is_some (all_go.have_gone.tasks next can.stays) ∙ can.turn) are ended_comes
+      let P : List Record → Type 0 = λ rs. Comes (outset m change) (end_records m ended next ++ rs) (with_rows last set) in
+      let same = same_rows (with_turn m next) last set refl (λ r. all_go.have_gone.same_words next r can.stays) in
+      subst P same (rows_then (outset m change) (end_records m ended next) last set (ap is_some (all_go.have_gone.tasks next can.stays) ∙ can.turn) are ended_comes)
 
   -- on the plain machine
   abbrev plain : State

@@ -1,7 +1,8 @@
 -- Registers that are set, and what a change whose last records set them leads to.
-use Rattle.std.proofs.Common.{◌≡◌, ℕ, suc, ◌≤◌, Bool, true, false, not, ◌&&◌, ◌==◌, if◌then◌else◌, List, [], ◌∷◌, Option, Some, None, IsSome, is_some, refl, sym, ◌∙◌, ap, arith, subst}
+use Rattle.std.proofs.Common.{◌≡◌, ◌≢◌, ℕ, suc, ◌≤◌, Bool, true, false, not, ◌&&◌, ◌==◌, if◌then◌else◌, List, [], ◌∷◌, ◌++◌, length, map, Option, Some, None, IsSome, is_some, refl, sym, ◌∙◌, ap, arith, subst}
 use Rattle.std.specs.Prelude.{◌/◌}
-use Rattle.std.proofs.lemmas.Bool.{cond-false}
+use Rattle.std.proofs.lemmas.Bool.{and_parts, cond-false, eq-eqb, eqb-true, ne_eqb}
+use Rattle.std.proofs.lemmas.List.{append_assoc, length-map}
 use Rattle.run_set.specs.Runs.{Run, inside}
 use Rattle.vsm_model.specs.declared.Subpool.{Subpool}
 use Rattle.vsm_model.specs.declared.limits.Settings.{Settings}
@@ -17,7 +18,7 @@ use Rattle.storage_changes.specs.Steps.{walk}
 use Rattle.storage_changes.specs.Fits.{FitInTurn}
 use Rattle.storage_changes.specs.Changes.{Change, outset, arrival, overlay}
 use Rattle.storage_changes.specs.Meaning.{model_of, subpool_of, IsSound}
-use Rattle.storage_changes.specs.StorageActions.{register_records, run_of}
+use Rattle.storage_changes.specs.StorageActions.{register_record, register_records, run_of, set_records}
 use Rattle.storage_changes.specs.Changes.{change_of}
 use Rattle.storage_changes.specs.Leads.{Leads, AreRegisters}
 use Rattle.storage_changes.specs.StorageLaws.{SettingLeads}
@@ -37,17 +38,69 @@ abbrev pub with_rows : StorageState → List (ℕ × ℕ) → StorageState
 with_rows m [] = m
 with_rows m (row ∷ rows) = with_rows (with_word m row.0 row.1) rows
 
--- on any walk the records fit, and set the registers alone
+-- a register that has the word already
+with_its_word : (m : StorageState) (register word : ℕ) → m.tasks.words m.tasks.current register ≡ word → with_word m register word ≡ m
+with_its_word m register word e = λ i. record m { tasks = record m.tasks { words = λ t r. same t r ((t == m.tasks.current) && (r == register)) refl i } } where
+  same : (t r : ℕ) (b : Bool) → ((t == m.tasks.current) && (r == register)) ≡ b → (if b then word else m.tasks.words t r) ≡ m.tasks.words t r
+  same t r false e2 = refl
+  same t r true e2 =
+      let both = and_parts (t == m.tasks.current) (r == register) e2 in
+      sym e ∙ λ i. m.tasks.words (sym (eqb-true t m.tasks.current both.0) i) (sym (eqb-true r register both.1) i)
+
+-- on any walk a record for each register fits, and they set the registers alone,
+each_fit : (w : Walk) (rows : List (ℕ × ℕ)) → IsSome (w.state.tasks.parents w.state.tasks.current) → AreRegisters rows
+    → FitInTurn w (map (register_record w.state.tasks.current) rows)
+each_fit w [] task are = tt
+each_fit w (row ∷ rows) task are = (
+  record { task = task; register = are 0 row (omega arith) },
+  each_fit (record w { state = with_word w.state row.0 row.1 }) rows task (λ j d below. are (suc j) d (omega (arith, below))),
+)
+
+each_walk : (w : Walk) (rows : List (ℕ × ℕ)) → walk w (map (register_record w.state.tasks.current) rows) ≡ record w { state = with_rows w.state rows }
+each_walk w [] = refl
+each_walk w (row ∷ rows) = each_walk (record w { state = with_word w.state row.0 row.1 }) rows
+
+-- and so without one for the first, if it has its word
 pub rows_fit : (w : Walk) (rows : List (ℕ × ℕ)) → IsSome (w.state.tasks.parents w.state.tasks.current) → AreRegisters rows → FitInTurn w (register_records w.state rows)
 rows_fit w [] task are = tt
-rows_fit w (row ∷ rows) task are = (
-  record { task = task; register = are 0 row (omega arith) },
-  rows_fit (record w { state = with_word w.state row.0 row.1 }) rows task (λ j d below. are (suc j) d (omega (arith, below))),
-)
+rows_fit w (row ∷ rows) task are = go (w.state.tasks.words w.state.tasks.current row.0 == row.1) where
+  go : (b : Bool) → FitInTurn w ((if b then [] else register_record w.state.tasks.current row ∷ []) ++ map (register_record w.state.tasks.current) rows)
+  go true = each_fit w rows task (λ j d below. are (suc j) d (omega (arith, below)))
+  go false = each_fit w (row ∷ rows) task are
 
 pub rows_walk : (w : Walk) (rows : List (ℕ × ℕ)) → walk w (register_records w.state rows) ≡ record w { state = with_rows w.state rows }
 rows_walk w [] = refl
-rows_walk w (row ∷ rows) = rows_walk (record w { state = with_word w.state row.0 row.1 }) rows
+rows_walk w (row ∷ rows) = go (w.state.tasks.words w.state.tasks.current row.0 == row.1) refl where
+  go : (b : Bool) → (w.state.tasks.words w.state.tasks.current row.0 == row.1) ≡ b
+      → walk w ((if b then [] else register_record w.state.tasks.current row ∷ []) ++ map (register_record w.state.tasks.current) rows) ≡ record w { state = with_rows w.state (row ∷ rows) }
+  go true e =
+      let is = eqb-true (w.state.tasks.words w.state.tasks.current row.0) row.1 e in
+      each_walk w rows ∙ ap (λ (m : StorageState). record w { state = with_rows m rows }) (sym (with_its_word w.state row.0 row.1 is))
+  go false e = each_walk w (row ∷ rows)
+
+-- The records of another state are the same, if it has the same words of the same current task.
+pub same_rows : (m n : StorageState) (rows : List (ℕ × ℕ)) → n.tasks.current ≡ m.tasks.current
+    → ((r : ℕ) → n.tasks.words m.tasks.current r ≡ m.tasks.words m.tasks.current r) → register_records n rows ≡ register_records m rows
+same_rows m n rows current words =
+    ap (λ c. set_records c (n.tasks.words c) rows) current ∙ (λ i. set_records m.tasks.current (λ r. words r i) rows)
+
+-- a return code that register 15 has, or gets
+pub code_stays : (task : ℕ) (words : ℕ → ℕ) (code : ℕ) → words 15 ≡ code → set_records task words ((15, code) ∷ []) ≡ []
+code_stays task words code e = ap (λ b. (if b then [] else register_record task (15, code) ∷ []) ++ []) (eq-eqb (words 15) code e)
+
+pub code_changes : (task : ℕ) (words : ℕ → ℕ) (code : ℕ) → words 15 ≢ code → set_records task words ((15, code) ∷ []) ≡ register_record task (15, code) ∷ []
+code_changes task words code e = ap (λ b. (if b then [] else register_record task (15, code) ∷ []) ++ []) (ne_eqb (words 15) code e)
+
+-- behind the first register each has a record
+pub rows_behind : (task : ℕ) (words : ℕ → ℕ) (row : ℕ × ℕ) (rows : List (ℕ × ℕ))
+    → set_records task words (row ∷ []) ++ map (register_record task) rows ≡ set_records task words (row ∷ rows)
+rows_behind task words row rows = append_assoc (if words row.0 == row.1 then [] else register_record task row ∷ []) [] (map (register_record task) rows)
+
+pub few_records : (task : ℕ) (words : ℕ → ℕ) (row : ℕ × ℕ) (rows : List (ℕ × ℕ)) → length (set_records task words (row ∷ rows)) ≤ suc (length rows)
+few_records task words row rows = go (words row.0 == row.1) where
+  go : (b : Bool) → length ((if b then [] else register_record task row ∷ []) ++ map (register_record task) rows) ≤ suc (length rows)
+  go true = omega (arith, length-map rows (register_record task))
+  go false = omega (arith, length-map rows (register_record task))
 
 pub rows_go :
     (m : StorageState) (b g : ℕ → Option ℕ) (s left : ℕ) (rows : List (ℕ × ℕ)) → IsSome (m.tasks.parents m.tasks.current) → AreRegisters rows → left ≤ s

@@ -1,5 +1,5 @@
 -- The records of a change that takes an area, gives one back, writes bytes or sets registers.
-use Rattle.std.specs.Prelude.{ℕ, zero, suc, ◌+◌, ◌-◌, ◌*◌, ◌/◌, Bool, true, false, if◌then◌else◌, Option}
+use Rattle.std.specs.Prelude.{ℕ, zero, suc, ◌+◌, ◌-◌, ◌*◌, ◌/◌, Bool, true, false, ◌==◌, if◌then◌else◌, Option}
 use Rattle.std.specs.Prelude.{List, [], ◌∷◌, ◌++◌, map, length, slice_get}
 use Rattle.std.specs.List.{range_with_len}
 use Rattle.run_set.specs.Runs.{Run}
@@ -91,7 +91,17 @@ write_records m address bytes =
     map (λ block. Bytes (record { block = block; bytes = read (bytes_with m.bytes address bytes) (16 * block) 16 }))
     (range_with_len (address / 16) (blocks_for address (length bytes)))
 
--- registers of the current task, with their words
+-- a register of a task gets a word
+abbrev pub register_record : ℕ → ℕ × ℕ → Record
+register_record task row = Register (record { task = task; register = row.0; word = row.1 })
+
+-- Registers of a task get words. The first of them, which has the return code, mostly has its word already, and then no
+-- record.
+abbrev pub set_records : ℕ → (ℕ → ℕ) → List (ℕ × ℕ) → List Record
+set_records task words [] = []
+set_records task words (row ∷ rows) =
+    (if words row.0 == row.1 then [] else register_record task row ∷ []) ++ map (register_record task) rows
+
+-- those of the current task
 abbrev pub register_records : StorageState → List (ℕ × ℕ) → List Record
-register_records m rows =
-    map (λ row. Register (record { task = m.tasks.current; register = row.0; word = row.1 })) rows
+register_records m rows = set_records m.tasks.current (m.tasks.words m.tasks.current) rows

@@ -1,5 +1,5 @@
 -- How many elements the change of a task that comes has, and that of tasks that end.
-use Rattle.std.proofs.Common.{◌≡◌, ℕ, ◌+◌, ◌*◌, ◌≤◌, Bool, true, false, List, [], ◌∷◌, ◌++◌, length, Option, Some, None, Result, Ok, Err, IfOk, refl, arith}
+use Rattle.std.proofs.Common.{ℕ, ◌+◌, ◌*◌, ◌≤◌, Bool, true, false, List, [], ◌∷◌, ◌++◌, length, Option, Some, None, Result, Ok, Err, IfOk, arith}
 use Rattle.std.specs.List.{flat_map}
 use Rattle.std.proofs.lemmas.List.{length-append}
 use Rattle.vsm_model.specs.declared.replies.Reply.{Reply}
@@ -14,6 +14,7 @@ use Rattle.storage_swap.specs.Reserve.{Reserves}
 use Rattle.storage_changes.specs.Attaching.{given_records, gift_records, sharing_records, share_records, zero_records, attach_records, attach_blanks}
 use Rattle.storage_changes.specs.Ending.{ended_below, end_records, with_turn}
 use Rattle.storage_changes.proofs.EndCounts.{ends_are_short}
+use Rattle.storage_changes.proofs.Rows.{few_records}
 use Rattle.task_plans.specs.declared.attach.AttachPlan.{AttachPlan}
 use Rattle.task_plans.specs.declared.end.EndPlan.{EndPlan}
 use Rattle.task_plans.specs.TaskPlans.{numbers, attach_change, end_change, end_registers, parks_all}
@@ -43,7 +44,7 @@ zero-short : (m : StorageState) (task : ℕ) (shares : Bool) → length (zero_re
 zero-short m task true = sharing-short m.tasks.current task 0 (m.subpools.sight m.tasks.current 0)
 zero-short m task false = omega arith
 
-pub attach-short : (m : StorageState) (task : ℕ) (shares_zero : Bool) (gifts shares : List ℕ) (rows : List (ℕ × ℕ)) → length (register_records m rows) ≡ 2 →
+pub attach-short : (m : StorageState) (task : ℕ) (shares_zero : Bool) (gifts shares : List ℕ) (rows : List (ℕ × ℕ)) → length (register_records m rows) ≤ 2 →
     length (attach_records m task shares_zero gifts shares ++ register_records m rows) + attach_blanks gifts shares ≤ 32 + 4 * (length gifts + length shares)
 attach-short m task shares_zero gifts shares rows two =
     let begins = zero_records m task shares_zero in
@@ -62,7 +63,8 @@ attach-short m task shares_zero gifts shares rows two =
 
 pub attach-fits : (m : StorageState) (plan : AttachPlan) → length (attach_change m plan).records + (attach_change m plan).blanks ≤ elements_needed m (Attach plan)
 attach-fits m plan =
-    attach-short m plan.task plan.attach.shares_zero (numbers m plan.attach.given) (numbers m plan.attach.shared) ((15, 0) ∷ (1, plan.task) ∷ []) refl
+    attach-short m plan.task plan.attach.shares_zero (numbers m plan.attach.given) (numbers m plan.attach.shared) ((15, 0) ∷ (1, plan.task) ∷ [])
+    (few_records m.tasks.current (m.tasks.words m.tasks.current) (15, 0) ((1, plan.task) ∷ []))
 
 pub attach_few : {E : Type 0} (p t : Parts) (m : StorageState) (plan : AttachPlan) (r : Result Change E) → IfOk r (λ c. Reserves p (attach_change m plan) c t) →
     IfOk r (λ c. c.records.count + c.blanks.count ≤ elements_needed m (Attach plan))
@@ -72,7 +74,7 @@ attach_few p t m plan r made =
 
 one-register : (m : StorageState) (reply : Reply) → length (register_records m (end_registers reply)) ≤ 1
 one-register m (Obtained address length) = omega arith
-one-register m (Returned code) = omega arith
+one-register m (Returned code) = few_records m.tasks.current (m.tasks.words m.tasks.current) (15, code) []
 one-register m (Cell cell) = omega arith
 one-register m (Attached task) = omega arith
 one-register m (Turn task) = omega arith

@@ -1,6 +1,6 @@
 -- Pages for which a change has frames come to be assigned by its records.
 use Rattle.std.specs.Prelude.{⊤}
-use Rattle.std.proofs.Common.{◌≡◌, ℕ, zero, suc, ◌+◌, ◌-◌, ◌*◌, Bool, true, false, List, [], ◌∷◌, ◌++◌, refl, ◌∙◌, arith}
+use Rattle.std.proofs.Common.{◌≡◌, ℕ, zero, suc, ◌+◌, ◌-◌, ◌*◌, Bool, true, false, ◌==◌, if◌then◌else◌, List, [], ◌∷◌, ◌++◌, map, refl, ◌∙◌, arith}
 use Rattle.std.proofs.lemmas.Bool.{cond-true}
 use Rattle.run_set.specs.Runs.{inside}
 use Rattle.storage_changes.proofs.ActionCases.{inside_in}
@@ -11,7 +11,7 @@ use Rattle.storage_changes.specs.declared.record.Record.TheVariants.{Area, Exten
 use Rattle.storage_changes.specs.State.{StorageState}
 use Rattle.storage_changes.specs.Steps.{step, walk}
 use Rattle.storage_changes.specs.Walk.{Walk}
-use Rattle.storage_changes.specs.StorageActions.{area_records, own_records, register_records, run_of}
+use Rattle.storage_changes.specs.StorageActions.{area_records, own_records, register_record, register_records, run_of}
 use Rattle.storage_plans.specs.declared.places.AreaPlace.{AreaPlace}
 use Rattle.storage_plans.specs.declared.places.AreaPlace.TheVariants.{Inside, Fresh}
 use Rattle.storage_plans.specs.ObtainPlans.{place_pages, place_records}
@@ -42,9 +42,16 @@ pub both_keep : (rs ss : List Record) → KeepPages rs → KeepPages ss → Keep
 both_keep [] ss one other = other
 both_keep (r ∷ rs) ss one other = (one.0, both_keep rs ss one.1 other)
 
+each_keeps : (task : ℕ) (rows : List (ℕ × ℕ)) → KeepPages (map (register_record task) rows)
+each_keeps task [] = tt
+each_keeps task (row ∷ rows) = (tt, each_keeps task rows)
+
 pub registers_keep : (m : StorageState) (rows : List (ℕ × ℕ)) → KeepPages (register_records m rows)
 registers_keep m [] = tt
-registers_keep m (row ∷ rows) = (tt, registers_keep m rows)
+registers_keep m (row ∷ rows) = go (m.tasks.words m.tasks.current row.0 == row.1) where
+  go : (b : Bool) → KeepPages ((if b then [] else register_record m.tasks.current row ∷ []) ++ map (register_record m.tasks.current) rows)
+  go true = each_keeps m.tasks.current rows
+  go false = (tt, each_keeps m.tasks.current rows)
 
 area_keeps : (p : Subpool) (start count : ℕ) (free : Bool) → KeepPages (area_records p start count free)
 area_keeps p start zero free = tt

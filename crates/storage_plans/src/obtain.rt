@@ -5,7 +5,7 @@ ghost use Rattle.vsm_model.specs.declared.replies.Reply.TheVariants.{Obtained};
 ghost use Rattle.vsm_model.specs.Regions.{pages_for, settings_valid};
 ghost use Rattle.vsm_model.specs.Services.{obtain};
 ghost use Rattle.storage_changes.specs.StorageActions.{own_records, register_records, run_of, take_fresh_records};
-ghost use Rattle.storage_swap.specs.Storage.{state_of};
+ghost use Rattle.storage_swap.specs.Storage.{state_of, Stand};
 ghost use Rattle.storage_plans.specs.ObtainPlans.{reply_registers, obtain_records, place_address, place_blanks};
 ghost use Rattle.storage_plans.specs.ObtainPlans.{place_pages, place_records};
 ghost use Rattle.storage_plans.specs.Places.{StandsSound};
@@ -15,6 +15,7 @@ use crate::areas::{FoundArea, find_area};
 use crate::places::AreaPlace;
 use crate::plan::{
     NO_PAGES, PlanRecords, PlannedStorage, StoragePlan, answer_cause, push_area, push_register,
+    push_return,
 };
 use arrayvec::ArrayVec;
 use descriptor_queue::Page;
@@ -91,16 +92,17 @@ pub fn push_place(records: &mut PlanRecords, subpool: Subpool, place: AreaPlace,
     }
 }
 
-// Up to four more records: the return code 0, the address in register 1 and in the one that is named, and the length in
-// register 0 where it was asked for by bounds.
+// Up to four more records: the return code 0 if register 15 has another word, the address in register 1 and in the one
+// that is named, and the length in register 0 where it was asked for by bounds.
 fn push_reply(records: &mut PlanRecords, storage: &Parts, o: Obtain, address: u32, length: u32)
     requires few { array_vec_len records.old ≤ 4 }
+    requires stands { Stand storage.now }
     ensures records { records.new.items
         ≡ records.old.items
         ++ register_records (state_of storage.now) (reply_registers o.lengths o.register address length) }
 {
     let current = storage.tasks.current();
-    push_register(records, current, 15, 0);
+    push_return(records, storage, 0);
     push_register(records, current, 1, address);
     if let Lengths::Variable { .. } = o.lengths {
         push_register(records, current, 0, length);
@@ -135,7 +137,8 @@ pub fn needs_of(place: AreaPlace, count: u32) -> (u32, Run)
 
 // The plan that takes the area that was found, with its address and its length in the registers.
 fn plan_area(storage: &Parts, found: FoundArea, o: Obtain) -> StoragePlan
-    requires { (place_address found.place < 2 ^ 32) × (0 < found.count) × (found.count < 2 ^ 29) }
+    requires stands { Stand storage.now }
+    requires words { (place_address found.place < 2 ^ 32) × (0 < found.count) × (found.count < 2 ^ 29) }
     ensures emptied { result.emptied ≡ None }
     ensures records { result.records.items ≡ obtain_records (state_of storage.now) found o }
     ensures blanks { result.blanks ≡ place_blanks found.place }

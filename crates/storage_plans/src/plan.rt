@@ -9,7 +9,7 @@ ghost use Rattle.vsm_model.specs.Step.{causes};
 ghost use Rattle.storage_changes.specs.Meaning.{model_of, IsSound};
 ghost use Rattle.storage_changes.specs.declared.record.Record.TheVariants.{Register};
 ghost use Rattle.storage_changes.specs.StorageActions.{area_records, register_records, run_of};
-ghost use Rattle.storage_swap.specs.Storage.{state_of};
+ghost use Rattle.storage_swap.specs.Storage.{state_of, Stand};
 ghost use Rattle.storage_plans.specs.Plans.{IsPlanned};
 
 use arrayvec::ArrayVec;
@@ -75,8 +75,23 @@ pub fn push_register(records: &mut PlanRecords, task: u8, register: u8, word: u3
     }));
 }
 
+/// Register 15 of the current task gets the return code: one more record, and none if it has that already.
+pub fn push_return(records: &mut PlanRecords, storage: &Parts, code: u32)
+    requires few { array_vec_len records.old < 8 }
+    requires stands { Stand storage.now }
+    ensures records { records.new.items
+        ≡ records.old.items ++ register_records (state_of storage.now) ((15, code) ∷ []) }
+    ensures few { array_vec_len records.new ≤ array_vec_len records.old + 1 }
+{
+    let current = storage.tasks.current();
+    if storage.tasks.register(&storage.elements, current, 15) != code {
+        push_register(records, current, 15, code);
+    }
+}
+
 /// The plan of a conditional request that can't be met: register 15 gets 4, and nothing else changes.
 pub fn answer_four(storage: &Parts) -> StoragePlan
+    requires { Stand storage.now }
     ensures emptied { result.emptied ≡ None }
     ensures records { result.records.items ≡ register_records (state_of storage.now) ((15, 4) ∷ []) }
     ensures blanks { result.blanks ≡ 0 }
@@ -84,7 +99,7 @@ pub fn answer_four(storage: &Parts) -> StoragePlan
     ensures reply { result.reply ≡ Returned 4 }
 {
     let mut records = ArrayVec::new();
-    push_register(&mut records, storage.tasks.current(), 15, 4);
+    push_return(&mut records, storage, 4);
     StoragePlan {
         emptied: None,
         records,
@@ -97,6 +112,7 @@ pub fn answer_four(storage: &Parts) -> StoragePlan
 /// What a request is answered of which this is the first cause: a plan that sets register 15 to 4, where it is
 /// conditional and the cause is one of those that such a form answers so; else the cause refuses it.
 pub fn answer_cause(storage: &Parts, cause: Cause, conditional: bool) -> PlannedStorage
+    requires { Stand storage.now }
     ensures emptied { IfOk result (λ plan. plan.emptied ≡ None) }
     ensures planned { (settings : Settings) (names_full : Bool) (x : Service)
         → ∥ IsSound settings (state_of storage.now) ∥₁

@@ -19,7 +19,7 @@ ghost use Rattle.storage_plans.specs.Releases.{IsGivenBack, area_cause, release_
 
 use crate::areas::check_number;
 use crate::plan::{
-    NO_PAGES, PlanRecords, PlannedStorage, StoragePlan, answer_cause, push_area, push_register,
+    NO_PAGES, PlanRecords, PlannedStorage, StoragePlan, answer_cause, push_area, push_return,
 };
 use crate::searches::pages_on;
 use arrayvec::ArrayVec;
@@ -313,7 +313,7 @@ fn give_back(storage: &Parts, found: GivenBack) -> StoragePlan
     let pages = emptied(storage, found.subpool, found.area);
     let mut records = ArrayVec::new();
     push_given_back(&mut records, found, pages);
-    push_register(&mut records, storage.tasks.current(), 15, 0);
+    push_return(&mut records, storage, 0);
     StoragePlan {
         emptied: None,
         records,

@@ -14,7 +14,7 @@ ghost use Rattle.storage_plans.specs.Places.{StandsSound};
 ghost use Rattle.storage_plans.specs.Plans.{IsPlanned};
 
 use crate::areas::check_number;
-use crate::plan::{NO_PAGES, PlannedStorage, StoragePlan, push_register};
+use crate::plan::{NO_PAGES, PlannedStorage, StoragePlan, push_return};
 use arrayvec::ArrayVec;
 use storage_changes::tables::rows_of_the_others_stay;
 use storage_swap::Parts;
@@ -51,6 +51,7 @@ fn find_owned(storage: &Parts, number: u32) -> Result<Subpool, Cause>
 
 // The plan of a release that no cause refuses.
 fn empty(storage: &Parts, subpool: Subpool) -> StoragePlan
+    requires { Stand storage.now }
     ensures emptied { result.emptied ≡ Some subpool }
     ensures records { result.records.items ≡ register_records (state_of storage.now) ((15, 0) ∷ []) }
     ensures blanks { result.blanks ≡ 1 }
@@ -58,7 +59,7 @@ fn empty(storage: &Parts, subpool: Subpool) -> StoragePlan
     ensures reply { result.reply ≡ Returned 0 }
 {
     let mut records = ArrayVec::new();
-    push_register(&mut records, storage.tasks.current(), 15, 0);
+    push_return(&mut records, storage, 0);
     StoragePlan {
         emptied: Some(subpool),
         records,

@@ -5,7 +5,8 @@ ghost use Rattle.vsm_elements.specs.Store.{made, live_count};
 ghost use Rattle.subpool_storage.specs.Held.{GivenBack};
 ghost use Rattle.subpool_storage.specs.Subpools.{no_subpools};
 ghost use Rattle.storage_swap.specs.declared.storage.Parts.{Parts as TheStorage};
-ghost use Rattle.storage_swap.specs.Storage.{hold, Stand, IsFrameless};
+ghost use Rattle.storage_changes.specs.StorageActions.{set_records};
+ghost use Rattle.storage_swap.specs.Storage.{hold, state_of, Stand, IsFrameless};
 ghost use Rattle.storage_swap.specs.Growth.{MakesElements};
 ghost use Rattle.storage_swap.specs.Builder.{builder_holds, records_in, parked_in};
 ghost use Rattle.storage_swap.specs.Builder.{IsBuilding, Keeps, Builds, Pushes, Parks, Finishes};
@@ -16,7 +17,7 @@ use crate::reserve::take_blanks;
 use crate::storage::Parts;
 use raw_region::Parked;
 use std::alloc::AllocError;
-use storage_changes::Record;
+use storage_changes::{Record, RegisterRecord};
 use subpool_storage::SubpoolStorage;
 use vsm_elements::{Chain, Id};
 use vsm_model::Subpool;
@@ -69,6 +70,36 @@ impl ChangeBuilder {
         storage.elements.reserve(1)?;
         self.last = append(&mut storage.elements, &mut self.records, self.last, added);
         Ok(())
+    }
+
+    /// Register 15 of the task gets the return code: one record more, and none if it has that already.
+    ///
+    /// `AllocError` where no element is spare and memory is refused: the records then stay as they are, and at most a
+    /// block of elements is made.
+    pub fn push_return(
+        &mut self,
+        storage: &mut Parts,
+        task: u8,
+        code: u32,
+    ) -> Result<(), AllocError>
+        requires { IsBuilding storage.old self.old }
+        ensures builds { Builds storage.old self.old storage.new self.new }
+        ensures ok { OnOk result (Pushes storage.old self.old
+            (set_records task ((state_of storage.old).tasks.words task) ((15, code) ∷ [])) storage.new self.new) }
+        ensures made { OnErr result (MakesElements storage.old.elements storage.new.elements
+            (length (set_records task ((state_of storage.old).tasks.words task) ((15, code) ∷ [])))) }
+        ensures needless { length (set_records task ((state_of storage.old).tasks.words task) ((15, code) ∷ []))
+            ≤ storage.old.elements.spare → IsOk result }
+    {
+        if storage.tasks.register(&storage.elements, task, 15) == code {
+            return Ok(());
+        }
+        let returned = Record::Register(RegisterRecord {
+            task,
+            register: 15,
+            word: code,
+        });
+        self.push(storage, returned)
     }
 
     /// Parks an empty subpool of this name, whose storage a record of the change can take over. None of this name may

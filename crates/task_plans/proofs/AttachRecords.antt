@@ -1,5 +1,5 @@
 -- The records of a task that comes.
-use Rattle.std.proofs.Common.{◌≡◌, ℕ, ◌+◌, ◌<◌, ◌≤◌, true, List, [], ◌∷◌, length, length-append, Result, OnOk, sym, ap, ◌∙◌, subst, arith}
+use Rattle.std.proofs.Common.{◌≡◌, ℕ, ◌+◌, ◌<◌, ◌≤◌, true, List, [], ◌∷◌, ◌++◌, length, length-append, Result, OnOk, refl, sym, ap, ◌∙◌, subst, arith}
 use Rattle.std.specs.List.{flat_map}
 use Rattle.storage_changes.specs.declared.record.Record.{Record}
 use Rattle.storage_changes.specs.declared.record.Record.TheVariants.{Task, Register}
@@ -9,13 +9,14 @@ use Rattle.storage_swap.specs.Storage.{state_of}
 use Rattle.storage_swap.specs.declared.builder.ChangeBuilder.{ChangeBuilder}
 use Rattle.storage_swap.specs.Builder.{Builds, Pushes}
 use Rattle.storage_swap.proofs.BuilderLemmas.{pushes-follow, made-more, refused-made}
-use Rattle.storage_changes.specs.StorageActions.{register_records}
+use Rattle.storage_changes.specs.StorageActions.{register_record, register_records, set_records}
+use Rattle.storage_changes.proofs.Rows.{rows_behind}
 use Rattle.storage_changes.specs.Attaching.{attach_records, gift_records, share_records, zero_records}
 use Rattle.task_plans.specs.declared.attach.AttachPlan.{AttachPlan}
 use Rattle.task_plans.specs.TaskPlans.{attach_change, numbers}
 use Rattle.task_plans.proofs.Walks.{ok_follows}
 use Rattle.storage_swap.specs.Growth.{MakesElements}
-use Rattle.vsm_elements.specs.Store.{Store}
+use Rattle.vsm_elements.specs.Store.{Store, live_count}
 
 -- the four kinds of them
 module _ (plan : AttachPlan) where
@@ -37,31 +38,51 @@ module _ (plan : AttachPlan) where
       let P : ℕ → Type 0 = λ n. Pushes s a (Task (record { task = plan.task; parent = n; present = true }) ∷ []) t b in
       subst P is pushes
 
--- the two registers
-pub registers_pushed : {E : Type 0} (s t u : Parts) (a b c : ChangeBuilder) (m : StorageState) (task now word : ℕ) (x y : Record) (r : Result (Unit {0}) E)
-    → now ≡ m.tasks.current → x ≡ Register (record { task = now; register = 15; word = 0 }) → word ≡ task → y ≡ Register (record { task = now; register = 1; word = word })
-    → Pushes s a (x ∷ []) t b → OnOk r (Pushes t b (y ∷ []) u c) → OnOk r (Pushes s a (register_records m ((15, 0) ∷ (1, task) ∷ [])) u c)
-registers_pushed s t u a b c m task now word x y r is code same number first second =
-    let P : List Record → Type 0 = λ rs. OnOk r (Pushes s a rs u c) in
-    subst P (λ i. its-code i ∷ its-number i ∷ []) (ok_follows s t u a b c (x ∷ []) (y ∷ []) r first second) where
-      its-code : x ≡ Register (record { task = m.tasks.current; register = 15; word = 0 })
-      its-code = code ∙ ap (λ (n : ℕ). Register (record { task = n; register = 15; word = 0 })) is
+-- the record of the return code, if it has one, and that of register 1
+module _ (m : StorageState) (task now : ℕ) (is : now ≡ m.tasks.current) where
+  abbrev pub code : ℕ → List Record
+  code current = set_records current (m.tasks.words current) ((15, 0) ∷ [])
 
-      its-number : y ≡ Register (record { task = m.tasks.current; register = 1; word = task })
-      its-number = number ∙ (λ i. Register (record { task = is i; register = 1; word = same i }))
+  abbrev both : List Record
+  both = register_records m ((15, 0) ∷ (1, task) ∷ [])
 
-pub one_of_two : (n : ℕ) → 2 ≤ n → 0 < n
-one_of_two n h = omega arith
+  both_are : (word : ℕ) (y : Record) → word ≡ task → y ≡ Register (record { task = now; register = 1; word = word }) → code now ++ y ∷ [] ≡ both
+  both_are word y same number =
+      ap (λ (x : Record). code now ++ x ∷ []) (number ∙ (λ i. Register (record { task = is i; register = 1; word = same i })))
+      ∙ ap (λ (current : ℕ). code current ++ register_record m.tasks.current (1, task) ∷ []) is
+      ∙ rows_behind m.tasks.current (m.tasks.words m.tasks.current) (15, 0) ((1, task) ∷ [])
 
-pub two_less_one : (n k : ℕ) → 2 ≤ n → n ≤ k + 1 → 0 < k
-two_less_one n k h less = omega arith
+  pub both_counted : length both ≡ length (code now) + 1
+  both_counted =
+      let y : Record = Register (record { task = now; register = 1; word = task }) in
+      sym (ap (λ (rs : List Record). length rs) (both_are task y refl refl)) ∙ length-append (code now) (y ∷ [])
+
+  pub registers_pushed : {E : Type 0} (s t u : Parts) (a b c : ChangeBuilder) (word : ℕ) (y : Record) (r : Result (Unit {0}) E)
+      → word ≡ task → y ≡ Register (record { task = now; register = 1; word = word })
+      → Pushes s a (code now) t b → OnOk r (Pushes t b (y ∷ []) u c) → OnOk r (Pushes s a both u c)
+  registers_pushed s t u a b c word y r same number first second =
+      let P : List Record → Type 0 = λ rs. OnOk r (Pushes s a rs u c) in
+      subst P (both_are word y same number) (ok_follows s t u a b c (code now) (y ∷ []) r first second)
+
+  pub code_room : (n : ℕ) → length both ≤ n → length (code now) ≤ n
+  code_room n h = omega (arith, h, both_counted)
+
+  pub number_room : (n k : ℕ) → length both ≤ n → n ≤ k + length (code now) → 0 < k
+  number_room n k h less = omega (arith, h, less, both_counted)
+
+  pub code_refused : (s e : Store) → MakesElements s e (length (code now)) → MakesElements s e (length both)
+  code_refused s e = made-more s e (length (code now)) (length both) (omega (arith, both_counted))
+
+  pub number_refused : (s t e : Store) → MakesElements s t (length (code now)) → live_count t ≤ live_count s + length (code now)
+      → MakesElements t e 1 → MakesElements s e (length both)
+  number_refused s t e first live = refused-made s t e (length (code now)) 1 (length both) first live (omega (arith, both_counted))
 
 -- room for both is room for the first, and behind it for the second
 both-first : (k l s : ℕ) → k + l ≤ s → k ≤ s
 both-first k l s h = omega arith
 
-both-second : (k s t : ℕ) → k + 2 ≤ s → s ≤ t + k → 2 ≤ t
-both-second k s t h less = omega arith
+both-second : (k l s t : ℕ) → k + l ≤ s → s ≤ t + k → l ≤ t
+both-second k l s t h less = omega arith
 
 -- The numbers are what the operands name.
 module _ (plan : AttachPlan) (s : Parts) (given shared : List ℕ) (is-given : given ≡ numbers (state_of s) plan.attach.given) (is-shared : shared ≡ numbers (state_of s) plan.attach.shared) where
@@ -77,27 +98,32 @@ module _ (plan : AttachPlan) (s : Parts) (given shared : List ℕ) (is-given : g
   named : of-task given shared ≡ of-task (numbers (state_of s) plan.attach.given) (numbers (state_of s) plan.attach.shared)
   named = λ i. of-task (is-given i) (is-shared i)
 
-  sizes : length whole ≡ length (of-task given shared) + 2
+  sizes : length whole ≡ length (of-task given shared) + length (its-registers (state_of s))
   sizes =
       length-append (of-task (numbers (state_of s) plan.attach.given) (numbers (state_of s) plan.attach.shared)) (its-registers (state_of s))
-      ∙ ap (λ (xs : List Record). length xs + 2) (sym named)
+      ∙ ap (λ (xs : List Record). length xs + length (its-registers (state_of s))) (sym named)
 
   pub task_room : length whole ≤ s.elements.spare → length (of-task given shared) ≤ s.elements.spare
   task_room h =
       let P : ℕ → Type 0 = λ n. n ≤ s.elements.spare in
-      both-first (length (of-task given shared)) 2 s.elements.spare (subst P sizes h)
+      both-first (length (of-task given shared)) (length (its-registers (state_of s))) s.elements.spare (subst P sizes h)
 
   pub task_refused : (e : Store) → MakesElements s.elements e (length (of-task given shared)) → MakesElements s.elements e (length whole)
   task_refused e = made-more s.elements e (length (of-task given shared)) (length whole) (omega (arith, sizes))
 
   module _ (t : Parts) (a b : ChangeBuilder) (one : Builds s a t b) (first : Pushes s a (of-task given shared) t b) where
-    pub registers_room : length whole ≤ s.elements.spare → 2 ≤ t.elements.spare
+    pub registers_room : length whole ≤ s.elements.spare → length (its-registers (state_of t)) ≤ t.elements.spare
     registers_room h =
         let P : ℕ → Type 0 = λ n. n ≤ s.elements.spare in
-        both-second (length (of-task given shared)) s.elements.spare t.elements.spare (subst P sizes h) first.spare
+        let Q : StorageState → Type 0 = λ m. length (its-registers m) ≤ t.elements.spare in
+        subst Q (sym one.keeps.shows)
+        (both-second (length (of-task given shared)) (length (its-registers (state_of s))) s.elements.spare t.elements.spare (subst P sizes h) first.spare)
 
-    pub registers_refused : (e : Store) → MakesElements t.elements e 2 → MakesElements s.elements e (length whole)
-    registers_refused e = refused-made s.elements t.elements e (length (of-task given shared)) 2 (length whole) first.made first.live (omega (arith, sizes))
+    pub registers_refused : (e : Store) → MakesElements t.elements e (length (its-registers (state_of t))) → MakesElements s.elements e (length whole)
+    registers_refused e more =
+        let Q : StorageState → Type 0 = λ m. MakesElements t.elements e (length (its-registers m)) in
+        refused-made s.elements t.elements e (length (of-task given shared)) (length (its-registers (state_of s))) (length whole) first.made first.live (omega (arith, sizes))
+        (subst Q one.keeps.shows more)
 
     pub attach_pushed : (u : Parts) (c : ChangeBuilder) → Pushes t b (its-registers (state_of t)) u c → Pushes s a whole u c
     attach_pushed u c second =

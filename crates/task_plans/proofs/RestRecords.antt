@@ -1,11 +1,11 @@
 -- The records of an end that stand behind the turn.
-use Rattle.std.proofs.Common.{◌≡◌, ℕ, ◌<◌, ◌≤◌, List, length, sym, subst, Result, OnErr}
+use Rattle.std.proofs.Common.{◌≡◌, ℕ, ◌≤◌, List, [], ◌∷◌, length, sym, subst, Result, OnErr}
 use Rattle.std.specs.List.{flat_map}
 use Rattle.vsm_model.specs.declared.replies.Reply.{Reply}
 use Rattle.vsm_model.specs.declared.replies.Reply.TheVariants.{Returned}
 use Rattle.storage_changes.specs.declared.record.Record.{Record}
 use Rattle.storage_changes.specs.State.{StorageState}
-use Rattle.storage_changes.specs.StorageActions.{register_records}
+use Rattle.storage_changes.specs.StorageActions.{register_records, set_records}
 use Rattle.storage_changes.specs.Ending.{ended_below, ended_records, removed_records, unshared_records, with_turn}
 use Rattle.task_plans.specs.declared.end.EndPlan.{EndPlan}
 use Rattle.task_plans.specs.TaskPlans.{end_registers, rest_records}
@@ -40,13 +40,17 @@ module _ (plan : EndPlan) where
   abbrev pub registers : StorageState → List Record
   registers m = register_records (with_turn m plan.next) (end_registers plan.reply)
 
-  -- where a code is returned, it's one register
-  pub register_room : (m : StorageState) (code : ℕ) → plan.reply ≡ Returned code → {n : ℕ} → length (registers m) ≤ n → 0 < n
+  -- the return code
+  abbrev pub returned : StorageState → ℕ → List Record
+  returned m code = set_records plan.next (m.tasks.words plan.next) ((15, code) ∷ [])
+
+  -- where one is returned, it's all of the registers
+  pub register_room : (m : StorageState) (code : ℕ) → plan.reply ≡ Returned code → {n : ℕ} → length (registers m) ≤ n → length (returned m code) ≤ n
   register_room m code is {n} room =
       let P : Reply → Type 0 = λ reply. length (register_records (with_turn m plan.next) (end_registers reply)) ≤ n in
       subst P is room
 
-  pub register_refused : {E : Type 0} (m : StorageState) (code : ℕ) → plan.reply ≡ Returned code → (s e : Store) (r : Result (Unit {0}) E) → OnErr r (MakesElements s e 1) → OnErr r (MakesElements s e (length (registers m)))
+  pub register_refused : {E : Type 0} (m : StorageState) (code : ℕ) → plan.reply ≡ Returned code → (s e : Store) (r : Result (Unit {0}) E) → OnErr r (MakesElements s e (length (returned m code))) → OnErr r (MakesElements s e (length (registers m)))
   register_refused m code is s e r =
       let P : Reply → Type 0 = λ reply. OnErr r (MakesElements s e (length (register_records (with_turn m plan.next) (end_registers reply)))) in
       subst P (sym is)

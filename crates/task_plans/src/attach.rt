@@ -67,8 +67,8 @@ pub fn plan_attach(storage: &Parts, request: Attach) -> Result<AttachPlan, Cause
 }
 
 impl AttachPlan {
-    /// The change: a record for the task, one or two for each number that is given or shared, and for subpool 0, and
-    /// one for each of two registers. The state of the storage stays as it is.
+    /// The change: a record for the task, one or two for each number that is given or shared, and for subpool 0, one
+    /// for register 1, and one for register 15 if it isn't 0. The state of the storage stays as it is.
     ///
     /// `AllocError` where memory is refused: what was made before that stays, as spare elements. Where so many elements
     /// are spare as it has records and blank elements, it takes no memory. It uses no more of them. At most a block of
@@ -154,17 +154,19 @@ impl AttachPlan {
         push_shares(storage, builder, self.task, shared)
     }
 
-    // The records of the registers.
+    // The records of registers 15 and 1.
     fn push_registers(self, storage: &mut Parts, builder: &mut Builder) -> Pushed
         requires { IsBuilding storage.old builder.old }
         ensures builds { Builds storage.old builder.old storage.new builder.new }
         ensures ok { OnOk result (Pushes storage.old builder.old
             (register_records (state_of storage.old) ((15, 0) ∷ (1, self.task) ∷ [])) storage.new builder.new) }
-        ensures made { OnErr result (MakesElements storage.old.elements storage.new.elements 2) }
-        ensures needless { 2 ≤ storage.old.elements.spare → IsOk result }
+        ensures made { OnErr result (MakesElements storage.old.elements storage.new.elements
+            (length (register_records (state_of storage.old) ((15, 0) ∷ (1, self.task) ∷ [])))) }
+        ensures needless { length (register_records (state_of storage.old) ((15, 0) ∷ (1, self.task) ∷ []))
+            ≤ storage.old.elements.spare → IsOk result }
     {
         let current = storage.tasks.current();
-        builder.push(storage, set_register(current, 15, 0))?;
+        builder.push_return(storage, current, 0)?;
         builder.push(storage, set_register(current, 1, u32::from(self.task)))
     }
 }

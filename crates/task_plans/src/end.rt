@@ -23,7 +23,6 @@ ghost use Rattle.task_plans.specs.TaskPlans.{end_change, parks_all, ParksAll};
 ghost use Rattle.task_plans.specs.TaskPlans.{rest_records, CanBeEnded, CanPark, IsEndPlanned};
 
 use crate::ended::{EndOfTasks, Tree, is_ended, push_ended, read_parents, tasks_that_end};
-use crate::registers::set_register;
 use crate::sights::{SubpoolInSight, behind_number, first_seen, next_seen};
 use crate::{Builder, Pushed};
 use run_set::RunSet;
@@ -216,7 +215,7 @@ impl EndPlan {
         push_removed(storage, builder, ending)?;
         push_ended(storage, builder, &ending.tree)?;
         match self.reply {
-            Reply::Returned(code) => builder.push(storage, set_register(self.next, 15, code)),
+            Reply::Returned(code) => builder.push_return(storage, self.next, code),
             _ => Ok(()),
         }
     }

@@ -261,7 +261,8 @@ fn whole_release(rt: &impl Abort, storage: &mut Storage) -> Result<u32, Fail> {
     Ok(before.wrapping_sub(behind) % 128)
 }
 
-// A record for the queues, one for the extent and one for register 15; two blank elements; and the parked subpool.
+// A record for the queues and one for the extent, and none for register 15, which is 0; two blank elements; and the
+// parked subpool.
 #[test]
 fn whole_release_takes_elements_for_extents_alone(rt: HostRuntime) -> Result<(), Fail> {
     let settings = Settings {
@@ -270,7 +271,7 @@ fn whole_release_takes_elements_for_extents_alone(rt: HostRuntime) -> Result<(),
     };
     let mut storage = Storage::new(rt.alloc(), settings)?;
     make_free_areas(&mut storage)?;
-    same!(rt; whole_release(&rt, &mut storage)?, 6);
+    same!(rt; whole_release(&rt, &mut storage)?, 5);
     // The free areas are those that there were.
     let granted = Reply::Obtained {
         address: 0x2E000,

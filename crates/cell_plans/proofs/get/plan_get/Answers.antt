@@ -71,8 +71,8 @@ area_place-requires-clause-asked c =
     let count = c.extent_doublewords-count.ensures in
     (omega (arith, count, some), omega (arith, count, few), omega arith, omega arith)
 
-pub plan_further-requires : goal.plan_further-requires
-plan_further-requires c =
+pub plan_further-requires-clause-can : goal.plan_further-requires-clause-can
+plan_further-requires-clause-can c =
     let storage = c.args.storage.now in
     let m = state_of storage in
     let id = c.in_ok-id.id in

@@ -5,8 +5,8 @@ use Rattle.storage_swap.specs.Storage.{state_of}
 use Rattle.storage_plans.proofs.Obtained.{in_words, obtain_carried_out}
 use Rattle.storage_plans.proofs.obtain.plan_obtain.Goals as goal
 
-pub plan_area-requires : goal.plan_area-requires
-plan_area-requires c =
+pub plan_area-requires-clause-words : goal.plan_area-requires-clause-words
+plan_area-requires-clause-words c =
     in_words c.args.settings c.args.names_full (state_of c.args.storage.now) c.args.o c.in-Ok.found c.requires.valid c.in-Ok.ensures.found
 
 pub returns-in-Ok-clause-planned : goal.returns-in-Ok-clause-planned

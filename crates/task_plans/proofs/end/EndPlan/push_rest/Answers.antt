@@ -1,8 +1,7 @@
-use Rattle.std.proofs.Common.{List, [], ◌∷◌, ◌++◌, OnOk, refl, sym, ap, ◌∙◌, subst}
+use Rattle.std.proofs.Common.{List, ◌++◌, OnOk, refl, sym, ap, ◌∙◌, subst}
 use Rattle.std.proofs.lemmas.List.{append-nil}
 use Rattle.vsm_model.specs.declared.replies.Reply.{Reply}
 use Rattle.storage_changes.specs.declared.record.Record.{Record}
-use Rattle.storage_changes.specs.declared.record.Record.TheVariants.{Register}
 use Rattle.storage_changes.specs.StorageActions.{register_records}
 use Rattle.storage_swap.specs.Storage.{state_of}
 use Rattle.storage_swap.specs.Builder.{Pushes}
@@ -11,10 +10,9 @@ use Rattle.storage_changes.specs.Ending.{with_turn}
 use Rattle.task_plans.specs.declared.end.EndPlan.{EndPlan}
 use Rattle.task_plans.specs.TaskPlans.{end_registers, rest_records}
 use Rattle.task_plans.proofs.EndRecords.{never}
-use Rattle.task_plans.proofs.FourSteps.{first_room, second_room, third_room, fourth_room, three_pushed, first_refused, second_refused, third_refused, fourth_refused}
+use Rattle.task_plans.proofs.FourSteps.{first_room, second_room, third_room, fourth_room, three_pushed, four_pushed, first_refused, second_refused, third_refused, fourth_refused}
 use Rattle.task_plans.proofs.RestRecords.{with_top, same_plan, same_room, unseen, gone, tasks, registers, register_room, same_refused, register_refused}
 use Rattle.task_plans.proofs.RecordCounts.{no_register}
-use Rattle.task_plans.proofs.Walks.{ok_follows}
 use Rattle.task_plans.proofs.SightLemmas.{still_ends}
 use Rattle.std.proofs.lemmas.Result.{on_err_weaker}
 use Rattle.task_plans.proofs.end.EndPlan.push_rest.Goals as goal
@@ -46,31 +44,29 @@ returns-in_err-push_ended-clause-needless c = λ h.
 
 pub returns-in-Returned-clause-builds : goal.returns-in-Returned-clause-builds
 returns-in-Returned-clause-builds c =
-    builds-follow _ _ _ _ _ _ (builds-follow _ _ _ _ _ _ (builds-follow _ _ _ _ _ _ c.push_unshared.ensures.builds c.push_removed.ensures.builds) c.push_ended.ensures.builds) c.push.ensures.builds
+    builds-follow _ _ _ _ _ _ (builds-follow _ _ _ _ _ _ (builds-follow _ _ _ _ _ _ c.push_unshared.ensures.builds c.push_removed.ensures.builds) c.push_ended.ensures.builds) c.push_return.ensures.builds
 
 pub returns-in-Returned-clause-ok : goal.returns-in-Returned-clause-ok
 returns-in-Returned-clause-ok c =
     let p = c.args.storage.now in
-    let a = c.args.builder.now in
     let m = state_of p in
-    let next = c.args.self.next in
+    let v = c.push_ended.new.storage in
+    let b = c.push_ended.new.builder in
+    let u = c.push_return.new.storage in
+    let d = c.push_return.new.self in
+    let r = c.push_return.result in
     let plan = with_top c.args.self c.args.ending.now.tree.top in
     let same = same_plan c.args.self c.args.ending.now.tree.top c.requires.top in
-    let base : List Record = unseen plan m ++ gone plan m ++ tasks plan m in
-    let three : Pushes p a base c.push_ended.new.storage c.push_ended.new.builder =
-    three_pushed (unseen plan) (gone plan) (tasks plan) (registers plan) p _ a _ c.push_unshared.ensures.builds c.in_ok-push_unshared.ensures.ok _ _ c.push_removed.ensures.builds c.in_ok-push_removed.ensures.ok _ _ c.push_ended.ensures.builds c.in_ok-push_ended.ensures.ok in
-    let u = c.push.new.storage in
-    let d = c.push.new.self in
-    let R : Record → Type 0 = λ x. OnOk c.push.result (Pushes c.push_ended.new.storage c.push_ended.new.builder (x ∷ []) u d) in
-    let Q : Reply → Type 0 = λ reply. OnOk c.push.result (Pushes p a (base ++ register_records (with_turn m next) (end_registers reply)) u d) in
-    let whole : EndPlan → Type 0 = λ plan. OnOk c.push.result (Pushes p a (rest_records m plan) u d) in
-    subst whole same (subst Q (sym c.in-Returned.is)
-    (ok_follows p c.push_ended.new.storage u a c.push_ended.new.builder d base (Register (record { task = next; register = 15; word = c.in-Returned.code }) ∷ []) c.push.result three (subst R c.set_register.ensures c.push.ensures.ok)))
+    let Q : Reply → Type 0 = λ reply. OnOk r (Pushes v b (register_records (with_turn (state_of v) c.args.self.next) (end_registers reply)) u d) in
+    let whole : EndPlan → Type 0 = λ plan. OnOk r (Pushes p c.args.builder.now (rest_records m plan) u d) in
+    subst whole same
+    (four_pushed (unseen plan) (gone plan) (tasks plan) (registers plan) p _ c.args.builder.now _ c.push_unshared.ensures.builds c.in_ok-push_unshared.ensures.ok _ _ c.push_removed.ensures.builds c.in_ok-push_removed.ensures.ok
+    v b c.push_ended.ensures.builds c.in_ok-push_ended.ensures.ok u d r (subst Q (sym c.in-Returned.is) c.push_return.ensures.ok))
 
 pub returns-in-Returned-clause-needless : goal.returns-in-Returned-clause-needless
 returns-in-Returned-clause-needless c = λ h.
     let plan = with_top c.args.self c.args.ending.now.tree.top in
-    c.push.ensures.needless (register_room plan (state_of c.push_ended.new.storage) c.in-Returned.code c.in-Returned.is
+    c.push_return.ensures.needless (register_room plan (state_of c.push_ended.new.storage) c.in-Returned.code c.in-Returned.is
     (fourth_room (unseen plan) (gone plan) (tasks plan) (registers plan) c.args.storage.now _ c.args.builder.now _ c.push_unshared.ensures.builds c.in_ok-push_unshared.ensures.ok
     _ _ c.push_removed.ensures.builds c.in_ok-push_removed.ensures.ok _ _ c.push_ended.ensures.builds c.in_ok-push_ended.ensures.ok (same_room c.args.self c.args.ending.now.tree.top c.requires.top (state_of c.args.storage.now) h)))
 
@@ -125,7 +121,7 @@ returns-in_err-push_ended-clause-made c =
 pub returns-in-Returned-clause-made : goal.returns-in-Returned-clause-made
 returns-in-Returned-clause-made c =
     let plan = with_top c.args.self c.args.ending.now.tree.top in
-    on_err_weaker c.push.result (same_refused c.args.self c.args.ending.now.tree.top c.requires.top (state_of c.args.storage.now) c.args.storage.now.elements c.push.new.storage.elements)
+    on_err_weaker c.push_return.result (same_refused c.args.self c.args.ending.now.tree.top c.requires.top (state_of c.args.storage.now) c.args.storage.now.elements c.push_return.new.storage.elements)
     (fourth_refused (unseen plan) (gone plan) (tasks plan) (registers plan) c.args.storage.now _ c.args.builder.now _ c.push_unshared.ensures.builds c.in_ok-push_unshared.ensures.ok
-    _ _ c.push_removed.ensures.builds c.in_ok-push_removed.ensures.ok _ _ c.push_ended.ensures.builds c.in_ok-push_ended.ensures.ok c.push.new.storage.elements c.push.result
-    (register_refused plan (state_of c.push_ended.new.storage) c.in-Returned.code c.in-Returned.is c.push_ended.new.storage.elements c.push.new.storage.elements c.push.result c.push.ensures.made))
+    _ _ c.push_removed.ensures.builds c.in_ok-push_removed.ensures.ok _ _ c.push_ended.ensures.builds c.in_ok-push_ended.ensures.ok c.push_return.new.storage.elements c.push_return.result
+    (register_refused plan (state_of c.push_ended.new.storage) c.in-Returned.code c.in-Returned.is c.push_ended.new.storage.elements c.push_return.new.storage.elements c.push_return.result c.push_return.ensures.made))
