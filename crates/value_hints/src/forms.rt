@@ -1,0 +1,311 @@
+//! The operands of each form of each operation, as docs/STATEMENTS.md has them.
+
+use macro_operands::rows::Kind;
+use operand_texts::words::is_word;
+
+/// A keyword, and the kind of its value.
+pub type Keyword = (&'static [u8], Kind);
+
+/// What can be written after an operation that has one of these forms.
+pub struct Form {
+    pub operation: &'static [u8],
+    /// What the first operand is. None where the operation has no forms.
+    pub words: &'static [&'static [u8]],
+    /// The operands without a keyword.
+    pub positions: &'static [Kind],
+    pub keywords: &'static [Keyword],
+}
+
+/// The keywords that may be written in each form of these operations.
+static EVERYWHERE: [Keyword; 3] = [
+    (b"RELATED", Kind::Any),
+    (b"LINKAGE", Kind::Any),
+    (b"REGS", Kind::Any),
+];
+
+static WITH_THESE: [&[u8]; 6] = [
+    b"STORAGE",
+    b"GETMAIN",
+    b"FREEMAIN",
+    b"CPOOL",
+    b"ATTACH",
+    b"DETACH",
+];
+
+/// The forms, in the order of docs/STATEMENTS.md.
+static FORMS: [Form; 21] = [
+    Form {
+        operation: b"STORAGE",
+        words: &[b"OBTAIN"],
+        positions: &[],
+        keywords: &[
+            (b"LENGTH", Kind::Length),
+            (b"SP", Kind::Value),
+            (b"ADDR", Kind::Place),
+            (b"BNDRY", Kind::Boundary),
+            (b"LOC", Kind::Location),
+            (b"COND", Kind::Condition),
+        ],
+    },
+    Form {
+        operation: b"STORAGE",
+        words: &[b"RELEASE"],
+        positions: &[],
+        keywords: &[
+            (b"LENGTH", Kind::Value),
+            (b"ADDR", Kind::Value),
+            (b"SP", Kind::Value),
+            (b"COND", Kind::Condition),
+        ],
+    },
+    Form {
+        operation: b"GETMAIN",
+        words: &[b"R"],
+        positions: &[],
+        keywords: &[(b"LV", Kind::Value), (b"SP", Kind::Value)],
+    },
+    Form {
+        operation: b"GETMAIN",
+        words: &[b"RC", b"RU"],
+        positions: &[],
+        keywords: &[
+            (b"LV", Kind::Value),
+            (b"SP", Kind::Value),
+            (b"BNDRY", Kind::Boundary),
+            (b"LOC", Kind::Location),
+        ],
+    },
+    Form {
+        operation: b"GETMAIN",
+        words: &[b"VRC", b"VRU"],
+        positions: &[],
+        keywords: &[
+            (b"LV", Kind::Pair),
+            (b"SP", Kind::Value),
+            (b"BNDRY", Kind::Boundary),
+            (b"LOC", Kind::Location),
+        ],
+    },
+    Form {
+        operation: b"GETMAIN",
+        words: &[b"EC", b"EU"],
+        positions: &[],
+        keywords: &[
+            (b"LV", Kind::Value),
+            (b"A", Kind::Name),
+            (b"SP", Kind::Value),
+            (b"BNDRY", Kind::Boundary),
+        ],
+    },
+    Form {
+        operation: b"FREEMAIN",
+        words: &[b"R", b"RC", b"RU"],
+        positions: &[],
+        keywords: &[
+            (b"LV", Kind::Value),
+            (b"A", Kind::Value),
+            (b"SP", Kind::Value),
+        ],
+    },
+    Form {
+        operation: b"FREEMAIN",
+        words: &[b"E", b"EC", b"EU"],
+        positions: &[],
+        keywords: &[
+            (b"LV", Kind::Value),
+            (b"A", Kind::Name),
+            (b"SP", Kind::Value),
+        ],
+    },
+    Form {
+        operation: b"CPOOL",
+        words: &[b"BUILD"],
+        positions: &[],
+        keywords: &[
+            (b"PCELLCT", Kind::Value),
+            (b"SCELLCT", Kind::Value),
+            (b"CSIZE", Kind::Value),
+            (b"CPID", Kind::Name),
+            (b"SP", Kind::Value),
+            (b"LOC", Kind::Location),
+            (b"HDR", Kind::Header),
+        ],
+    },
+    Form {
+        operation: b"CPOOL",
+        words: &[b"GET"],
+        positions: &[Kind::ConditionWord],
+        keywords: &[(b"CPID", Kind::Name), (b"CELL", Kind::Place)],
+    },
+    Form {
+        operation: b"CPOOL",
+        words: &[b"FREE"],
+        positions: &[],
+        keywords: &[(b"CPID", Kind::Name), (b"CELL", Kind::Value)],
+    },
+    Form {
+        operation: b"CPOOL",
+        words: &[b"DELETE"],
+        positions: &[],
+        keywords: &[(b"CPID", Kind::Name)],
+    },
+    Form {
+        operation: b"ATTACH",
+        words: &[],
+        positions: &[],
+        keywords: &[
+            (b"EP", Kind::Name),
+            (b"GSPV", Kind::Value),
+            (b"GSPL", Kind::Value),
+            (b"SHSPV", Kind::Value),
+            (b"SHSPL", Kind::Value),
+            (b"SZERO", Kind::Condition),
+        ],
+    },
+    Form {
+        operation: b"DETACH",
+        words: &[],
+        positions: &[Kind::Value],
+        keywords: &[],
+    },
+    Form {
+        operation: b"RUN",
+        words: &[],
+        positions: &[Kind::Value],
+        keywords: &[],
+    },
+    Form {
+        operation: b"ENDTASK",
+        words: &[],
+        positions: &[],
+        keywords: &[],
+    },
+    Form {
+        operation: b"POKE",
+        words: &[],
+        positions: &[Kind::Value, Kind::Content],
+        keywords: &[],
+    },
+    Form {
+        operation: b"PEEK",
+        words: &[],
+        positions: &[Kind::Value, Kind::Size],
+        keywords: &[],
+    },
+    Form {
+        operation: b"MAP",
+        words: &[],
+        positions: &[],
+        keywords: &[],
+    },
+    Form {
+        operation: b"BACK",
+        words: &[],
+        positions: &[Kind::Count],
+        keywords: &[],
+    },
+    Form {
+        operation: b"FORWARD",
+        words: &[],
+        positions: &[Kind::Count],
+        keywords: &[],
+    },
+];
+
+/// The forms. Nothing is said of them, so that who looks through them doesn't carry the table.
+pub fn forms() -> &'static [Form] {
+    FORMS.as_slice()
+}
+
+/// The word of a list that a text is, in either case.
+fn known_word(text: &[u8], list: &[&'static [u8]]) -> Option<&'static [u8]> {
+    for word in list {
+        if is_word(text, word) {
+            return Some(*word);
+        }
+    }
+    None
+}
+
+/// The keyword of a list that a text is, in either case, with its kind.
+fn listed(text: &[u8], list: &[Keyword]) -> Option<Keyword> {
+    for row in list {
+        if is_word(text, row.0) {
+            return Some(*row);
+        }
+    }
+    None
+}
+
+/// The operation that a text is, in either case.
+pub fn operation_of(text: &[u8]) -> Option<&'static [u8]> {
+    for form in forms() {
+        if is_word(text, form.operation) {
+            return Some(form.operation);
+        }
+    }
+    None
+}
+
+/// Whether the first operand of an operation is a form.
+pub fn has_forms(operation: &[u8]) -> bool {
+    for form in forms() {
+        if is_word(operation, form.operation) {
+            return !form.words.is_empty();
+        }
+    }
+    false
+}
+
+/// What can be written after an operation whose first operand is this text.
+pub fn form_of(operation: &[u8], first: &[u8]) -> Option<&'static Form> {
+    for form in forms() {
+        if is_word(operation, form.operation)
+            && (form.words.is_empty() || known_word(first, form.words).is_some())
+        {
+            return Some(form);
+        }
+    }
+    None
+}
+
+/// The keywords that an operation has in each form.
+pub fn everywhere(operation: &[u8]) -> &'static [Keyword] {
+    if known_word(operation, WITH_THESE.as_slice()).is_some() {
+        EVERYWHERE.as_slice()
+    } else {
+        &[]
+    }
+}
+
+/// The keyword of a form that a text is, with its kind.
+pub fn keyword_of(form: &Form, text: &[u8]) -> Option<Keyword> {
+    match listed(text, form.keywords) {
+        Some(found) => Some(found),
+        None => listed(text, everywhere(form.operation)),
+    }
+}
+
+/// The keyword that a text is of some form of an operation.
+pub fn keyword_in(operation: &[u8], text: &[u8]) -> Option<&'static [u8]> {
+    for form in forms() {
+        if is_word(operation, form.operation)
+            && let Some((word, _)) = keyword_of(form, text)
+        {
+            return Some(word);
+        }
+    }
+    None
+}
+
+/// The kind of an operand of a form: by its keyword, or if it has none by whether it's the first.
+pub fn kind_of(form: &Form, keyword: &[u8], is_first: bool) -> Option<Kind> {
+    if let Some((_, kind)) = keyword_of(form, keyword) {
+        return Some(kind);
+    }
+    let place = if is_first { 0 } else { 1 };
+    match form.positions.get(place) {
+        Some(kind) => Some(*kind),
+        None => None,
+    }
+}
