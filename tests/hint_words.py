@@ -11,6 +11,8 @@ sys.path.insert(0, str(Path(__file__).resolve().parent.parent / "tools"))
 from vsmtools.words import FORMS, KEYWORDS  # noqa: E402
 
 WORD = re.compile(r'b"([A-Z]+)"')
+FORM = re.compile(r'Form \{\s*operation: b"(\w+)",\s*words: &\[(.*?)\],\s*positions: &\[(.*?)\],\s*keywords: &\[(.*?)\],'
+                  r'\s*required: &\[(.*?)\],\s*instead: (.*?),\s*\}', flags=re.S)
 # The kinds of values, as the page has them and as the source does. A number of PEEK has a kind of its own.
 KINDS = {
     "value": "Value", "pair": "Pair", "value|pair": "Length", "place": "Place", "name": "Name", "location": "Location",
@@ -28,9 +30,12 @@ class Known:
 
 @dataclass
 class Form:
-    """The kinds of the operands of a form, without and with a keyword."""
+    """The kinds of the operands of a form, without and with a keyword; the keywords that have to be written, and one that can
+    be written in their place."""
     positions: list[str] = field(default_factory=list)
     keywords: dict[str, str] = field(default_factory=dict)
+    required: list[str] = field(default_factory=list)
+    instead: list[str] = field(default_factory=list)
 
 
 @dataclass
@@ -53,15 +58,16 @@ def all_words(forms: dict[tuple[str, str], Form], idle: set[str], with_idle: lis
     return operations
 
 
-def in_code(text: str, hints: str) -> Words:
+def in_code(text: str, operands: str) -> Words:
     """As the source of the hints has them."""
     forms = {}
-    for row in re.finditer(r'Form \{\s*operation: b"(\w+)",\s*words: &\[(.*?)\],\s*positions: &\[(.*?)\],\s*keywords: &\[(.*?)\],\s*\}',
-                           text, flags=re.S):
-        forms[row[1], "|".join(WORD.findall(row[2]))] = Form(re.findall(r"Kind::(\w+)", row[3]),
-                                                            dict(re.findall(r'\(b"(\w+)", Kind::(\w+)\)', row[4])))
+    for row in FORM.finditer(text):
+        operation, words, positions, keywords, required, instead = row.groups()
+        forms[operation, "|".join(WORD.findall(words))] = Form(
+            re.findall(r"Kind::(\w+)", positions), dict(re.findall(r'\(b"(\w+)", Kind::(\w+)\)', keywords)), WORD.findall(required),
+            WORD.findall(instead))
     everywhere, with_these = (re.search(rf"static {name}: .*? = \[(.*?)\];", text, flags=re.S) for name in ("EVERYWHERE", "WITH_THESE"))
-    apart = re.search(r"const APART: .*? = \[(.*?)\];", hints, flags=re.S)
+    apart = re.search(r"const APART: .*? = \[(.*?)\];", operands, flags=re.S)
     idle = set(WORD.findall(everywhere[1] if everywhere else ""))
     operations = all_words(forms, idle, WORD.findall(with_these[1] if with_these else ""))
     return Words(operations, forms, set(re.findall(r'\(b"(\w+)", b"(\w+)"\)', apart[1] if apart else "")), idle)
@@ -80,7 +86,9 @@ def on_page(text: str) -> Words:
         operation, _, operands = line.partition(" ")
         first = re.match(r"[A-Z|]+(?=[,\[])", operands)
         words = first[0] if first else ""
-        form = forms.setdefault((operation, words), Form())
+        required = re.findall(r"([A-Z]+)=", re.sub(r"\[.*?\]", "", operands))
+        form = forms.setdefault((operation, words), Form(required=required))
+        form.instead = [] if required == form.required else required
         for key, kind in re.findall(r"([A-Z]+)=(\w+(?:\|\w+\b(?!=))*)", operands):
             form.keywords[key] = KINDS[kind]
         others = [it for it in re.sub(r"[\[\]]", "", operands[len(words):]).split(",") if it and "=" not in it]
@@ -100,5 +108,5 @@ def of_tools() -> dict[str, Known]:
 def read(top: Path) -> tuple[Words, Words]:
     """Both, of a repository."""
     forms = top / "crates" / "value_hints" / "src" / "forms.rt"
-    hints = top / "crates" / "statement_faults" / "src" / "hints.rt"
-    return in_code(forms.read_text(), hints.read_text()), on_page((top / "docs" / "STATEMENTS.md").read_text())
+    operands = top / "crates" / "value_hints" / "src" / "operands.rt"
+    return in_code(forms.read_text(), operands.read_text()), on_page((top / "docs" / "STATEMENTS.md").read_text())

@@ -2,7 +2,6 @@
 ghost use Rattle.std.specs.Prelude.{◌≤◌, length};
 
 use crate::fields::{card_of, ends_with_comma, part_of};
-use crate::hints::before;
 use crate::roles::Role;
 use crate::stands::LineStand;
 use listed_text::column_of;
@@ -10,6 +9,7 @@ use macro_statements::head_of;
 use operand_texts::nesting::{Nesting, field_len};
 use operand_texts::words::after_blanks;
 use value_hints::forms::keyword_in;
+use value_hints::operands::before;
 
 /// What a line or a file has that its reader takes otherwise than it looks.
 #[derive(Clone, Copy)]
@@ -111,15 +111,11 @@ fn wide_place(line: &[u8]) -> Option<usize> {
     None
 }
 
-/// Whether bytes look like EBCDIC: many blanks and letters of it, and no blank of ASCII.
+/// Whether bytes look like EBCDIC: they have its blanks and some of its letters, and no blank of ASCII.
 fn is_ebcdic(sample: &[u8]) -> bool {
-    let mut found: usize = 0;
-    for byte in sample {
-        if *byte == 0x40 || *byte > 127 {
-            found = found.saturating_add(1);
-        }
-    }
-    found > sample.len() / 3 && place_of(sample, b' ').is_none()
+    place_of(sample, 0x40).is_some()
+        && place_of(sample, b' ').is_none()
+        && sample.iter().any(|byte| *byte > 127)
 }
 
 /// What is wrong with a file as a whole, if anything is.

@@ -3,7 +3,7 @@
 use macro_operands::rows::Kind;
 use operand_texts::words::is_word;
 
-/// A keyword, and the kind of its value.
+/// A keyword, or what an operand without one is, and the kind of its value.
 pub type Keyword = (&'static [u8], Kind);
 
 /// What can be written after an operation that has one of these forms.
@@ -12,8 +12,12 @@ pub struct Form {
     /// What the first operand is. None where the operation has no forms.
     pub words: &'static [&'static [u8]],
     /// The operands without a keyword.
-    pub positions: &'static [Kind],
+    pub positions: &'static [Keyword],
     pub keywords: &'static [Keyword],
+    /// The keywords that have to be written.
+    pub required: &'static [&'static [u8]],
+    /// One that can be written in place of all these.
+    pub instead: Option<&'static [u8]>,
 }
 
 /// The keywords that may be written in each form of these operations.
@@ -46,6 +50,8 @@ static FORMS: [Form; 21] = [
             (b"LOC", Kind::Location),
             (b"COND", Kind::Condition),
         ],
+        required: &[b"LENGTH"],
+        instead: None,
     },
     Form {
         operation: b"STORAGE",
@@ -57,12 +63,16 @@ static FORMS: [Form; 21] = [
             (b"SP", Kind::Value),
             (b"COND", Kind::Condition),
         ],
+        required: &[b"LENGTH", b"ADDR"],
+        instead: Some(b"SP"),
     },
     Form {
         operation: b"GETMAIN",
         words: &[b"R"],
         positions: &[],
         keywords: &[(b"LV", Kind::Value), (b"SP", Kind::Value)],
+        required: &[b"LV"],
+        instead: None,
     },
     Form {
         operation: b"GETMAIN",
@@ -74,6 +84,8 @@ static FORMS: [Form; 21] = [
             (b"BNDRY", Kind::Boundary),
             (b"LOC", Kind::Location),
         ],
+        required: &[b"LV"],
+        instead: None,
     },
     Form {
         operation: b"GETMAIN",
@@ -85,6 +97,8 @@ static FORMS: [Form; 21] = [
             (b"BNDRY", Kind::Boundary),
             (b"LOC", Kind::Location),
         ],
+        required: &[b"LV"],
+        instead: None,
     },
     Form {
         operation: b"GETMAIN",
@@ -96,6 +110,8 @@ static FORMS: [Form; 21] = [
             (b"SP", Kind::Value),
             (b"BNDRY", Kind::Boundary),
         ],
+        required: &[b"LV", b"A"],
+        instead: None,
     },
     Form {
         operation: b"FREEMAIN",
@@ -106,6 +122,8 @@ static FORMS: [Form; 21] = [
             (b"A", Kind::Value),
             (b"SP", Kind::Value),
         ],
+        required: &[b"LV", b"A"],
+        instead: Some(b"SP"),
     },
     Form {
         operation: b"FREEMAIN",
@@ -116,6 +134,8 @@ static FORMS: [Form; 21] = [
             (b"A", Kind::Name),
             (b"SP", Kind::Value),
         ],
+        required: &[b"LV", b"A"],
+        instead: None,
     },
     Form {
         operation: b"CPOOL",
@@ -130,24 +150,32 @@ static FORMS: [Form; 21] = [
             (b"LOC", Kind::Location),
             (b"HDR", Kind::Header),
         ],
+        required: &[b"PCELLCT", b"CSIZE", b"CPID"],
+        instead: None,
     },
     Form {
         operation: b"CPOOL",
         words: &[b"GET"],
-        positions: &[Kind::ConditionWord],
+        positions: &[(b"a condition", Kind::ConditionWord)],
         keywords: &[(b"CPID", Kind::Name), (b"CELL", Kind::Place)],
+        required: &[b"CPID"],
+        instead: None,
     },
     Form {
         operation: b"CPOOL",
         words: &[b"FREE"],
         positions: &[],
         keywords: &[(b"CPID", Kind::Name), (b"CELL", Kind::Value)],
+        required: &[b"CPID", b"CELL"],
+        instead: None,
     },
     Form {
         operation: b"CPOOL",
         words: &[b"DELETE"],
         positions: &[],
         keywords: &[(b"CPID", Kind::Name)],
+        required: &[b"CPID"],
+        instead: None,
     },
     Form {
         operation: b"ATTACH",
@@ -161,54 +189,75 @@ static FORMS: [Form; 21] = [
             (b"SHSPL", Kind::Value),
             (b"SZERO", Kind::Condition),
         ],
+        required: &[],
+        instead: None,
     },
     Form {
         operation: b"DETACH",
         words: &[],
-        positions: &[Kind::Value],
+        positions: &[(b"the task's number", Kind::Value)],
         keywords: &[],
+        required: &[],
+        instead: None,
     },
     Form {
         operation: b"RUN",
         words: &[],
-        positions: &[Kind::Value],
+        positions: &[(b"the task's number", Kind::Value)],
         keywords: &[],
+        required: &[],
+        instead: None,
     },
     Form {
         operation: b"ENDTASK",
         words: &[],
         positions: &[],
         keywords: &[],
+        required: &[],
+        instead: None,
     },
     Form {
         operation: b"POKE",
         words: &[],
-        positions: &[Kind::Value, Kind::Content],
+        positions: &[(b"the address", Kind::Value), (b"the bytes", Kind::Content)],
         keywords: &[],
+        required: &[],
+        instead: None,
     },
     Form {
         operation: b"PEEK",
         words: &[],
-        positions: &[Kind::Value, Kind::Size],
+        positions: &[
+            (b"the address", Kind::Value),
+            (b"how many bytes", Kind::Size),
+        ],
         keywords: &[],
+        required: &[],
+        instead: None,
     },
     Form {
         operation: b"MAP",
         words: &[],
         positions: &[],
         keywords: &[],
+        required: &[],
+        instead: None,
     },
     Form {
         operation: b"BACK",
         words: &[],
-        positions: &[Kind::Count],
+        positions: &[(b"how many changes", Kind::Count)],
         keywords: &[],
+        required: &[],
+        instead: None,
     },
     Form {
         operation: b"FORWARD",
         words: &[],
-        positions: &[Kind::Count],
+        positions: &[(b"how many changes", Kind::Count)],
         keywords: &[],
+        required: &[],
+        instead: None,
     },
 ];
 
@@ -305,7 +354,7 @@ pub fn kind_of(form: &Form, keyword: &[u8], is_first: bool) -> Option<Kind> {
     }
     let place = if is_first { 0 } else { 1 };
     match form.positions.get(place) {
-        Some(kind) => Some(*kind),
+        Some((_, kind)) => Some(*kind),
         None => None,
     }
 }

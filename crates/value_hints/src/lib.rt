@@ -3,4 +3,6 @@
 
 pub mod forms;
 pub mod guesses;
-pub mod values;
+pub mod missing;
+pub mod operands;
+mod values;
