@@ -196,7 +196,8 @@ fn mark_beside(line: &[u8]) -> Warned {
 
 /// Whether a text begins as an operand after another does: with a comma, or with a keyword of the operation.
 fn begins_as_operand(text: &[u8], operation: &[u8]) -> bool {
-    text.first() == Some(&b',') || keyword_in(operation, before(text, b'=')).is_some()
+    let key = before(text, b'=');
+    text.first() == Some(&b',') || (key.len() < text.len() && keyword_in(operation, key).is_some())
 }
 
 /// What looks like operands among the remarks of a line, or like the mark of a continuation.
