@@ -41,7 +41,11 @@ fn add_keywords(words: &mut Words, form: &Form, field: &[u8]) -> bool {
 
 /// Appends the operand without a keyword that isn't there.
 fn add_position(words: &mut Words, form: &Form, field: &[u8]) {
-    let place = if field.is_empty() { 0 } else { 1 };
+    let place = if field.is_empty() || form.positions.len() < 2 {
+        0
+    } else {
+        1
+    };
     if let Some((name, kind)) = form.positions.get(place) {
         words.add(name);
         words.add(b" (");
