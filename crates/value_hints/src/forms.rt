@@ -1,4 +1,6 @@
 //! The operands of each form of each operation, as docs/STATEMENTS.md has them.
+ghost use Rattle.std.specs.Prelude.{◌≡◌, true, IfSome};
+ghost use Rattle.operand_texts.specs.Words.{is_word};
 
 use macro_operands::rows::Kind;
 use operand_texts::words::is_word;
@@ -267,7 +269,9 @@ pub fn forms() -> &'static [Form] {
 }
 
 /// The word of a list that a text is, in either case.
-fn known_word(text: &[u8], list: &[&'static [u8]]) -> Option<&'static [u8]> {
+fn known_word(text: &[u8], list: &[&'static [u8]]) -> Option<&'static [u8]>
+    ensures { IfSome result (λ word. is_word text.now word.now ≡ true) }
+{
     for word in list {
         if is_word(text, word) {
             return Some(*word);
@@ -277,7 +281,9 @@ fn known_word(text: &[u8], list: &[&'static [u8]]) -> Option<&'static [u8]> {
 }
 
 /// The keyword of a list that a text is, in either case, with its kind.
-fn listed(text: &[u8], list: &[Keyword]) -> Option<Keyword> {
+fn listed(text: &[u8], list: &[Keyword]) -> Option<Keyword>
+    ensures { IfSome result (λ found. is_word text.now found.0.now ≡ true) }
+{
     for row in list {
         if is_word(text, row.0) {
             return Some(*row);
@@ -287,7 +293,9 @@ fn listed(text: &[u8], list: &[Keyword]) -> Option<Keyword> {
 }
 
 /// The operation that a text is, in either case.
-pub fn operation_of(text: &[u8]) -> Option<&'static [u8]> {
+pub fn operation_of(text: &[u8]) -> Option<&'static [u8]>
+    ensures { IfSome result (λ word. is_word text.now word.now ≡ true) }
+{
     for form in forms() {
         if is_word(text, form.operation) {
             return Some(form.operation);
@@ -307,7 +315,9 @@ pub fn has_forms(operation: &[u8]) -> bool {
 }
 
 /// What can be written after an operation whose first operand is this text.
-pub fn form_of(operation: &[u8], first: &[u8]) -> Option<&'static Form> {
+pub fn form_of(operation: &[u8], first: &[u8]) -> Option<&'static Form>
+    ensures { IfSome result (λ form. is_word operation.now form.now.operation.now ≡ true) }
+{
     for form in forms() {
         if is_word(operation, form.operation)
             && (form.words.is_empty() || known_word(first, form.words).is_some())
@@ -328,7 +338,9 @@ pub fn everywhere(operation: &[u8]) -> &'static [Keyword] {
 }
 
 /// The keyword of a form that a text is, with its kind.
-pub fn keyword_of(form: &Form, text: &[u8]) -> Option<Keyword> {
+pub fn keyword_of(form: &Form, text: &[u8]) -> Option<Keyword>
+    ensures { IfSome result (λ found. is_word text.now found.0.now ≡ true) }
+{
     match listed(text, form.keywords) {
         Some(found) => Some(found),
         None => listed(text, everywhere(form.operation)),
@@ -336,7 +348,9 @@ pub fn keyword_of(form: &Form, text: &[u8]) -> Option<Keyword> {
 }
 
 /// The keyword that a text is of some form of an operation.
-pub fn keyword_in(operation: &[u8], text: &[u8]) -> Option<&'static [u8]> {
+pub fn keyword_in(operation: &[u8], text: &[u8]) -> Option<&'static [u8]>
+    ensures { IfSome result (λ word. is_word text.now word.now ≡ true) }
+{
     for form in forms() {
         if is_word(operation, form.operation)
             && let Some((word, _)) = keyword_of(form, text)
