@@ -11,6 +11,14 @@ sys.path.insert(0, str(Path(__file__).resolve().parent.parent / "tools"))
 from vsmtools.words import FORMS, KEYWORDS  # noqa: E402
 
 WORD = re.compile(r'b"([A-Z]+)"')
+FORM = re.compile(r'Form \{\s*operation: b"(\w+)",\s*words: &\[(.*?)\],\s*positions: &\[(.*?)\],\s*keywords: &\[(.*?)\],'
+                  r'\s*required: &\[(.*?)\],\s*instead: (.*?),\s*\}', flags=re.S)
+# The kinds of values, as the page has them and as the source does. A number of PEEK has a kind of its own.
+KINDS = {
+    "value": "Value", "pair": "Pair", "value|pair": "Length", "place": "Place", "name": "Name", "location": "Location",
+    "header": "Header", "bytes": "Content", "number": "Count", "DBLWD|PAGE": "Boundary", "YES|NO": "Condition",
+    "UNCOND|U|COND|C": "ConditionWord",
+}
 
 
 @dataclass
@@ -21,21 +29,48 @@ class Known:
 
 
 @dataclass
+class Form:
+    """The kinds of the operands of a form, without and with a keyword; the keywords that have to be written, and one that can
+    be written in their place."""
+    positions: list[str] = field(default_factory=list)
+    keywords: dict[str, str] = field(default_factory=dict)
+    required: list[str] = field(default_factory=list)
+    instead: list[str] = field(default_factory=list)
+
+
+@dataclass
 class Words:
     operations: dict[str, Known]
+    # Of each operation with its forms that take the same.
+    forms: dict[tuple[str, str], Form]
     # Keywords of which one stands in a statement.
     apart: set[tuple[str, str]]
     # Keywords without an effect, which may stand in each of several macros.
     idle: set[str] = field(default_factory=set)
 
 
-def in_code(text: str) -> Words:
+def all_words(forms: dict[tuple[str, str], Form], idle: set[str], with_idle: list[str]) -> dict[str, Known]:
+    operations: dict[str, Known] = {}
+    for (operation, words), form in forms.items():
+        known = operations.setdefault(operation, Known())
+        known.forms |= set(words.split("|")) - {""}
+        known.keywords |= set(form.keywords) | (idle if operation in with_idle else set())
+    return operations
+
+
+def in_code(text: str, operands: str) -> Words:
     """As the source of the hints has them."""
-    operations = {}
-    for row in re.finditer(r'Known \{\s*operation: b"(\w+)",\s*forms: &\[(.*?)\],\s*keywords: &\[(.*?)\],\s*\}', text, flags=re.S):
-        operations[row[1]] = Known(set(WORD.findall(row[2])), set(WORD.findall(row[3])))
-    apart = re.search(r"const APART: .*? = \[(.*?)\];", text, flags=re.S)
-    return Words(operations, set(re.findall(r'\(b"(\w+)", b"(\w+)"\)', apart[1] if apart else "")))
+    forms = {}
+    for row in FORM.finditer(text):
+        operation, words, positions, keywords, required, instead = row.groups()
+        forms[operation, "|".join(WORD.findall(words))] = Form(
+            re.findall(r"Kind::(\w+)", positions), dict(re.findall(r'\(b"(\w+)", Kind::(\w+)\)', keywords)), WORD.findall(required),
+            WORD.findall(instead))
+    everywhere, with_these = (re.search(rf"static {name}: .*? = \[(.*?)\];", text, flags=re.S) for name in ("EVERYWHERE", "WITH_THESE"))
+    apart = re.search(r"const APART: .*? = \[(.*?)\];", operands, flags=re.S)
+    idle = set(WORD.findall(everywhere[1] if everywhere else ""))
+    operations = all_words(forms, idle, WORD.findall(with_these[1] if with_these else ""))
+    return Words(operations, forms, set(re.findall(r'\(b"(\w+)", b"(\w+)"\)', apart[1] if apart else "")), idle)
 
 
 def words_in(sentence: str) -> list[str]:
@@ -45,20 +80,23 @@ def words_in(sentence: str) -> list[str]:
 def on_page(text: str) -> Words:
     """As the page has them: by the lines below its headings that show how a statement is written, and the sentence on what
     may stand in each of several macros."""
-    operations: dict[str, Known] = {}
+    forms: dict[tuple[str, str], Form] = {}
     apart = set()
     for line in re.findall(r"(?m)^    ([A-Z].*)$", text):
         operation, _, operands = line.partition(" ")
-        known = operations.setdefault(operation, Known())
-        form = re.match(r"[A-Z|]+(?=[,\[])", operands)
-        known.forms |= set(form[0].split("|") if form else [])
-        known.keywords |= set(re.findall(r"([A-Z]+)=", operands))
+        first = re.match(r"[A-Z|]+(?=[,\[])", operands)
+        words = first[0] if first else ""
+        required = re.findall(r"([A-Z]+)=", re.sub(r"\[.*?\]", "", operands))
+        form = forms.setdefault((operation, words), Form(required=required))
+        form.instead = [] if required == form.required else required
+        for key, kind in re.findall(r"([A-Z]+)=(\w+(?:\|\w+\b(?!=))*)", operands):
+            form.keywords[key] = KINDS[kind]
+        others = [it for it in re.sub(r"[\[\]]", "", operands[len(words):]).split(",") if it and "=" not in it]
+        form.positions = ["Size" if (operation, it) == ("PEEK", "number") else KINDS[it] for it in others]
         apart |= set(re.findall(r"\[,(\w+)=value\|(\w+)=value\]", operands))
     anywhere = re.search(r"(?m)^(.*) are allowed in each (.*?), with any value", text)
     idle = set(words_in(anywhere[1])) if anywhere else set()
-    for operation in words_in(anywhere[2]) if anywhere else []:
-        operations[operation].keywords |= idle
-    return Words(operations, apart, idle)
+    return Words(all_words(forms, idle, words_in(anywhere[2]) if anywhere else []), forms, apart, idle)
 
 
 def of_tools() -> dict[str, Known]:
@@ -69,5 +107,6 @@ def of_tools() -> dict[str, Known]:
 
 def read(top: Path) -> tuple[Words, Words]:
     """Both, of a repository."""
-    source = top / "crates" / "statement_faults" / "src" / "hints.rt"
-    return in_code(source.read_text()), on_page((top / "docs" / "STATEMENTS.md").read_text())
+    forms = top / "crates" / "value_hints" / "src" / "forms.rt"
+    operands = top / "crates" / "value_hints" / "src" / "operands.rt"
+    return in_code(forms.read_text(), operands.read_text()), on_page((top / "docs" / "STATEMENTS.md").read_text())

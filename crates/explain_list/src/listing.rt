@@ -15,6 +15,7 @@ use crate::rows::{put_file_row, put_line_rows};
 use bench_core::Bench;
 use script_steps::{Response, Session, TooLong, Watch, put_behind, put_response};
 use statement_faults::lines::SourceLine;
+use statement_faults::stands::stand_of;
 use std::alloc::Global;
 use std::io::Write;
 use text_output::{Gathered, put_decimal};
@@ -41,7 +42,7 @@ fn put_rows<W: Write>(gathered: &mut Gathered, writer: &mut W, page: &ListingPag
             writer,
             script,
             &lines[index],
-            page.role(index),
+            &stand_of(script, lines, index, page.role(index)),
             page.lost(index, &lines[index]),
             page.fault_on(index),
         );

@@ -9,6 +9,7 @@ use script_steps::FaultKind;
 use statement_faults::carets::Caret;
 use statement_faults::lines::SourceLine;
 use statement_faults::roles::Role;
+use statement_faults::stands::{LineStand, stand_of};
 use statement_faults::warnings::{KINDS, Warned, warning_in, warning_on};
 use std::io::Write;
 use text_output::{Gathered, put_decimal};
@@ -62,42 +63,44 @@ fn put_warned_check<W: Write>(
     ensures { PutsChecks name.now (W.contents writer.old) (W.contents writer.new) gathered.old gathered.new }
 {
     if let Some((place, warning)) = warned {
-        put_position(gathered, writer, name, number, place.min(80));
+        put_position(gathered, writer, name, number, place);
         put_warning(gathered, writer, warning);
     }
 }
 
-/// Puts the warnings on a line that may be read as one of a statement.
+/// Puts the warnings on a line that stands so.
 fn put_warning_checks<W: Write>(
     gathered: &mut Gathered,
     writer: &mut W,
     name: &[u8],
     number: u32,
     line: &[u8],
-    is_read: bool,
+    stand: &LineStand,
 )
     ensures { PutsChecks name.now (W.contents writer.old) (W.contents writer.new) gathered.old gathered.new }
 {
     for kind in 0..KINDS {
-        let warned = warning_in(line, is_read, kind);
+        let warned = warning_in(line, stand, kind);
         put_warned_check(gathered, writer, name, number, warned);
     }
 }
 
-/// Puts the warnings on a line of this role; none on a comment or an empty line.
+/// Puts the warnings on a line that stands so; none on a comment or an empty line.
 fn put_role_checks<W: Write>(
     gathered: &mut Gathered,
     writer: &mut W,
     name: &[u8],
     number: u32,
     line: &[u8],
-    role: Role,
+    stand: &LineStand,
 )
     ensures { PutsChecks name.now (W.contents writer.old) (W.contents writer.new) gathered.old gathered.new }
 {
-    match role {
+    match stand.role {
         Role::Aside => (),
-        _ => put_warning_checks(gathered, writer, name, number, line, role.is_read()),
+        Role::First | Role::Further | Role::Breaking | Role::Gone => {
+            put_warning_checks(gathered, writer, name, number, line, stand)
+        }
     }
 }
 
@@ -129,7 +132,7 @@ fn put_line_checks<W: Write>(
 )
     ensures { PutsChecks name.now (W.contents writer.old) (W.contents writer.new) gathered.old gathered.new }
 {
-    let role = page.role(index);
+    let stand = stand_of(script, page.lines(), index, page.role(index));
     let lost = page.lost(index, line);
     put_loss_check(gathered, writer, name, script, line.number, lost);
     put_role_checks(
@@ -138,7 +141,7 @@ fn put_line_checks<W: Write>(
         name,
         line.number,
         line.bytes(script),
-        role,
+        &stand,
     );
     put_fault_check(gathered, writer, name, line.number, page.fault_on(index));
 }

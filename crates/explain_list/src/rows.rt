@@ -14,6 +14,7 @@ use statement_faults::carets::Caret;
 use statement_faults::hints::add_hint;
 use statement_faults::lines::SourceLine;
 use statement_faults::roles::Role;
+use statement_faults::stands::LineStand;
 use statement_faults::warnings::{KINDS, Warned, Warning, warning_in, warning_on};
 use std::io::Write;
 use text_output::{Gathered, put_decimal};
@@ -192,19 +193,19 @@ fn put_warned<W: Write>(
     }
 }
 
-/// Puts the warnings on a line that may be read as one of a statement.
+/// Puts the warnings on a line that stands so.
 fn put_warnings<W: Write>(
     gathered: &mut Gathered,
     writer: &mut W,
     script: &[u8],
     line: &SourceLine,
-    is_read: bool,
+    stand: &LineStand,
 )
     ensures { IsLineAt script.now line.now
         → PutsRows script.now [] (W.contents writer.old) (W.contents writer.new) gathered.old gathered.new }
 {
     for kind in 0..KINDS {
-        let warned = warning_in(line.bytes(script), is_read, kind);
+        let warned = warning_in(line.bytes(script), stand, kind);
         put_warned(gathered, writer, script, line, warned);
     }
 }
@@ -225,20 +226,22 @@ fn put_caret<W: Write>(
     put_fault(gathered, writer, caret, kind);
 }
 
-/// Puts the warnings on a line of this role; none on a comment or an empty line.
+/// Puts the warnings on a line that stands so; none on a comment or an empty line.
 fn put_role_warnings<W: Write>(
     gathered: &mut Gathered,
     writer: &mut W,
     script: &[u8],
     line: &SourceLine,
-    role: Role,
+    stand: &LineStand,
 )
     ensures { IsLineAt script.now line.now
         → PutsRows script.now [] (W.contents writer.old) (W.contents writer.new) gathered.old gathered.new }
 {
-    match role {
+    match stand.role {
         Role::Aside => (),
-        _ => put_warnings(gathered, writer, script, line, role.is_read()),
+        Role::First | Role::Further | Role::Breaking | Role::Gone => {
+            put_warnings(gathered, writer, script, line, stand)
+        }
     }
 }
 
@@ -265,7 +268,7 @@ pub(crate) fn put_line_rows<W: Write>(
     writer: &mut W,
     script: &[u8],
     line: &SourceLine,
-    role: Role,
+    stand: &LineStand,
     lost: Option<SourceLine>,
     fault: Option<(&Caret, FaultKind)>,
 )
@@ -275,7 +278,7 @@ pub(crate) fn put_line_rows<W: Write>(
         gathered.new }
 {
     put_own_row(gathered, writer, script, line, lost);
-    put_role_warnings(gathered, writer, script, line, role);
+    put_role_warnings(gathered, writer, script, line, stand);
     put_fault_row(gathered, writer, script, line, fault);
 }
 

@@ -35,7 +35,7 @@ fn card_at(script: &[u8], line: &SourceLine) -> [u8; 71]
 }
 
 /// The card of the first of these lines, or an empty one where there is none.
-fn first_card(script: &[u8], lines: &[SourceLine]) -> [u8; 71]
+pub(crate) fn first_card(script: &[u8], lines: &[SourceLine]) -> [u8; 71]
     ensures { result ≡ first_card script.now lines.now }
 {
     match lines.first() {
@@ -54,7 +54,11 @@ fn further_lines(lines: &[SourceLine]) -> &[SourceLine]
 /// The field over a first line and these continuation lines; and where one of them breaks a rule of continuation its
 /// place.
 #[tactic(auto, using(crate::proofs::FieldOver::over_first))]
-fn field_over(script: &[u8], card: &[u8; 71], lines: &[SourceLine]) -> (Field, Option<TextPlace>)
+pub(crate) fn field_over(
+    script: &[u8],
+    card: &[u8; 71],
+    lines: &[SourceLine],
+) -> (Field, Option<TextPlace>)
     requires { length lines.now ≤ 9 }
     ensures whole { result.1 ≡ None → IsFieldOver card.now (map (card_in script.now) lines.now) result.0 }
     ensures broken { IfSome result.1 (λ p. with_lines (begun card.now) (map (card_in script.now) lines.now) ≡ None) }

@@ -37,7 +37,7 @@ fn nesting_behind(start: Nesting, text: &[u8]) -> Nesting
     at
 }
 
-fn ends_with_comma(text: &[u8]) -> bool
+pub(crate) fn ends_with_comma(text: &[u8]) -> bool
     ensures { result ≡ ends_with_comma text.now }
 {
     !text.is_empty() && text[text.len() - 1] == b','
@@ -67,7 +67,7 @@ fn first_filled(columns: &[u8]) -> usize {
 }
 
 /// Columns 16 to 71.
-fn part_of(card: &[u8]) -> &[u8]
+pub(crate) fn part_of(card: &[u8]) -> &[u8]
     requires { length card.now ≡ 71 }
     ensures value { result.now ≡ drop 15 card.now }
     ensures len { length result.now ≡ 56 }

@@ -9,6 +9,7 @@ mod laws;
 pub mod lines;
 pub mod operands;
 pub mod roles;
+pub mod stands;
 pub mod warnings;
 
 pub use laws::field_bytes_are_there;

@@ -1,4 +1,15 @@
 //! What a script hides: bytes that its reader takes for others than the writer meant.
+ghost use Rattle.std.specs.Prelude.{◌≤◌, length};
+
+use crate::fields::{card_of, ends_with_comma, part_of};
+use crate::roles::Role;
+use crate::stands::LineStand;
+use listed_text::column_of;
+use macro_statements::head_of;
+use operand_texts::nesting::{Nesting, field_len};
+use operand_texts::words::after_blanks;
+use value_hints::forms::keyword_in;
+use value_hints::operands::before;
 
 /// What a line or a file has that its reader takes otherwise than it looks.
 #[derive(Clone, Copy)]
@@ -7,7 +18,7 @@ pub enum Warning {
     ByteOrderMark,
     /// The file is UTF-16.
     Utf16,
-    /// The file looks like EBCDIC: many X'40', no X'20'.
+    /// The file looks like EBCDIC.
     Ebcdic,
     /// The file is of records of 80 bytes without line feeds, of which the first alone is read.
     NoLineFeeds,
@@ -19,6 +30,12 @@ pub enum Warning {
     CarriageReturn,
     /// A word that goes across column 72, so that the next line goes on with the statement.
     WordAcross,
+    /// Operands that end with a comma, and column 71 where a character in column 72 was meant.
+    MarkBefore,
+    /// The same with column 73.
+    MarkAfter,
+    /// Remarks that look like operands.
+    Remarks,
 }
 
 impl Warning {
@@ -31,18 +48,25 @@ impl Warning {
             Warning::Utf16 => b"the file is UTF-16: save it as plain text",
             Warning::Ebcdic => b"the file looks like EBCDIC: iconv -f IBM1047 -t ASCII",
             Warning::NoLineFeeds => {
-                b"records of 80 bytes without line feeds: the first alone is read; fold -b -w 80 splits them"
+                b"records of 80 bytes without line feeds: only the first is read; fold -b -w 80 splits them"
             }
             Warning::Tab => b"a tab is no blank: write blanks",
             Warning::WideCharacter => {
-                b"a character of more than one byte moves what stands behind it: column 72 is counted in bytes"
+                b"a character of several bytes shifts what follows: column 72 is counted in bytes"
             }
             Warning::CarriageReturn => {
-                b"a carriage return without a line feed ends no line: the line goes on behind it"
+                b"a carriage return without a line feed ends no line: the line goes on after it"
             }
             Warning::WordAcross => {
                 b"column 72 falls into a word: the character there says that the next line goes on with this statement"
             }
+            Warning::MarkBefore => {
+                b"column 72 is blank, and column 71 isn't: a continuation needs its mark in column 72"
+            }
+            Warning::MarkAfter => {
+                b"column 72 is blank, and column 73 isn't: a continuation needs its mark in column 72"
+            }
+            Warning::Remarks => b"a blank ends the operands: this is taken for remarks",
         }
     }
 }
@@ -68,17 +92,30 @@ fn place_of(bytes: &[u8], wanted: u8) -> Option<usize> {
     None
 }
 
-/// The place of the first byte above 127 of columns 1 to 71 of a line that has a column 72.
+/// The first 72 columns of a line, or all: those that are read.
+fn columns(line: &[u8]) -> &[u8] {
+    &line[..line.len().min(72)]
+}
+
+/// The place of the first letter of several bytes in columns 1 to 71 of a line that has a column 72. A line without a
+/// blank is no text of ASCII or UTF-8.
 fn wide_place(line: &[u8]) -> Option<usize> {
-    if line.len() < 72 {
+    if line.len() < 72 || place_of(line, b' ').is_none() {
         return None;
     }
     for i in 0..71usize {
-        if line[i] > 127 {
+        if line[i] > 127 && column_of(line, i + 1) == column_of(line, i) {
             return Some(i);
         }
     }
     None
+}
+
+/// Whether bytes look like EBCDIC: they have its blanks and some of its letters, and no blank of ASCII.
+fn is_ebcdic(sample: &[u8]) -> bool {
+    place_of(sample, 0x40).is_some()
+        && place_of(sample, b' ').is_none()
+        && sample.iter().any(|byte| *byte > 127)
 }
 
 /// What is wrong with a file as a whole, if anything is.
@@ -93,7 +130,7 @@ pub fn warning_on(script: &[u8]) -> Option<Warning> {
     if count(sample, 0) > sample.len() / 4 {
         return Some(Warning::Utf16);
     }
-    if count(sample, 0x40) > sample.len() / 8 && place_of(sample, b' ').is_none() {
+    if is_ebcdic(sample) {
         return Some(Warning::Ebcdic);
     }
     if script.len() > 80 && script.len() % 80 <= 1 && count(script, b'\n') <= script.len() % 80 {
@@ -115,20 +152,81 @@ fn warned(place: Option<usize>, warning: Warning) -> Warned {
 
 /// Whether a word goes across column 72 of a line.
 fn goes_across(line: &[u8]) -> bool {
-    line.len() > 72 && line[70] != b' ' && line[71] != b' ' && line[72] != b' '
+    line.len() > 72
+        && line[70] != b' '
+        && line[71] != b' '
+        && line[72] != b' '
+        && place_of(line, b' ').is_some()
+}
+
+/// What a line has of a statement's operands, and of what follows them.
+fn from_field(card: &[u8; 71], role: Role) -> &[u8]
+    ensures { length result.now ≤ 71 }
+{
+    match role {
+        Role::First => head_of(card).1,
+        Role::Further => part_of(card),
+        Role::Aside | Role::Breaking | Role::Gone => &card[71..],
+    }
+}
+
+/// How many bytes of this are operands, if they begin between apostrophes or not, or have ended before.
+fn operands_len(quoted: Option<bool>, text: &[u8]) -> usize
+    requires { length text.now ≤ 71 }
+    ensures { result ≤ length text.now }
+{
+    match quoted {
+        Some(quoted) => field_len(Nesting { quoted, depth: 0 }, text),
+        None => 0,
+    }
+}
+
+/// A mark beside column 72 of a line, if that is blank.
+fn mark_beside(line: &[u8]) -> Warned {
+    if line.len() < 71 || (line.len() > 71 && line[71] != b' ') {
+        None
+    } else if line.len() > 72 && line[72] != b' ' {
+        Some((73, Warning::MarkAfter))
+    } else if line[70] != b' ' && line[69] == b' ' {
+        Some((71, Warning::MarkBefore))
+    } else {
+        None
+    }
+}
+
+/// Whether a text begins as an operand after another does: with a comma, or with a keyword of the operation.
+fn begins_as_operand(text: &[u8], operation: &[u8]) -> bool {
+    let key = before(text, b'=');
+    text.first() == Some(&b',') || (key.len() < text.len() && keyword_in(operation, key).is_some())
+}
+
+/// What looks like operands among the remarks of a line, or like the mark of a continuation.
+fn field_warning(line: &[u8], stand: &LineStand) -> Warned {
+    let operation = stand.operation?;
+    let card = card_of(line);
+    let text = from_field(&card, stand.role);
+    let (operands, behind) = text.split_at(operands_len(stand.quoted, text));
+    let remarks = after_blanks(behind);
+    if begins_as_operand(remarks, operation) {
+        Some((72 - remarks.len(), Warning::Remarks))
+    } else if ends_with_comma(operands) && !behind.is_empty() {
+        mark_beside(line)
+    } else {
+        None
+    }
 }
 
 /// How many kinds of warnings a line may have.
-pub const KINDS: usize = 4;
+pub const KINDS: usize = 5;
 
-/// A warning of this kind, one of four, on what a line has that its reader takes otherwise than it looks, which may be
-/// read as one of a statement.
-pub fn warning_in(line: &[u8], is_read: bool, kind: usize) -> Warned {
+/// A warning of this kind, one of five, on what a line has that its reader takes otherwise than it looks.
+pub fn warning_in(line: &[u8], stand: &LineStand, kind: usize) -> Warned {
     match kind {
-        0 => warned(place_of(line, b'\t'), Warning::Tab),
+        0 => warned(place_of(columns(line), b'\t'), Warning::Tab),
         1 => warned(wide_place(line), Warning::WideCharacter),
         2 => warned(place_of(line, b'\r'), Warning::CarriageReturn),
-        _ if is_read && goes_across(line) => warned(Some(71), Warning::WordAcross),
+        3 if stand.role.is_read() && goes_across(line) => warned(Some(71), Warning::WordAcross),
+        4 => field_warning(line, stand),
         _ => None,
     }
 }
