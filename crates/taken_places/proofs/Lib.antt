@@ -1,0 +1,1 @@
+-- Lemmas on free storage and cells.
