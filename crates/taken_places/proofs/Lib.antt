@@ -1,1 +1,4 @@
--- Lemmas on free storage and cells.
+-- Lemmas on free areas and on cells.
+mod FreeAreas
+mod InUse
+mod CellPools

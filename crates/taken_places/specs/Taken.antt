@@ -1,6 +1,6 @@
 -- How the storage at an address is taken, on the plain machine.
 -- Assembler Services Reference, STORAGE OBTAIN and CPOOL.
-use Rattle.std.specs.Prelude.{ℕ, ◌-◌, ◌*◌, ◌/◌, ◌%◌, Bool, true, false, ◌&&◌, ◌==◌, nat_le, nat_lt, if◌then◌else◌}
+use Rattle.std.specs.Prelude.{ℕ, ◌+◌, ◌-◌, ◌*◌, ◌/◌, ◌%◌, Bool, true, false, ◌&&◌, ◌==◌, nat_le, nat_lt, if◌then◌else◌}
 use Rattle.std.specs.Prelude.{Option, Some, None, option_map, unwrap_or, List, [], ◌∷◌}
 use Rattle.std.specs.Str.{bytes_eq}
 use Rattle.vsm_model.specs.declared.Subpool.{Subpool}
@@ -16,7 +16,7 @@ use Rattle.taken_places.specs.declared.takers.Taken.TheVariants as taken
 
 -- the extent has the address: it goes to the end of its last doubleword
 abbrev pub has_address : ℕ → ℕ → CellExtent → Bool
-has_address size address x = nat_le x.address address && nat_lt (address - x.address) (8 * doublewords (x.cells * size))
+has_address size address x = nat_le x.address address && nat_lt address (x.address + 8 * doublewords (x.cells * size))
 
 -- the first extent that has it
 abbrev pub extent_with : ℕ → ℕ → List CellExtent → Option CellExtent

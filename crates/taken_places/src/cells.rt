@@ -3,22 +3,27 @@ ghost use Rattle.std.specs.Prelude.{◌≡◌, ◌≤◌, IsSome, IfSome, map, o
 ghost use Rattle.storage_changes.specs.PoolTable.{cell_pool_of, extent_of};
 ghost use Rattle.storage_core.specs.Meaning.{state_of};
 ghost use Rattle.storage_map.specs.Cells.{cell_pool};
+ghost use Rattle.vsm_model.specs.Releasing.{overlaps_cells};
 ghost use Rattle.taken_places.specs.Taken.{cell_with, extent_with, has_address, taken_by, taken_cell, taken_in};
 
 use crate::takers::{PoolName, Taken};
 use arrayvec::ArrayVec;
+use cell_pool::laws::pools_are_one;
+use storage_changes::tables::overlaps_are_met;
 use storage_core::{Storage, Subpool};
 use storage_map::{
     CellId, CellPoolName, Extent, cell_pool_name, cell_pool_settings, first_cell_extent,
     next_cell_extent, next_cell_pool,
 };
+use subpool_storage::laws::cell_pools_are_named;
 
 /// Whether an extent of cells of a size has an address: it goes to the end of its last doubleword.
 fn has_address(size: u32, address: u32, extent: Extent) -> bool
     ensures { result ≡ has_address size address (extent_of extent) }
 {
     let bytes = u64::from(extent.count) * u64::from(size);
-    extent.start <= address && u64::from(address - extent.start) < 8 * ((bytes + 7) / 8)
+    let end = u64::from(extent.start) + 8 * ((bytes + 7) / 8);
+    extent.start <= address && u64::from(address) < end
 }
 
 /// The address of the cell of an extent in which an address lies; `None` after the last cell.
@@ -94,8 +99,18 @@ fn taken_in(storage: &Storage, id: CellId, address: u32) -> Option<Taken>
     }
 }
 
+/// Whether an extent of a cell pool has an address. A look-up for each cell pool tells.
+fn is_in_cells(storage: &Storage, address: u32) -> bool
+    ensures { result ≡ overlaps_cells (state_of storage.now) address 1 }
+{
+    overlaps_are_met();
+    pools_are_one();
+    cell_pools_are_named();
+    storage.cell_pools().holds(storage.elements(), address, 1)
+}
+
 /// How an address that is taken in a subpool is taken: by the first cell pool that has it, else by an obtain.
-pub(crate) fn taken_by(storage: &Storage, subpool: Subpool, address: u32) -> Taken
+fn first_taker(storage: &Storage, subpool: Subpool, address: u32) -> Taken
     ensures { result ≡ taken_by subpool address (state_of storage.now).cell_pools }
 {
     let mut behind: Option<CellPoolName> = None;
@@ -107,4 +122,15 @@ pub(crate) fn taken_by(storage: &Storage, subpool: Subpool, address: u32) -> Tak
         behind = Some(cell_pool_name(storage, id));
     }
     Taken::Obtained(subpool)
+}
+
+/// The same: cell pools are gone through only if one of them has the address.
+pub(crate) fn taken_by(storage: &Storage, subpool: Subpool, address: u32) -> Taken
+    ensures { result ≡ taken_by subpool address (state_of storage.now).cell_pools }
+{
+    if is_in_cells(storage, address) {
+        first_taker(storage, subpool, address)
+    } else {
+        Taken::Obtained(subpool)
+    }
 }
