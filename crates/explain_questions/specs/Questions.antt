@@ -1,5 +1,5 @@
 -- What is asked of a script, by what was read of the words.
-use Rattle.std.specs.Prelude.{◌≡◌, ◌⊎◌, ◌≤◌, ◌<◌, ◌+◌, ◌&&◌, ◌||◌, ◌==◌, ℕ, List, [], ◌∷◌, ◌++◌, codes, drop, length}
+use Rattle.std.specs.Prelude.{◌≡◌, ◌⊎◌, ◌≤◌, ◌<◌, ◌+◌, ◌&&◌, ◌||◌, ◌==◌, ℕ, List, [], ◌++◌, codes, drop, length}
 use Rattle.std.specs.Prelude.{if◌then◌else◌, map, nat_le, nat_lt, slice_index_or, true, false, ⊤, IfSome}
 use Rattle.std.specs.Prelude.{Bool, Option, Some, None, is_some, option_map, unwrap_or}
 use Rattle.std.specs.List.{after_first, before_first, position_or_len}
