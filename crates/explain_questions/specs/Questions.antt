@@ -1,5 +1,5 @@
 -- What is asked of a script, by what was read of the words.
-use Rattle.std.specs.Prelude.{◌≡◌, ◌⊎◌, ◌≤◌, ◌<◌, ◌+◌, ◌&&◌, ◌||◌, ◌==◌, ℕ, List, [], ◌∷◌, ◌++◌, codes, drop, length}
+use Rattle.std.specs.Prelude.{◌≡◌, ◌⊎◌, ◌≤◌, ◌<◌, ◌+◌, ◌&&◌, ◌||◌, ◌==◌, ℕ, List, [], ◌++◌, codes, drop, length}
 use Rattle.std.specs.Prelude.{if◌then◌else◌, map, nat_le, nat_lt, slice_index_or, true, false, ⊤, IfSome}
 use Rattle.std.specs.Prelude.{Bool, Option, Some, None, is_some, option_map, unwrap_or}
 use Rattle.std.specs.List.{after_first, before_first, position_or_len}
@@ -165,7 +165,8 @@ abbrev pub count_asked : List Row → ℕ
 count_asked rows =
     one_if (is_set (codes "log") rows) + one_if (is_given (codes "register") rows)
     + one_if (is_given (codes "name") rows) + one_if (is_given (codes "subpool") rows)
-    + one_if (is_given (codes "holds") rows) + one_if (is_given (codes "ADDRESS") rows)
+    + one_if (is_given (codes "holds") rows) + one_if (is_given (codes "taken") rows)
+    + one_if (is_given (codes "ADDRESS") rows)
 
 -- what it's asked for
 abbrev pub IsAboutAsked : List Row → About → Type 0
@@ -181,6 +182,8 @@ IsAboutAsked rows (about.Subpool task number) =
     (text : Text) × (first_of (codes "subpool") rows ≡ Some text) × (seen_in text ≡ Some (task, number))
 IsAboutAsked rows (about.Holder address) =
     (text : Text) × (first_of (codes "holds") rows ≡ Some text) × (address_number text ≡ Some address)
+IsAboutAsked rows (about.Taken address) =
+    (text : Text) × (first_of (codes "taken") rows ≡ Some text) × (address_number text ≡ Some address)
 
 -- `who` asks for one thing, or for all changes.
 abbrev pub IsWhoAsked : List Row → Question → Type 0
@@ -215,6 +218,7 @@ IsWrong rows refusal.SubpoolAtOnce =
     (is_set (codes "over-time") rows ≡ false) × (is_given (codes "subpool") rows ≡ true)
 IsWrong rows (refusal.Address word) =
     IsWrongWord (codes "holds") address_number rows word.now
+    ⊎ IsWrongWord (codes "taken") address_number rows word.now
     ⊎ IsWrongWord (codes "ADDRESS") address_number rows word.now
 IsWrong rows (refusal.Count word) = IsWrongWord (codes "COUNT") (number_within 1 256) rows word.now
 IsWrong rows (refusal.Register word) = IsWrongWord (codes "register") register_in rows word.now

@@ -51,6 +51,8 @@ pub enum About {
     Subpool { task: u8, number: u8 },
     /// Whose the page of this address is.
     Holder(u32),
+    /// How the storage at this address is taken.
+    Taken(u32),
 }
 
 /// What is asked of a script.
@@ -312,6 +314,17 @@ fn holder_of(word: &str) -> Result<About, WordRefusal<'_>>
     Ok(About::Holder(address_of(word)?))
 }
 
+/// How the storage at an address is taken.
+fn taken_of(word: &str) -> Result<About, WordRefusal<'_>>
+    ensures there { IfOk result IsThere }
+    ensures asked { (rows : List Row) → first_of (codes "taken") rows ≡ Some word.entry.now
+        → IfOk result (IsAboutAsked rows) }
+    ensures wrong { (rows : List Row) → first_of (codes "taken") rows ≡ Some word.entry.now
+        → IfErr result (IsWrong rows) }
+{
+    Ok(About::Taken(address_of(word)?))
+}
+
 /// The word of a name.
 fn name_of(word: &str) -> Result<About, WordRefusal<'_>>
     ensures there { IfOk result IsThere }
@@ -442,6 +455,7 @@ fn count_asked(matches: &ArgMatches<'_>) -> u32
         + u32::from(is_given(matches, "name"))
         + u32::from(is_given(matches, "subpool"))
         + u32::from(is_given(matches, "holds"))
+        + u32::from(is_given(matches, "taken"))
         + u32::from(is_given(matches, "ADDRESS"))
 }
 
@@ -460,6 +474,8 @@ fn about_asked<'a>(matches: &ArgMatches<'a>) -> Result<About, WordRefusal<'a>>
         subpool_of(word)
     } else if let Some(word) = text_of(matches, "holds") {
         holder_of(word)
+    } else if let Some(word) = text_of(matches, "taken") {
+        taken_of(word)
     } else if let Some(word) = text_of(matches, "ADDRESS") {
         bytes_of(word, text_of(matches, "COUNT"))
     } else {

@@ -74,9 +74,9 @@ impl<'a> WordRefusal<'a> {
             WordRefusal::SubpoolAtOnce =>
                 "--subpool goes with --over-time: a report has each subpool",
             WordRefusal::NothingAsked =>
-                "who asks for an ADDRESS, or by --holds, --subpool, --register, --name or --log",
+                "who asks for an ADDRESS, or by --taken, --holds, --subpool, --register, --name or --log",
             WordRefusal::MoreAsked =>
-                "who asks for one thing at a time: an ADDRESS, or by --holds, --subpool, --register, --name or --log",
+                "who asks for one thing at a time: an ADDRESS, or by --taken, --holds, --subpool, --register, --name or --log",
             _ =>
                 "settings out of their limits: --low is a multiple of 4 from 4 to 16360, --high one from 4 to \
                 1572864, --history from 1 to 65536",

@@ -62,6 +62,7 @@ module _ (settings : Settings) (script : List ℕ) (t : Traced) (question : Aske
   says (asked.Subpool task number) f e =
       let is : fault.NoTask task ≡ f = cc in subst Says is (λ h. (h, appends_nothing old))
   says (asked.Holder address) f e = absurd (let no : ◌≡◌ {A = Option WhoFault} None (Some f) = e in cc)
+  says (asked.Taken address) f e = absurd (let no : ◌≡◌ {A = Option WhoFault} None (Some f) = e in cc)
 
   -- What is lacking is a task or a name.
   is_missing : (b : Bool) (f : WhoFault) → (if b then missing question else None) ≡ Some f → missing question ≡ Some f

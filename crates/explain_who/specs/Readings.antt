@@ -8,6 +8,7 @@ use Rattle.vsm_model.specs.Bytes.{load}
 use Rattle.vsm_model.specs.State.{State, is_task}
 use Rattle.bench_core.specs.Stands.{bench_of, settings_in}
 use Rattle.bench_core.specs.declared.bench.Bench.{Bench}
+use Rattle.taken_places.specs.Taken.{same_taken, taken_at}
 use Rattle.explain_who.specs.Holdings.{holding_of, no_holding, same_holding}
 use Rattle.explain_who.specs.declared.holdings.Holding.{Holding}
 use Rattle.explain_who.specs.declared.readings.Subject.{Subject}
@@ -45,6 +46,7 @@ reading settings (Some (asked.Register task register)) m = seen.Register (regist
 reading settings (Some (asked.Name name)) m = seen.Name (word_of m.names name.bytes)
 reading settings (Some (asked.Subpool task number)) m = seen.Held (holding_read settings task number m)
 reading settings (Some (asked.Holder address)) m = seen.Holder (m.storage.pages (address / 4096))
+reading settings (Some (asked.Taken address)) m = seen.Taken (taken_at m.storage address)
 
 -- as it is in the state of a bench
 abbrev pub read_of : Bench → Option Subject → Seen
@@ -66,4 +68,5 @@ same (seen.Held None) (seen.Held None) = true
 same (seen.Held (Some a)) (seen.Held (Some b)) = same_holding a b
 same (seen.Holder None) (seen.Holder None) = true
 same (seen.Holder (Some a)) (seen.Holder (Some b)) = (a.number == b.number) && (a.owner == b.owner)
+same (seen.Taken a) (seen.Taken b) = same_taken a b
 same _ _ = false

@@ -7,13 +7,13 @@ use Rattle.std.specs.Char.{is_ascii_whitespace}
 use Rattle.std.specs.Fmt.{decimal}
 use Rattle.script_steps.specs.Responses.{shown_text}
 use Rattle.macro_statements.specs.Requests.{Act}
-use Rattle.vsm_model.specs.declared.Subpool.{Subpool}
 use Rattle.vsm_model.specs.declared.limits.Settings.{Settings}
 use Rattle.vsm_model.specs.declared.replies.Reply.{Reply}
 use Rattle.vsm_model.specs.Map.{line}
 use Rattle.vsm_model.specs.Regions.{in_a_region}
 use Rattle.vsm_model.specs.Standing.{Stood, Standing}
 use Rattle.vsm_model.specs.Texts.{hexadecimal}
+use Rattle.taken_places.specs.Texts.{subpool_text, taken_text}
 use Rattle.explain_who.specs.ScriptLines.{from_line}
 use Rattle.explain_who.specs.Who.{Difference}
 use Rattle.explain_who.specs.declared.holdings.Holding.{Holding}
@@ -71,15 +71,15 @@ abbrev pub runs_text : Runs → List ℕ → List ℕ
 runs_text runs word = codes " in " ++ counted runs.count word
 
 -- the bytes that are taken, and those that are free
-abbrev pub taken_text : Holding → List ℕ
-taken_text h =
+abbrev pub taken_and_free : Holding → List ℕ
+taken_and_free h =
     codes ", " ++ decimal (4096 * h.pages.total - 8 * h.free.total) ++ codes " taken, " ++ decimal (8 * h.free.total)
     ++ codes " free"
 
 -- the pages and extents of a subpool, these bytes, and the free areas
 abbrev pub pages_text : Holding → List ℕ
 pages_text h =
-    counted h.pages.total (codes "page") ++ runs_text h.pages (codes "extent") ++ taken_text h
+    counted h.pages.total (codes "page") ++ runs_text h.pages (codes "extent") ++ taken_and_free h
     ++ runs_text h.free (codes "area")
 
 abbrev pub holding_text : Holding → List ℕ
@@ -89,10 +89,6 @@ holding_text h = if h.pages.count == 0 then codes "no pages" else pages_text h
 abbrev pub word_text : Option ℕ → List ℕ → List ℕ
 word_text (Some word) none = hexadecimal 8 word
 word_text None none = none
-
--- a subpool with the task that it belongs to
-abbrev pub holder_text : Subpool → List ℕ
-holder_text p = codes "subpool " ++ decimal p.number ++ codes " of task " ++ decimal p.owner
 
 -- what is read
 abbrev pub seen_text : Seen → List ℕ
@@ -104,7 +100,8 @@ seen_text (seen.Name word) = word_text word (codes "not defined")
 seen_text (seen.Held None) = codes "no task"
 seen_text (seen.Held (Some holding)) = holding_text holding
 seen_text (seen.Holder None) = codes "unassigned"
-seen_text (seen.Holder (Some subpool)) = holder_text subpool
+seen_text (seen.Holder (Some subpool)) = subpool_text subpool
+seen_text (seen.Taken taken) = taken_text taken
 
 -- what is asked for
 abbrev pub asked_text : Subject → List ℕ
@@ -114,6 +111,7 @@ asked_text (asked.Name name) = codes "name " ++ name.bytes
 asked_text (asked.Subpool task number) =
     numbered (codes "subpool ") number ++ numbered (codes " as seen by task ") task
 asked_text (asked.Holder address) = codes "the page of " ++ hexadecimal 8 address
+asked_text (asked.Taken address) = codes "the storage at " ++ hexadecimal 8 address
 
 -- an address is asked for that is in neither region
 abbrev pub is_outside : Settings → Subject → Bool
@@ -122,6 +120,7 @@ is_outside settings (asked.Register task register) = false
 is_outside settings (asked.Name name) = false
 is_outside settings (asked.Subpool task number) = false
 is_outside settings (asked.Holder address) = not (in_a_region settings (address / 4096))
+is_outside settings (asked.Taken address) = not (in_a_region settings (address / 4096))
 
 abbrev pub outside_text : Settings → Subject → List ℕ
 outside_text settings question = if is_outside settings question then codes ", in neither region" else []

@@ -30,6 +30,7 @@ can_be_asked (asked.Register task register) = true
 can_be_asked (asked.Name name) = true
 can_be_asked (asked.Subpool task number) = true
 can_be_asked (asked.Holder address) = true
+can_be_asked (asked.Taken address) = true
 
 -- a reading finds no task, or no name
 abbrev pub is_absent : Seen → Bool
@@ -45,6 +46,7 @@ missing (asked.Register task register) = Some (fault.NoTask task)
 missing (asked.Name name) = Some (fault.NoName name)
 missing (asked.Subpool task number) = Some (fault.NoTask task)
 missing (asked.Holder address) = None
+missing (asked.Taken address) = None
 
 -- and no reading has it if the first hasn't, and no statement changes that
 abbrev pub lacking : Subject → Seen → List Difference → Option WhoFault

@@ -96,7 +96,8 @@ fn can_be_asked(asked: &Subject) -> bool
         Subject::Register { .. }
         | Subject::Name(_)
         | Subject::Subpool { .. }
-        | Subject::Holder(_) => true,
+        | Subject::Holder(_)
+        | Subject::Taken(_) => true,
     }
 }
 
@@ -111,7 +112,8 @@ fn is_absent(seen: &Seen) -> bool
         | Seen::Register(Some(_))
         | Seen::Name(Some(_))
         | Seen::Held(Some(_))
-        | Seen::Holder(_) => false,
+        | Seen::Holder(_)
+        | Seen::Taken(_) => false,
     }
 }
 
@@ -123,7 +125,7 @@ fn missing(asked: &Subject) -> Option<WhoFault>
         Subject::Register { task, .. } => Some(WhoFault::NoTask(*task)),
         Subject::Subpool { task, .. } => Some(WhoFault::NoTask(*task)),
         Subject::Name(name) => Some(WhoFault::NoName(*name)),
-        Subject::Bytes { .. } | Subject::Holder(_) => None,
+        Subject::Bytes { .. } | Subject::Holder(_) | Subject::Taken(_) => None,
     }
 }
 

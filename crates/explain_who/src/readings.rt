@@ -5,12 +5,14 @@ ghost use Rattle.bench_core.specs.Stands.{bench_of, settings_in};
 ghost use Rattle.explain_who.specs.Readings.{bytes_read, holding_read, holding_seen, register_read, reading, same};
 ghost use Rattle.explain_who.specs.Readings.{same_word};
 ghost use Rattle.storage_core.specs.Meaning.{settings_of, state_of};
+ghost use Rattle.taken_places.specs.Taken.{taken_at};
 
 use crate::holdings::{Holding, holding_of};
 use arrayvec::ArrayVec;
 use operand_texts::Name;
 use script_steps::Bench;
 use storage_core::Storage;
+use taken_places::{Taken, taken_at};
 use vsm_model::geometry::PAGE_BYTES;
 use vsm_model::{Cause, Subpool};
 
@@ -27,6 +29,8 @@ pub enum Subject {
     Subpool { task: u8, number: u8 },
     /// The subpool that the page of an address belongs to.
     Holder(u32),
+    /// How the storage at an address is taken.
+    Taken(u32),
 }
 
 /// What is read.
@@ -44,6 +48,8 @@ pub enum Seen {
     Held(Option<Holding>),
     /// The subpool; `None` where the page isn't assigned.
     Holder(Option<Subpool>),
+    /// How the storage is taken.
+    Taken(Taken),
 }
 
 /// Bytes in room for 256.
@@ -114,6 +120,13 @@ fn read_holder(bench: &Bench, address: u32) -> Option<Subpool>
     bench.storage().subpool_of_page(address / PAGE_BYTES)
 }
 
+/// How the storage at an address is taken.
+fn read_taken(bench: &Bench, address: u32) -> Taken
+    ensures { result ≡ taken_at (bench_of bench.now).present.storage address }
+{
+    taken_at(bench.storage(), address)
+}
+
 /// What is read of a bench as it is.
 pub(crate) fn read(bench: &Bench, asked: &Option<Subject>) -> Seen
     ensures { result ≡ reading (settings_in bench.now) asked.now (bench_of bench.now).present }
@@ -127,6 +140,7 @@ pub(crate) fn read(bench: &Bench, asked: &Option<Subject>) -> Seen
         Some(Subject::Name(name)) => Seen::Name(bench.name(name)),
         Some(Subject::Subpool { task, number }) => Seen::Held(read_holding(bench, *task, *number)),
         Some(Subject::Holder(address)) => Seen::Holder(read_holder(bench, *address)),
+        Some(Subject::Taken(address)) => Seen::Taken(read_taken(bench, *address)),
     }
 }
 
@@ -157,6 +171,7 @@ pub(crate) fn same(a: &Seen, b: &Seen) -> bool
         (Seen::Holder(Some(a)), Seen::Holder(Some(b))) => {
             a.number == b.number && a.owner == b.owner
         }
+        (Seen::Taken(a), Seen::Taken(b)) => a.is_same(b),
         _ => false,
     }
 }

@@ -4,16 +4,16 @@ ghost use Rattle.text_output.specs.Writing.{Puts};
 ghost use Rattle.script_steps.specs.Responses.{shown_text};
 ghost use Rattle.vsm_model.specs.Regions.{among, in_a_region};
 ghost use Rattle.explain_who.specs.Texts.{asked_text, counted, holding_text, is_outside, numbered, outside_text};
-ghost use Rattle.explain_who.specs.Texts.{holder_text, pages_text, plural, question_text, runs_text, seen_text};
-ghost use Rattle.explain_who.specs.Texts.{taken_text};
+ghost use Rattle.explain_who.specs.Texts.{pages_text, plural, question_text, runs_text, seen_text, taken_and_free};
 ghost use Rattle.explain_who.specs.Texts.{word_text};
 
 use crate::holdings::{Holding, Runs};
 use crate::readings::{Seen, Subject};
 use std::io::Write;
+use taken_places::{put_subpool, put_taken};
 use text_output::{Gathered, put_byte, put_decimal, put_hexadecimal};
+use vsm_model::Settings;
 use vsm_model::geometry::{HIGH_PAGE, LOW_PAGE, PAGE_BYTES, PAGE_K};
-use vsm_model::{Settings, Subpool};
 
 /// Puts the plural's letter if there isn't one of it.
 #[tactic(auto, using(text_output::proofs::Gathering::puts_none))]
@@ -74,6 +74,10 @@ fn put_asked<W: Write>(gathered: &mut Gathered, writer: &mut W, asked: &Subject)
             gathered.put(writer, b"the page of ");
             put_hexadecimal(gathered, writer, 8, *address);
         }
+        Subject::Taken(address) => {
+            gathered.put(writer, b"the storage at ");
+            put_hexadecimal(gathered, writer, 8, *address);
+        }
     }
 }
 
@@ -100,7 +104,7 @@ fn is_outside(settings: Settings, asked: &Subject) -> bool
 {
     match asked {
         Subject::Bytes { address, .. } => !is_in_a_region(settings, *address),
-        Subject::Holder(address) => !is_in_a_region(settings, *address),
+        Subject::Holder(address) | Subject::Taken(address) => !is_in_a_region(settings, *address),
         Subject::Register { .. } | Subject::Name(_) | Subject::Subpool { .. } => false,
     }
 }
@@ -175,8 +179,8 @@ fn taken_bytes(holding: Holding) -> u64
 
 /// Puts the bytes of a subpool that are taken, and those that are free.
 #[tactic(auto, using(text_output::proofs::Gathering::puts_both))]
-fn put_taken<W: Write>(gathered: &mut Gathered, writer: &mut W, holding: Holding)
-    ensures { Puts (W.contents writer.old) (W.contents writer.new) gathered.old gathered.new (taken_text holding) }
+fn put_taken_and_free<W: Write>(gathered: &mut Gathered, writer: &mut W, holding: Holding)
+    ensures { Puts (W.contents writer.old) (W.contents writer.new) gathered.old gathered.new (taken_and_free holding) }
 {
     gathered.put(writer, b", ");
     put_decimal(gathered, writer, taken_bytes(holding));
@@ -192,7 +196,7 @@ fn put_pages<W: Write>(gathered: &mut Gathered, writer: &mut W, holding: Holding
 {
     put_count(gathered, writer, u64::from(holding.pages.total), b"page");
     put_runs(gathered, writer, holding.pages, b"extent");
-    put_taken(gathered, writer, holding);
+    put_taken_and_free(gathered, writer, holding);
     put_runs(gathered, writer, holding.free, b"area");
 }
 
@@ -206,18 +210,6 @@ fn put_holding<W: Write>(gathered: &mut Gathered, writer: &mut W, holding: Holdi
     } else {
         put_pages(gathered, writer, holding);
     }
-}
-
-/// Puts a subpool with the task that it belongs to.
-#[tactic(auto, using(text_output::proofs::Gathering::puts_both))]
-fn put_holder<W: Write>(gathered: &mut Gathered, writer: &mut W, subpool: Subpool)
-    ensures { Puts (W.contents writer.old) (W.contents writer.new) gathered.old gathered.new
-        (holder_text subpool) }
-{
-    gathered.put(writer, b"subpool ");
-    put_decimal(gathered, writer, u64::from(subpool.number));
-    gathered.put(writer, b" of task ");
-    put_decimal(gathered, writer, u64::from(subpool.owner));
 }
 
 /// Puts bytes as PEEK shows them, two hexadecimal digits each.
@@ -245,6 +237,7 @@ pub(crate) fn put_seen<W: Write>(gathered: &mut Gathered, writer: &mut W, seen: 
         Seen::Held(None) => gathered.put(writer, b"no task"),
         Seen::Held(Some(holding)) => put_holding(gathered, writer, *holding),
         Seen::Holder(None) => gathered.put(writer, b"unassigned"),
-        Seen::Holder(Some(subpool)) => put_holder(gathered, writer, *subpool),
+        Seen::Holder(Some(subpool)) => put_subpool(gathered, writer, *subpool),
+        Seen::Taken(taken) => put_taken(gathered, writer, taken),
     }
 }

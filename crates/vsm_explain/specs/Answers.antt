@@ -69,6 +69,7 @@ subject_of (about.Register task register) = subject.Register task register
 subject_of (about.Name name) = subject.Name name
 subject_of (about.Subpool task number) = subject.Subpool task number
 subject_of (about.Holder address) = subject.Holder address
+subject_of (about.Taken address) = subject.Taken address
 
 -- ---- the answers
 

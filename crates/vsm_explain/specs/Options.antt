@@ -49,7 +49,7 @@ who_form = record {
   name = codes "who";
   rules =
       valued (codes "register") ∷ valued (codes "name") ∷ valued (codes "subpool") ∷ valued (codes "holds")
-      ∷ flag (codes "log") ∷ operand (codes "FILE") ∷ operand (codes "ADDRESS") ∷ operand (codes "COUNT") ∷ [];
+      ∷ valued (codes "taken") ∷ flag (codes "log") ∷ operand (codes "FILE") ∷ operand (codes "ADDRESS") ∷ operand (codes "COUNT") ∷ [];
 }
 
 abbrev pub forms : List Form

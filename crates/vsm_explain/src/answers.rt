@@ -159,6 +159,7 @@ fn asked(about: About) -> Subject
         About::Name(name) => Subject::Name(name),
         About::Subpool { task, number } => Subject::Subpool { task, number },
         About::Holder(address) => Subject::Holder(address),
+        About::Taken(address) => Subject::Taken(address),
     }
 }
 

@@ -123,6 +123,11 @@ static WHO: CommandForm = CommandForm {
             help: "Ask for the subpool that holds the page of ADDRESS",
         },
         WordRow {
+            name: "taken",
+            kind: WordKind::Valued("ADDRESS"),
+            help: "Ask how the storage at ADDRESS is taken: by an obtain, or in a cell, in use or free",
+        },
+        WordRow {
             name: "log",
             kind: WordKind::Flag,
             help: "List each change that is kept, and each that is undone, with its line",

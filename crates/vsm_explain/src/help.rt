@@ -64,5 +64,6 @@ first line of the answer says what was asked for.
 Examples, as a shell takes them:
   vsm-explain who example.vsm 00006006 2       names the lines that changed the two bytes there,
   vsm-explain who --register 1,3 example.vsm   those that changed register 3 of task 1,
-  vsm-explain who --holds 0x6000 example.vsm   those by which the page at X'6000' came to a subpool, or left it.
+  vsm-explain who --holds 0x6000 example.vsm   those by which the page at X'6000' came to a subpool, or left it,
+  vsm-explain who --taken 0x6040 example.vsm   those that obtained, released or handed out what is at X'6040'.
 ";

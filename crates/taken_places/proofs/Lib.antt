@@ -1,0 +1,4 @@
+-- Lemmas on free areas and on cells.
+mod FreeAreas
+mod InUse
+mod CellPools
