@@ -39,7 +39,7 @@ abbrev pub zero_words : Words
 zero_words = codes "subpool 0 can't be released whole" ∷ []
 
 abbrev pub misaligned_words : Words
-misaligned_words = codes " is no multiple of 8: it stands " ∷ []
+misaligned_words = codes " is no multiple of 8: it is " ∷ []
 
 abbrev pub foreign_words : Words
 foreign_words =
@@ -80,7 +80,7 @@ abbrev pub pool_exists_words : Words
 pool_exists_words = codes " already" ∷ []
 
 abbrev pub pools_full_words : Words
-pools_full_words = codes " cell pools are there, which is the most" ∷ []
+pools_full_words = codes "there are 256 cell pools, which is the most" ∷ []
 
 abbrev pub no_pool_words : Words
 no_pool_words = codes "there is no cell pool " ∷ codes " lies in subpool " ∷ []

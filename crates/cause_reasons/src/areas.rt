@@ -40,7 +40,7 @@ pub(crate) fn put_first_extent<W: Write>(
     put_area(gathered, writer, storage, extent);
 }
 
-/// Puts where a further extent of a cell pool goes.
+/// Puts how many bytes a further extent of a cell pool has, and where it goes.
 fn put_further_extent<W: Write>(
     gathered: &mut Gathered,
     writer: &mut W,
@@ -57,6 +57,23 @@ fn put_further_extent<W: Write>(
         Residence::Below => Location::Low,
         Residence::Above => Location::Either,
     };
+    put_line(
+        gathered,
+        writer,
+        &[
+            Piece::Text("a further extent has "),
+            Piece::Number(built.secondary),
+            Piece::Text(if built.secondary == 1 {
+                " cell of "
+            } else {
+                " cells of "
+            }),
+            Piece::Number(built.size),
+            Piece::Text(" bytes: "),
+            Piece::Number(built.secondary.saturating_mul(built.size)),
+            Piece::Text(" bytes"),
+        ],
+    );
     let number = u32::from(built.subpool.number);
     let extent = extent_asked(built.secondary, built.size, number, location);
     put_area(gathered, writer, storage, extent);

@@ -6,10 +6,10 @@ ghost use Rattle.cause_reasons.specs.Told.{TellsEffect, TellsService};
 
 use crate::areas::{put_area, put_first_extent, put_no_cell};
 use crate::cells::{find_pool, put_no_pool};
-use crate::pages::put_pages;
+use crate::pages::put_stored;
 use crate::refusals::put_refusal;
 use crate::releases::put_seen;
-use crate::tasks::{put_parent, put_task_count};
+use crate::tasks::{put_any_parent, put_ended, put_task_count};
 use place_reasons::{Piece, put_line};
 use std::io::Write;
 use storage_core::{Cause, Service, Storage};
@@ -54,13 +54,17 @@ fn put_no_cause<W: Write>(
         Service::Release(r) => put_released(gathered, writer, storage, r.number),
         Service::Whole { number } => put_seen(gathered, writer, storage, *number),
         Service::Attach(_) => put_task_count(gathered, writer, storage),
-        Service::Detach { task } | Service::Run { task } => {
-            put_parent(gathered, writer, storage, *task)
-        }
-        Service::EndTask => put_parent(gathered, writer, storage, u32::from(storage.current())),
+        Service::Detach { task } => put_ended(gathered, writer, storage, *task),
+        Service::EndTask => put_ended(gathered, writer, storage, u32::from(storage.current())),
+        Service::Run { task } => put_any_parent(gathered, writer, storage, *task),
         Service::Store { address, bytes } => {
-            let count = bytes.len().min(256) as u32;
-            put_pages(gathered, writer, storage, *address, count)
+            put_stored(
+                gathered,
+                writer,
+                storage,
+                *address,
+                bytes.len().min(256) as u32,
+            )
         }
         Service::Build { numbers, .. } => put_first_extent(gathered, writer, storage, *numbers),
         Service::Get { name, operands } => {

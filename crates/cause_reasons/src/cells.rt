@@ -31,19 +31,6 @@ pub(crate) fn find_pool(storage: &Storage, name: &str) -> Option<CellId>
     None
 }
 
-/// How many cell pools there are.
-pub(crate) fn count_pools(storage: &Storage) -> u32 {
-    let mut next = next_cell_pool(storage, None);
-    for count in 0..MOST_CELL_POOLS {
-        let Some(id) = next else {
-            return count;
-        };
-        let name = cell_pool_name(storage, id);
-        next = next_cell_pool(storage, Some(&name));
-    }
-    MOST_CELL_POOLS
-}
-
 /// The doublewords of an extent.
 fn extent_area(settings: CellSettings, extent: Extent) -> Run {
     let bytes = extent.count.saturating_mul(settings.size);

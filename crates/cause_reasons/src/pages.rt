@@ -3,13 +3,13 @@ ghost use Rattle.place_reasons.specs.Told.{PutsSome};
 ghost use Rattle.cause_reasons.specs.Told.{PutsOneOf};
 ghost use Rattle.cause_reasons.specs.Words.{not_there_words};
 
-use place_reasons::{Piece, put_line, put_pieces};
+use place_reasons::{Piece, bytes_word, put_free_bytes, put_line, put_pieces};
 use std::io::Write;
 use storage_core::{Storage, Subpool};
 use text_output::Gathered;
 use vsm_model::geometry::PAGE_BYTES;
 
-/// Puts whose the pages of bytes that are shown are.
+/// Puts whose the pages of bytes that are shown are, and which of these are free.
 pub fn put_bytes<W: Write>(
     gathered: &mut Gathered,
     writer: &mut W,
@@ -24,16 +24,13 @@ pub fn put_bytes<W: Write>(
         writer,
         &[
             Piece::Number(count),
-            Piece::Text(if count == 1 {
-                " byte at "
-            } else {
-                " bytes at "
-            }),
+            Piece::Text(bytes_word(count)),
+            Piece::Text(" at "),
             Piece::Address(address),
             Piece::Text("\n"),
         ],
     );
-    put_pages(gathered, writer, storage, address, count);
+    put_stored(gathered, writer, storage, address, count);
 }
 
 /// Puts that the page of a byte isn't assigned.
@@ -71,7 +68,12 @@ fn put_holder<W: Write>(gathered: &mut Gathered, writer: &mut W, address: u32, s
 }
 
 /// Puts whose the page of a byte is.
-fn put_page<W: Write>(gathered: &mut Gathered, writer: &mut W, storage: &Storage, address: u32)
+pub(crate) fn put_page<W: Write>(
+    gathered: &mut Gathered,
+    writer: &mut W,
+    storage: &Storage,
+    address: u32,
+)
     ensures { PutsSome (W.contents writer.old) (W.contents writer.new) gathered.old gathered.new }
 {
     match storage.subpool_of_page(address / PAGE_BYTES) {
@@ -159,4 +161,18 @@ pub(crate) fn put_pages<W: Write>(
     put_page(gathered, writer, storage, address);
     let last = address.checked_add(count.saturating_sub(1));
     put_last(gathered, writer, storage, address, last);
+}
+
+/// Puts whose the pages of bytes that are stored are, and which of these were free.
+pub(crate) fn put_stored<W: Write>(
+    gathered: &mut Gathered,
+    writer: &mut W,
+    storage: &Storage,
+    address: u32,
+    count: u32,
+)
+    ensures { PutsSome (W.contents writer.old) (W.contents writer.new) gathered.old gathered.new }
+{
+    put_pages(gathered, writer, storage, address, count);
+    put_free_bytes(gathered, writer, storage, address, count);
 }

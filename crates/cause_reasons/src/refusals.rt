@@ -10,11 +10,11 @@ ghost use Rattle.cause_reasons.specs.Words.{too_high_words, zero_words};
 ghost use Rattle.cause_reasons.specs.Told.{TellsService};
 
 use crate::areas::{put_area, put_first_extent, put_no_cell};
-use crate::cells::{count_pools, put_no_pool, put_not_in_use, put_overlap};
+use crate::cells::{put_no_pool, put_not_in_use, put_overlap};
 use crate::pages::put_not_there;
 use crate::releases::{put_free, put_not_in_subpool, put_owned, put_unseen};
 use crate::tasks::{put_attach, put_detach, put_end, put_no_task};
-use place_reasons::{Piece, put_line};
+use place_reasons::{Piece, bytes_word, put_line};
 use std::io::Write;
 use storage_core::{Build, Cause, Get, Lengths, Obtain, Release, Service, Storage};
 use text_output::Gathered;
@@ -64,45 +64,27 @@ fn put_names_full<W: Write>(gathered: &mut Gathered, writer: &mut W)
     );
 }
 
-/// Puts that a minimum is above the maximum.
-fn put_turned_lengths<W: Write>(gathered: &mut Gathered, writer: &mut W, minimum: u32, maximum: u32)
-    ensures told { PutsOneOf lengths_words (W.contents writer.old) (W.contents writer.new) gathered.old gathered.new }
-    ensures some { PutsSome (W.contents writer.old) (W.contents writer.new) gathered.old gathered.new }
-{
-    put_line(
-        gathered,
-        writer,
-        &[
-            Piece::Text("the minimum, "),
-            Piece::Number(minimum),
-            Piece::Text(", is above the maximum, "),
-            Piece::Number(maximum),
-        ],
-    );
-}
-
-/// Puts that no byte is asked for.
-fn put_no_length<W: Write>(gathered: &mut Gathered, writer: &mut W)
-    ensures told { PutsOneOf lengths_words (W.contents writer.old) (W.contents writer.new) gathered.old gathered.new }
-    ensures some { PutsSome (W.contents writer.old) (W.contents writer.new) gathered.old gathered.new }
-{
-    put_line(
-        gathered,
-        writer,
-        &[Piece::Text("a length of 0 bytes is asked for")],
-    );
-}
-
 /// Puts why the lengths are bad.
 fn put_bad_length<W: Write>(gathered: &mut Gathered, writer: &mut W, lengths: Lengths)
     ensures told { PutsOneOf lengths_words (W.contents writer.old) (W.contents writer.new) gathered.old gathered.new }
     ensures some { PutsSome (W.contents writer.old) (W.contents writer.new) gathered.old gathered.new }
 {
     match lengths {
-        Lengths::Variable { maximum, minimum } if maximum < minimum => {
-            put_turned_lengths(gathered, writer, minimum, maximum)
-        }
-        _ => put_no_length(gathered, writer),
+        Lengths::Variable { maximum, minimum } if maximum < minimum => put_line(
+            gathered,
+            writer,
+            &[
+                Piece::Text("the minimum, "),
+                Piece::Number(minimum),
+                Piece::Text(", is above the maximum, "),
+                Piece::Number(maximum),
+            ],
+        ),
+        Lengths::Variable { .. } | Lengths::Fixed(_) => put_line(
+            gathered,
+            writer,
+            &[Piece::Text("a length of 0 bytes is asked for")],
+        ),
     }
 }
 
@@ -155,9 +137,10 @@ fn put_misaligned<W: Write>(gathered: &mut Gathered, writer: &mut W, address: u3
         writer,
         &[
             Piece::Address(address),
-            Piece::Text(" is no multiple of 8: it stands "),
+            Piece::Text(" is no multiple of 8: it is "),
             Piece::Number(address % 8),
-            Piece::Text(" bytes behind one"),
+            Piece::Text(bytes_word(address % 8)),
+            Piece::Text(" after one"),
         ],
     );
 }
@@ -241,7 +224,10 @@ fn put_whole<W: Write>(
         Cause::SubpoolNotAllowed => put_too_high(gathered, writer, number),
         Cause::WholeOfZero => put_zero(gathered, writer),
         Cause::NotInSubpool => put_unseen(gathered, writer, storage, number),
-        Cause::NotOwner => put_owned(gathered, writer, storage, number),
+        Cause::NotOwner => {
+            let note = "; only its owner releases it whole";
+            put_owned(gathered, writer, storage, number, note)
+        }
         Cause::BadLength
         | Cause::TooManyNames
         | Cause::NoStorage
@@ -275,7 +261,8 @@ fn put_bad_cells<W: Write>(gathered: &mut Gathered, writer: &mut W, b: Build)
                 "a size is a multiple of 4 from 4 to 4096, and a count 1 to 4096; asked for are cells of ",
             ),
             Piece::Number(b.size),
-            Piece::Text(" bytes, "),
+            Piece::Text(bytes_word(b.size)),
+            Piece::Text(", "),
             Piece::Number(b.primary),
             Piece::Text(" at first and then "),
             Piece::Number(b.secondary.unwrap_or(b.primary)),
@@ -301,7 +288,7 @@ fn put_pool_exists<W: Write>(gathered: &mut Gathered, writer: &mut W, name: &str
 }
 
 /// Puts that there are as many cell pools as there can be.
-fn put_pools_full<W: Write>(gathered: &mut Gathered, writer: &mut W, storage: &Storage)
+fn put_pools_full<W: Write>(gathered: &mut Gathered, writer: &mut W)
     ensures told { PutsOneOf pools_full_words
         (W.contents writer.old) (W.contents writer.new) gathered.old gathered.new }
     ensures some { PutsSome (W.contents writer.old) (W.contents writer.new) gathered.old gathered.new }
@@ -309,10 +296,7 @@ fn put_pools_full<W: Write>(gathered: &mut Gathered, writer: &mut W, storage: &S
     put_line(
         gathered,
         writer,
-        &[
-            Piece::Number(count_pools(storage)),
-            Piece::Text(" cell pools are there, which is the most"),
-        ],
+        &[Piece::Text("there are 256 cell pools, which is the most")],
     );
 }
 
@@ -338,7 +322,7 @@ fn put_build<W: Write>(
         Cause::SubpoolNotAllowed => put_too_high(gathered, writer, b.number),
         Cause::BadCells => put_bad_cells(gathered, writer, b),
         Cause::CellPoolExists => put_pool_exists(gathered, writer, name),
-        Cause::TooManyCellPools => put_pools_full(gathered, writer, storage),
+        Cause::TooManyCellPools => put_pools_full(gathered, writer),
         Cause::NoStorage => put_first_extent(gathered, writer, storage, b),
         Cause::BadLength
         | Cause::TooManyNames

@@ -3,14 +3,12 @@ ghost use Rattle.place_reasons.specs.Told.{PutsSome};
 ghost use Rattle.cause_reasons.specs.Told.{PutsOneOf};
 ghost use Rattle.cause_reasons.specs.Words.{foreign_words, free_words, seen_words, unseen_words};
 
-use place_reasons::{
-    Piece, area_of, first_free, first_page_beside, first_page_of_another, pages_of, put_line,
-    region_end, seen, seen_or_own,
-};
+use crate::pages::put_page;
+use place_reasons::{Piece, area_of, first_foreign, first_not_taken, put_line, seen, seen_or_own};
 use std::io::Write;
 use storage_core::{Release, Storage, Subpool};
 use text_output::Gathered;
-use vsm_model::geometry::{PAGE_BYTES, PAGE_DOUBLEWORDS};
+use vsm_model::geometry::PAGE_DOUBLEWORDS;
 
 /// Puts that a byte lies in a page of another subpool.
 fn put_in_another<W: Write>(gathered: &mut Gathered, writer: &mut W, address: u32, other: Subpool)
@@ -58,16 +56,13 @@ fn put_foreign<W: Write>(
     ensures told { PutsOneOf foreign_words (W.contents writer.old) (W.contents writer.new) gathered.old gathered.new }
     ensures some { PutsSome (W.contents writer.old) (W.contents writer.new) gathered.old gathered.new }
 {
-    let pages = pages_of(area_of(r));
-    if let Some((page, other)) = first_page_of_another(storage, subpool, pages) {
-        let address = page.saturating_mul(PAGE_BYTES).max(r.address);
-        return put_in_another(gathered, writer, address, other);
+    let area = area_of(r);
+    let doubleword = first_foreign(storage, subpool, area).unwrap_or(area.start);
+    let address = doubleword.saturating_mul(8);
+    match storage.subpool_of_page(doubleword / PAGE_DOUBLEWORDS) {
+        Some(other) => put_in_another(gathered, writer, address, other),
+        None => put_outside(gathered, writer, address),
     }
-    let outside = match region_end(storage.settings(), pages.start) {
-        Some(end) => end.saturating_mul(PAGE_BYTES),
-        None => r.address,
-    };
-    put_outside(gathered, writer, outside);
 }
 
 /// Puts why a release isn't of the subpool that is named.
@@ -82,7 +77,10 @@ pub(crate) fn put_not_in_subpool<W: Write>(
 {
     match seen(storage, r.number) {
         Some(subpool) => put_foreign(gathered, writer, storage, subpool, r),
-        None => put_unseen(gathered, writer, storage, r.number),
+        None => {
+            put_unseen(gathered, writer, storage, r.number);
+            put_page(gathered, writer, storage, r.address);
+        }
     }
 }
 
@@ -108,12 +106,13 @@ pub(crate) fn put_unseen<W: Write>(
     );
 }
 
-/// Puts whose the subpool is that the current task sees at a number, or is to have there.
+/// Puts whose the subpool is that the current task sees at a number, or is to have there, and a note.
 pub(crate) fn put_owned<W: Write>(
     gathered: &mut Gathered,
     writer: &mut W,
     storage: &Storage,
     number: u32,
+    note: &str,
 )
     ensures told { PutsOneOf seen_words (W.contents writer.old) (W.contents writer.new) gathered.old gathered.new }
     ensures some { PutsSome (W.contents writer.old) (W.contents writer.new) gathered.old gathered.new }
@@ -129,6 +128,7 @@ pub(crate) fn put_owned<W: Write>(
             Piece::Number(number),
             Piece::Text(" of task "),
             Piece::Number(u32::from(owner)),
+            Piece::Text(note),
         ],
     );
 }
@@ -143,7 +143,7 @@ pub(crate) fn put_seen<W: Write>(
     ensures { PutsSome (W.contents writer.old) (W.contents writer.new) gathered.old gathered.new }
 {
     match seen(storage, number) {
-        Some(_) => put_owned(gathered, writer, storage, number),
+        Some(_) => put_owned(gathered, writer, storage, number, ""),
         None => put_unseen(gathered, writer, storage, number),
     }
 }
@@ -195,10 +195,9 @@ pub(crate) fn put_free<W: Write>(
 {
     let subpool = seen_or_own(storage, r.number);
     let area = area_of(r);
-    let beside = first_page_beside(storage, subpool, pages_of(area));
-    let unassigned = beside.saturating_mul(PAGE_DOUBLEWORDS).max(area.start);
-    match first_free(storage, subpool, area) {
-        Some(free) if free < unassigned => put_free_in(gathered, writer, free, subpool),
-        _ => put_nobodys(gathered, writer, unassigned),
+    let doubleword = first_not_taken(storage, subpool, area).unwrap_or(area.start);
+    match storage.subpool_of_page(doubleword / PAGE_DOUBLEWORDS) {
+        Some(subpool) => put_free_in(gathered, writer, doubleword, subpool),
+        None => put_nobodys(gathered, writer, doubleword),
     }
 }

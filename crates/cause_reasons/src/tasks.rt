@@ -7,7 +7,7 @@ ghost use Rattle.cause_reasons.specs.Words.{attach_words, end_task_words, no_lis
 ghost use Rattle.cause_reasons.specs.Words.{not_parent_words, subtask_words, task_count_words, task_words};
 
 use crate::releases::put_seen;
-use place_reasons::{Piece, put_line};
+use place_reasons::{Piece, put_line, put_subpools_end};
 use std::io::Write;
 use storage_core::{Attach, Cause, Passed, Storage};
 use text_output::Gathered;
@@ -93,6 +93,34 @@ pub(crate) fn put_parent<W: Write>(
         None | Some(0) => put_no_parent(gathered, writer),
         Some(parent) => put_its_parent(gathered, writer, task, parent, storage.current()),
     }
+}
+
+/// Puts which task is the parent of a task that has one.
+pub(crate) fn put_any_parent<W: Write>(
+    gathered: &mut Gathered,
+    writer: &mut W,
+    storage: &Storage,
+    task: u32,
+)
+    ensures { PutsSome (W.contents writer.old) (W.contents writer.new) gathered.old gathered.new }
+{
+    match parent_of(storage, task) {
+        None | Some(0) => (),
+        Some(_) => put_parent(gathered, writer, storage, task),
+    }
+}
+
+/// Puts whose subtask a task is that ends, and which subpools go with it, and which stay.
+pub(crate) fn put_ended<W: Write>(
+    gathered: &mut Gathered,
+    writer: &mut W,
+    storage: &Storage,
+    task: u32,
+)
+    ensures { PutsSome (W.contents writer.old) (W.contents writer.new) gathered.old gathered.new }
+{
+    put_any_parent(gathered, writer, storage, task);
+    put_subpools_end(gathered, writer, storage, task);
 }
 
 /// Puts why a task can't be ended by another.

@@ -2,7 +2,7 @@
 ghost use Rattle.place_reasons.specs.Told.{PutsSome};
 
 use macro_reader::FaultKind;
-use place_reasons::{Piece, put_pieces};
+use place_reasons::{Piece, bytes_word, put_pieces};
 use std::io::Write;
 use storage_core::{
     Attach, Boundary, Build, Lengths, Location, Obtain, Passed, Release, Residence, Service,
@@ -32,7 +32,8 @@ fn put_length<W: Write>(gathered: &mut Gathered, writer: &mut W, length: u32)
         writer,
         &[
             Piece::Number(length),
-            Piece::Text(" bytes (X'"),
+            Piece::Text(bytes_word(length)),
+            Piece::Text(" (X'"),
             Piece::Digits(length),
             Piece::Text("')"),
         ],
@@ -104,6 +105,11 @@ fn put_build<W: Write>(
 )
     ensures { PutsSome (W.contents writer.old) (W.contents writer.new) gathered.old gathered.new }
 {
+    let cells = if b.primary == 1 {
+        " cell of "
+    } else {
+        " cells of "
+    };
     put_pieces(
         gathered,
         writer,
@@ -112,9 +118,10 @@ fn put_build<W: Write>(
             Piece::Text(name),
             Piece::Text(" of "),
             Piece::Number(b.primary),
-            Piece::Text(" cells of "),
+            Piece::Text(cells),
             Piece::Number(b.size),
-            Piece::Text(" bytes, subpool "),
+            Piece::Text(bytes_word(b.size)),
+            Piece::Text(", subpool "),
             Piece::Number(b.number),
             Piece::Text(", "),
             Piece::Text(side_text(settings, b.location)),
@@ -163,12 +170,14 @@ fn put_attach<W: Write>(gathered: &mut Gathered, writer: &mut W, a: Attach)
 fn put_store<W: Write>(gathered: &mut Gathered, writer: &mut W, address: u32, bytes: &[u8])
     ensures { PutsSome (W.contents writer.old) (W.contents writer.new) gathered.old gathered.new }
 {
+    let count = bytes.len().min(256) as u32;
     put_pieces(
         gathered,
         writer,
         &[
-            Piece::Number(bytes.len().min(256) as u32),
-            Piece::Text(" bytes stored at "),
+            Piece::Number(count),
+            Piece::Text(bytes_word(count)),
+            Piece::Text(" stored at "),
             Piece::Address(address),
             Piece::Text("\n"),
         ],

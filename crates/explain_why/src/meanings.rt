@@ -1,6 +1,6 @@
 //! What an answer means, by its text.
 use crate::messages::{Message, answers, faults, refusals, system_codes, user_codes};
-use crate::words::{names, without_abend};
+use crate::words::{is_number_of, names, without_front};
 use std::io::Write;
 use text_output::Gathered;
 
@@ -16,7 +16,8 @@ pub enum MeaningFault {
 /// Whether the text is one of those of the answer.
 fn is_of(text: &[u8], message: &Message) -> bool {
     for printed in message.texts {
-        if names(text, printed.as_bytes()) {
+        let printed = printed.as_bytes();
+        if names(text, printed) || is_number_of(text, printed) {
             return true;
         }
     }
@@ -77,14 +78,14 @@ fn put_messages<W: Write>(gathered: &mut Gathered, writer: &mut W, text: &[u8]) 
     found
 }
 
-/// Writes what an answer means, and what it leaves or what to do: a completion code (`S878`, `U3008`), `RC=4` or
-/// `RC 4`, or the words of a fault or a refusal, in either case. Of several answers that begin with these words it
+/// Writes what an answer means, and what it leaves or what to do: a completion code (`S878`, `U3008`, `878`), `RC=4` or
+/// `RC 4`, or the words of a fault or a refusal, in either case; also a whole line of output, with its number. Of several answers that begin with these words it
 /// writes each; with a value, as `RC=0 A=00006000`, they are the whole answer.
 ///
 /// `NoAnswer` where none does; `Write` where the writer takes no more.
 pub fn code<W: Write>(text: &[u8], out: &mut W) -> Result<(), MeaningFault> {
     let mut gathered = Gathered::new();
-    if !put_messages(&mut gathered, out, without_abend(text)) {
+    if !put_messages(&mut gathered, out, without_front(text)) {
         return Err(MeaningFault::NoAnswer);
     }
     match gathered.finish(out) {

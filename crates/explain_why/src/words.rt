@@ -75,8 +75,29 @@ pub(crate) fn names(text: &[u8], printed: &[u8]) -> bool {
     false
 }
 
+/// Whether a text is a completion code without its first letter: `878` of `S878`, `3008` of `U3008`.
+pub(crate) fn is_number_of(text: &[u8], code: &[u8]) -> bool {
+    let is_code = code.len() > 1 && (code[0] == b'S' || code[0] == b'U') && !code.contains(&b' ');
+    is_code && is_same(text, behind(code, 0))
+}
+
+/// Whether a word is the number of an answer's line, of seven digits.
+fn is_line_number(word: &[u8]) -> bool {
+    word.len() == 7 && word.iter().all(|byte| byte.is_ascii_digit())
+}
+
+/// An answer's text without the number of its line in front, and without the word in front of a completion code.
+pub(crate) fn without_front(text: &[u8]) -> &[u8] {
+    let word = first_word(text);
+    if is_line_number(word.text) && !word.behind.is_empty() {
+        without_abend(word.behind)
+    } else {
+        without_abend(text)
+    }
+}
+
 /// A text without the word that stands in front of a completion code.
-pub(crate) fn without_abend(text: &[u8]) -> &[u8] {
+fn without_abend(text: &[u8]) -> &[u8] {
     let word = first_word(text);
     if is_same(word.text, b"ABEND") && !word.behind.is_empty() {
         word.behind

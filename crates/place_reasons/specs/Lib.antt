@@ -1,3 +1,5 @@
 pub mod Pieces
 pub mod Places
+pub mod Searches
+pub mod Sights
 pub mod Told

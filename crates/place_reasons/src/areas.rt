@@ -1,89 +1,147 @@
-//! Free storage and pages of a subpool, walked over.
-ghost use Rattle.std.specs.Prelude.{◌≡◌, ◌<◌, ◌≤◌};
+//! Searches over an area of doublewords: where it leaves the regions or its subpool, and where it's free.
+ghost use Rattle.std.specs.Prelude.{◌≡◌, ℕ, ◌+◌, ◌/◌, ◌^◌, ◌<◌, ◌≤◌, not};
+ghost use Rattle.vsm_model.specs.Areas.{is_free};
+ghost use Rattle.vsm_model.specs.Regions.{among, doublewords, in_a_region};
+ghost use Rattle.vsm_model.specs.Releasing.{is_foreign, is_not_taken};
+ghost use Rattle.vsm_model.specs.Search.{IsLeastAmong};
+ghost use Rattle.storage_core.specs.Meaning.{settings_of, state_of};
+ghost use Rattle.place_reasons.specs.Searches.{is_beside, lesser};
 
-use storage_core::{
-    ExtentPlace, FreeAreaPlace, Release, Residence, Run, Settings, Storage, Subpool,
-};
-use vsm_model::geometry::{HIGH_PAGE, LINE_DOUBLEWORD, LOW_PAGE, PAGE_DOUBLEWORDS, PAGE_K};
-
-/// How many free areas there are, of how many doublewords, and the most that one has.
-#[derive(Clone, Copy)]
-pub(crate) struct FreeAreas {
-    pub(crate) areas: u32,
-    pub(crate) doublewords: u32,
-    pub(crate) largest: u32,
-}
-
-/// Whether a doubleword lies on this side of the line.
-fn is_on(side: Residence, doubleword: u32) -> bool {
-    match side {
-        Residence::Below => doubleword < LINE_DOUBLEWORD,
-        Residence::Above => doubleword >= LINE_DOUBLEWORD,
-    }
-}
-
-/// The free areas with one more, where that lies on this side.
-fn with_area(sum: FreeAreas, side: Residence, area: Run) -> FreeAreas {
-    if !is_on(side, area.start) {
-        return sum;
-    }
-    FreeAreas {
-        areas: sum.areas.saturating_add(1),
-        doublewords: sum.doublewords.saturating_add(area.len),
-        largest: sum.largest.max(area.len),
-    }
-}
-
-/// The free areas of a subpool on one side of the line.
-pub(crate) fn free_areas(storage: &Storage, subpool: Subpool, side: Residence) -> FreeAreas {
-    let mut sum = FreeAreas {
-        areas: 0,
-        doublewords: 0,
-        largest: 0,
-    };
-    let mut place = storage.first_free_area(subpool);
-    for _ in 0..u32::MAX {
-        let Some((area, behind)) = storage.next_free_area(place) else {
-            return sum;
-        };
-        sum = with_area(sum, side, area);
-        place = behind;
-    }
-    sum
-}
+use storage_core::{Release, Run, Settings, Storage, Subpool};
+use vsm_model::geometry::{HIGH_PAGE, LOW_PAGE, PAGE_DOUBLEWORDS, PAGE_K};
 
 /// The doublewords of a release.
-pub fn area_of(r: Release) -> Run {
+pub fn area_of(r: Release) -> Run
+    ensures start { result.start ≡ r.address / 8 }
+    ensures len { result.len ≡ doublewords r.length }
+    ensures range { result.start + result.len ≤ 2 ^ 30 }
+{
     Run {
         start: r.address / 8,
         len: r.length.div_ceil(8),
     }
 }
 
-/// The pages that an area in doublewords touches.
-pub fn pages_of(area: Run) -> Run {
-    let start = area.start / PAGE_DOUBLEWORDS;
-    let end = area
-        .start
-        .saturating_add(area.len)
-        .div_ceil(PAGE_DOUBLEWORDS);
-    Run {
-        start,
-        len: end.saturating_sub(start),
+/// Whether a page is one of so many from the first on.
+fn is_among(first: u32, count: u32, page: u32) -> bool
+    requires { first + count < 2 ^ 32 }
+    ensures { result ≡ among first count page }
+{
+    first <= page && page < first + count
+}
+
+/// Whether a page lies in a region.
+fn is_in_a_region(settings: Settings, page: u32) -> bool
+    ensures { result ≡ in_a_region settings page }
+{
+    is_among(HIGH_PAGE, settings.high_k / PAGE_K, page)
+        || is_among(LOW_PAGE, settings.low_k / PAGE_K, page)
+}
+
+/// Whether a doubleword lies in no region, or in a page of another subpool.
+fn is_foreign(storage: &Storage, subpool: Subpool, doubleword: u32) -> bool
+    ensures { result ≡ is_foreign (settings_of storage.now) (state_of storage.now) subpool doubleword }
+{
+    let page = doubleword / PAGE_DOUBLEWORDS;
+    if !is_in_a_region(storage.settings(), page) {
+        return true;
+    }
+    match storage.subpool_of_page(page) {
+        Some(its) => its.number != subpool.number || its.owner != subpool.owner,
+        None => false,
     }
 }
 
-/// The page behind the last of the region that a page lies in; `None` where it lies in none.
-pub fn region_end(settings: Settings, page: u32) -> Option<u32> {
-    let low = LOW_PAGE + settings.low_k / PAGE_K;
-    if LOW_PAGE <= page && page < low {
-        return Some(low);
+/// Whether the page of a doubleword isn't the subpool's.
+fn is_beside(storage: &Storage, subpool: Subpool, doubleword: u32) -> bool
+    ensures { result ≡ is_beside (state_of storage.now) subpool doubleword }
+{
+    match storage.subpool_of_page(doubleword / PAGE_DOUBLEWORDS) {
+        Some(its) => its.number != subpool.number || its.owner != subpool.owner,
+        None => true,
     }
-    let high = HIGH_PAGE.saturating_add(settings.high_k / PAGE_K);
-    if HIGH_PAGE <= page && page < high {
-        return Some(high);
+}
+
+/// The first doubleword of the next page.
+fn next_page(doubleword: u32) -> u32
+    requires { doubleword ≤ 2 ^ 31 }
+    ensures further { doubleword < result }
+    ensures near { result ≤ doubleword + 512 }
+    ensures same { (d : ℕ) → doubleword ≤ d → d < result → d / 512 ≡ doubleword / 512 }
+{
+    (doubleword / PAGE_DOUBLEWORDS + 1) * PAGE_DOUBLEWORDS
+}
+
+/// The first doubleword of an area that lies in no region, or in a page of another subpool.
+pub fn first_foreign(storage: &Storage, subpool: Subpool, area: Run) -> Option<u32>
+    requires { area.start + area.len ≤ 2 ^ 30 }
+    ensures { IsLeastAmong (is_foreign (settings_of storage.now) (state_of storage.now) subpool)
+        area.start area.len result }
+{
+    let end = area.start + area.len;
+    let mut at = area.start;
+    while at < end {
+        if is_foreign(storage, subpool, at) {
+            return Some(at);
+        }
+        at = next_page(at);
     }
     None
+}
+
+/// The first doubleword of an area whose page isn't the subpool's.
+fn first_beside(storage: &Storage, subpool: Subpool, area: Run) -> Option<u32>
+    requires { area.start + area.len ≤ 2 ^ 30 }
+    ensures { IsLeastAmong (is_beside (state_of storage.now) subpool) area.start area.len result }
+{
+    let end = area.start + area.len;
+    let mut at = area.start;
+    while at < end {
+        if is_beside(storage, subpool, at) {
+            return Some(at);
+        }
+        at = next_page(at);
+    }
+    None
+}
+
+/// The first doubleword of an area that is free in the subpool. It walks over the free areas before it.
+pub(crate) fn first_free(storage: &Storage, subpool: Subpool, area: Run) -> Option<u32>
+    requires { area.start + area.len ≤ 2 ^ 30 }
+    ensures { IsLeastAmong (is_free (state_of storage.now) subpool) area.start area.len result }
+{
+    let end = area.start + area.len;
+    let mut place = storage.first_free_area(subpool);
+    while let Some((free, after)) = storage.next_free_area(place) {
+        if area.start < free.start + free.len {
+            let first = free.start.max(area.start);
+            return if first < end { Some(first) } else { None };
+        }
+        place = after;
+    }
+    None
+}
+
+/// The lesser of two numbers that may be there.
+fn lesser(one: Option<u32>, other: Option<u32>) -> Option<u32>
+    ensures { result ≡ lesser one other }
+{
+    match (one, other) {
+        (Some(one), Some(other)) => Some(one.min(other)),
+        (Some(one), None) => Some(one),
+        (None, other) => other,
+    }
+}
+
+/// The first doubleword of an area that isn't taken storage of the subpool.
+pub fn first_not_taken(storage: &Storage, subpool: Subpool, area: Run) -> Option<u32>
+    requires { area.start + area.len ≤ 2 ^ 30 }
+    ensures { IsLeastAmong (is_not_taken (state_of storage.now) subpool) area.start area.len result }
+{
+    lesser(
+        first_free(storage, subpool, area),
+        first_beside(storage, subpool, area),
+    )
 }
 
 /// The first number of both runs.
@@ -94,85 +152,4 @@ pub fn first_of_both(run: Run, other: Run) -> Option<u32> {
         .saturating_add(run.len)
         .min(other.start.saturating_add(other.len));
     if first < end { Some(first) } else { None }
-}
-
-/// The first doubleword of an area that is free in the subpool.
-pub fn first_free(storage: &Storage, subpool: Subpool, area: Run) -> Option<u32> {
-    let mut place = storage.first_free_area(subpool);
-    for _ in 0..u32::MAX {
-        let (free, behind) = storage.next_free_area(place)?;
-        if let Some(first) = first_of_both(area, free) {
-            return Some(first);
-        }
-        place = behind;
-    }
-    None
-}
-
-/// The first of the pages that is the subpool's.
-pub fn first_page_of(storage: &Storage, subpool: Subpool, pages: Run) -> Option<u32> {
-    let mut place = storage.first_extent(subpool);
-    for _ in 0..u32::MAX {
-        let (extent, behind) = storage.next_extent(place)?;
-        if let Some(first) = first_of_both(pages, extent) {
-            return Some(first);
-        }
-        place = behind;
-    }
-    None
-}
-
-/// The first of the pages that isn't the subpool's.
-pub fn first_page_beside(storage: &Storage, subpool: Subpool, pages: Run) -> u32 {
-    let mut page = pages.start;
-    let mut place = storage.first_extent(subpool);
-    for _ in 0..u32::MAX {
-        let Some((extent, behind)) = storage.next_extent(place) else {
-            return page;
-        };
-        if extent.start <= page && page < extent.start.saturating_add(extent.len) {
-            page = extent.start.saturating_add(extent.len);
-        }
-        place = behind;
-    }
-    page
-}
-
-/// The first of the pages that is another subpool's, with that subpool.
-pub fn first_page_of_another(
-    storage: &Storage,
-    subpool: Subpool,
-    pages: Run,
-) -> Option<(u32, Subpool)> {
-    let mut found: Option<(u32, Subpool)> = None;
-    for i in 0..u32::MAX {
-        let Some(other) = storage.subpool_at(i) else {
-            return found;
-        };
-        if other != subpool {
-            found = the_lower(found, first_page_of(storage, other, pages), other);
-        }
-    }
-    found
-}
-
-/// The lower page of two.
-fn the_lower(
-    found: Option<(u32, Subpool)>,
-    page: Option<u32>,
-    subpool: Subpool,
-) -> Option<(u32, Subpool)> {
-    let Some(page) = page else {
-        return found;
-    };
-    match found {
-        Some((lowest, other)) => {
-            if lowest <= page {
-                Some((lowest, other))
-            } else {
-                Some((page, subpool))
-            }
-        }
-        None => Some((page, subpool)),
-    }
 }

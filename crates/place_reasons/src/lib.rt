@@ -3,17 +3,18 @@
 #![tactic(auto)]
 
 mod areas;
+mod free_bytes;
 pub mod laws;
 mod pieces;
 mod places;
 mod sides;
 mod sights;
+mod task_ends;
 
-pub use areas::{
-    area_of, first_free, first_of_both, first_page_beside, first_page_of_another, pages_of,
-    region_end,
-};
+pub use areas::{area_of, first_foreign, first_not_taken, first_of_both};
+pub use free_bytes::{bytes_word, put_free_bytes};
 pub use pieces::{Piece, put_line, put_pieces};
 pub use places::extent_asked;
 pub use sides::put_place;
 pub use sights::{seen, seen_or_own};
+pub use task_ends::put_subpools_end;

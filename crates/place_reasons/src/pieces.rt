@@ -1,7 +1,7 @@
 //! Lines of text, put piece by piece.
 ghost use Rattle.std.specs.Prelude.{◌≡◌, ℕ, Some, slice_get};
 ghost use Rattle.text_output.specs.Writing.{Puts};
-ghost use Rattle.place_reasons.specs.Pieces.{piece_text, pieces_text, PutsWithin};
+ghost use Rattle.place_reasons.specs.Pieces.{line_text, piece_text, pieces_text, PutsWithin};
 ghost use Rattle.place_reasons.specs.Told.{PutsSome};
 ghost use Rattle.place_reasons.specs.declared.pieces.Piece.{Piece};
 
@@ -33,7 +33,7 @@ fn put_piece<W: Write>(gathered: &mut Gathered, writer: &mut W, piece: Piece<'_>
     }
 }
 
-/// Puts pieces, one behind the other.
+/// Puts pieces, one after the other.
 pub fn put_pieces<W: Write>(gathered: &mut Gathered, writer: &mut W, pieces: &[Piece<'_>])
     ensures text { Puts (W.contents writer.old) (W.contents writer.new) gathered.old gathered.new
         (pieces_text pieces.now) }
@@ -44,8 +44,10 @@ pub fn put_pieces<W: Write>(gathered: &mut Gathered, writer: &mut W, pieces: &[P
     }
 }
 
-/// Puts a line of pieces, behind two blanks.
+/// Puts a line of pieces, after two blanks.
 pub fn put_line<W: Write>(gathered: &mut Gathered, writer: &mut W, pieces: &[Piece<'_>])
+    ensures text { Puts (W.contents writer.old) (W.contents writer.new) gathered.old gathered.new
+        (line_text pieces.now) }
     ensures some { PutsSome (W.contents writer.old) (W.contents writer.new) gathered.old gathered.new }
     ensures each { (i : ℕ) (piece : Piece) → slice_get pieces.now i ≡ Some piece
         → PutsWithin (W.contents writer.old) (W.contents writer.new) gathered.old gathered.new (piece_text piece) }

@@ -13,8 +13,9 @@ use vsm_model::geometry::LAST_SUBPOOL;
 /// What each side of the line that is looked at has for an area: above the line first, where it may be there.
 #[derive(Clone, Copy)]
 pub(crate) struct LengthSides {
-    /// The doublewords that a place is looked for.
+    /// The doublewords that a place is looked for, and the boundary that they begin on.
     pub(crate) count: u32,
+    pub(crate) boundary: Boundary,
     pub(crate) first: SideReason,
     pub(crate) second: Option<SideReason>,
 }
@@ -69,6 +70,7 @@ pub(crate) fn sides_for(storage: &Storage, o: Obtain) -> Option<LengthSides>
     let (count, (first, second)) = storage.obtain_reasons(o);
     Some(LengthSides {
         count,
+        boundary: o.boundary,
         first,
         second,
     })

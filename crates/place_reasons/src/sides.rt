@@ -7,12 +7,11 @@ ghost use Rattle.place_reasons.specs.Places.{sides_place};
 ghost use Rattle.place_reasons.specs.Told.{found_text, option_place, place_text, PutsEnding, PutsSome};
 ghost use Rattle.place_reasons.specs.Told.{TellsPlace, TellsSide};
 
-use crate::areas::{FreeAreas, free_areas};
 use crate::pieces::{Piece, put_pieces};
 use crate::places::{LengthSides, sides_for};
 use crate::sights::seen_or_own;
 use std::io::Write;
-use storage_core::{Obtain, Residence, SideReason, Storage, Subpool};
+use storage_core::{Boundary, Obtain, Residence, SideReason, Storage, Subpool, Sums};
 use text_output::{Gathered, put_hexadecimal};
 use vsm_model::geometry::{PAGE_BYTES, PAGE_DOUBLEWORDS};
 
@@ -25,15 +24,10 @@ fn side_word(side: Residence) -> &'static str {
 }
 
 /// Puts which free areas of the subpool are on a side.
-fn put_free_areas<W: Write>(
-    gathered: &mut Gathered,
-    writer: &mut W,
-    side: Residence,
-    sum: FreeAreas,
-)
+fn put_free_areas<W: Write>(gathered: &mut Gathered, writer: &mut W, side: Residence, sum: Sums)
     ensures { PutsSome (W.contents writer.old) (W.contents writer.new) gathered.old gathered.new }
 {
-    let word = if sum.areas == 1 {
+    let word = if sum.count == 1 {
         " free area, "
     } else {
         " free areas, "
@@ -43,9 +37,9 @@ fn put_free_areas<W: Write>(
         writer,
         &[
             Piece::Text(side_word(side)),
-            Piece::Number(sum.areas),
+            Piece::Number(sum.count),
             Piece::Text(word),
-            Piece::Number(sum.doublewords.saturating_mul(8)),
+            Piece::Number(sum.total.saturating_mul(8)),
             Piece::Text(" bytes, "),
         ],
     );
@@ -61,8 +55,42 @@ fn put_fit<W: Write>(gathered: &mut Gathered, writer: &mut W, doubleword: u32)
     gathered.put(writer, b"\n");
 }
 
+/// Puts that no free area is large enough, and how large one is at most: with a boundary, from that on.
+fn put_no_fit<W: Write>(gathered: &mut Gathered, writer: &mut W, boundary: Boundary, most: u32)
+    ensures { PutsSome (W.contents writer.old) (W.contents writer.new) gathered.old gathered.new }
+{
+    let text = match boundary {
+        Boundary::Doubleword => "none fits (the largest has ",
+        Boundary::Page => "none fits (from the first byte of a page on, the largest has ",
+    };
+    put_pieces(
+        gathered,
+        writer,
+        &[
+            Piece::Text(text),
+            Piece::Number(most.saturating_mul(8)),
+            Piece::Text(")\n"),
+        ],
+    );
+}
+
+/// The free areas of a subpool on one side of the line.
+fn free_areas(storage: &Storage, subpool: Subpool, side: Residence) -> Sums {
+    let sums = storage.free_area_sums(storage.first_free_area(subpool));
+    match side {
+        Residence::Below => sums.low,
+        Residence::Above => sums.high,
+    }
+}
+
 /// Puts what the subpool's own free storage on a side has.
-fn put_inside<W: Write>(gathered: &mut Gathered, writer: &mut W, sum: FreeAreas, reason: SideReason)
+fn put_inside<W: Write>(
+    gathered: &mut Gathered,
+    writer: &mut W,
+    sum: Sums,
+    boundary: Boundary,
+    reason: SideReason,
+)
     ensures some { PutsSome (W.contents writer.old) (W.contents writer.new) gathered.old gathered.new }
     ensures place { IfSome reason.inside (λ d. PutsEnding (W.contents writer.old) (W.contents writer.new)
         gathered.old gathered.new (found_text (Inside d))) }
@@ -70,15 +98,7 @@ fn put_inside<W: Write>(gathered: &mut Gathered, writer: &mut W, sum: FreeAreas,
     put_free_areas(gathered, writer, reason.side, sum);
     match reason.inside {
         Some(doubleword) => put_fit(gathered, writer, doubleword),
-        None => put_pieces(
-            gathered,
-            writer,
-            &[
-                Piece::Text("none fits (the largest has "),
-                Piece::Number(sum.largest.saturating_mul(8)),
-                Piece::Text(")\n"),
-            ],
-        ),
+        None => put_no_fit(gathered, writer, boundary, reason.longest_inside),
     }
 }
 
@@ -145,18 +165,18 @@ fn put_fresh<W: Write>(gathered: &mut Gathered, writer: &mut W, count: u32, reas
 fn put_side<W: Write>(
     gathered: &mut Gathered,
     writer: &mut W,
-    sum: FreeAreas,
-    count: u32,
+    sum: Sums,
+    sides: &LengthSides,
     reason: SideReason,
 ) -> bool
     ensures { TellsSide (W.contents writer.old) (W.contents writer.new) gathered.old gathered.new
         (side_place reason) result }
 {
-    put_inside(gathered, writer, sum, reason);
+    put_inside(gathered, writer, sum, sides.boundary, reason);
     if reason.inside.is_some() {
         return true;
     }
-    put_fresh(gathered, writer, count, reason);
+    put_fresh(gathered, writer, sides.count, reason);
     reason.fresh.is_some()
 }
 
@@ -174,7 +194,7 @@ fn put_second<W: Write>(
     match sides.second {
         Some(reason) => {
             let sum = free_areas(storage, subpool, reason.side);
-            put_side(gathered, writer, sum, sides.count, reason)
+            put_side(gathered, writer, sum, sides, reason)
         }
         None => false,
     }
@@ -192,7 +212,7 @@ fn put_sides<W: Write>(
         (place_text (sides_place sides.now)) }
 {
     let sum = free_areas(storage, subpool, sides.first.side);
-    if put_side(gathered, writer, sum, sides.count, sides.first) {
+    if put_side(gathered, writer, sum, sides, sides.first) {
         return;
     }
     if put_second(gathered, writer, storage, subpool, sides) {

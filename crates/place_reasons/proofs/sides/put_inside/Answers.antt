@@ -10,5 +10,5 @@ returns-in-Some-clause-some g c =
 
 pub returns-in-None-clause-some : goal.returns-in-None-clause-some
 returns-in-None-clause-some g c =
-    some_both (g.W.Write.contents c.args.writer.now) (g.W.Write.contents c.put_free_areas.new.writer) (g.W.Write.contents c.put_pieces.new.writer)
-    c.args.gathered.now c.put_free_areas.new.gathered c.put_pieces.new.gathered c.put_free_areas.ensures c.put_pieces.ensures.some
+    some_both (g.W.Write.contents c.args.writer.now) (g.W.Write.contents c.put_free_areas.new.writer) (g.W.Write.contents c.put_no_fit.new.writer)
+    c.args.gathered.now c.put_free_areas.new.gathered c.put_no_fit.new.gathered c.put_free_areas.ensures c.put_no_fit.ensures
