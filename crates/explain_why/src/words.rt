@@ -81,6 +81,16 @@ pub(crate) fn is_number_of(text: &[u8], code: &[u8]) -> bool {
     is_code && is_same(text, behind(code, 0))
 }
 
+/// A text from its first byte on that isn't a blank.
+fn without_blanks(text: &[u8]) -> &[u8] {
+    for (place, byte) in text.iter().enumerate() {
+        if *byte != b' ' {
+            return &text[place..];
+        }
+    }
+    b""
+}
+
 /// Whether a word is the number of an answer's line, of seven digits.
 fn is_line_number(word: &[u8]) -> bool {
     word.len() == 7 && word.iter().all(|byte| byte.is_ascii_digit())
@@ -90,7 +100,7 @@ fn is_line_number(word: &[u8]) -> bool {
 pub(crate) fn without_front(text: &[u8]) -> &[u8] {
     let word = first_word(text);
     if is_line_number(word.text) && !word.behind.is_empty() {
-        without_abend(word.behind)
+        without_abend(without_blanks(word.behind))
     } else {
         without_abend(text)
     }
