@@ -25,7 +25,8 @@ static FAULTS: [Message; 8] = [
                 lines; or the script ends where one should follow. The lines that follow are dropped \
                 as long as the line before has a character in column 72.",
         advice: "Usually a remark is too long, with its last character in column 72; the next line \
-                was taken for its continuation, and wasn't carried out. See Continuation lines.",
+                was taken for its continuation, and wasn't carried out. See Continuation lines in \
+                STATEMENTS.md.",
     },
     Message {
         texts: &["FAULT OPERATION"],
@@ -57,12 +58,12 @@ static FAULTS: [Message; 8] = [
                 13 for ADDR or CELL, a number or a register for CPID, an HDR without apostrophes or \
                 of more than 24 characters, an odd number of digits in POKE, or more than 256 bytes; \
                 or a pair instead of one length, or one length where VRC and VRU need a pair.",
-        advice: "See Values.",
+        advice: "See Values in STATEMENTS.md.",
     },
     Message {
         texts: &["FAULT LEFTOUT"],
-        meaning: "The bench leaves out the form, the keyword, or the kind of value; STATEMENTS.md \
-                lists them.",
+        meaning: "The bench leaves out the form, the keyword, or the kind of value; STATEMENTS.md in \
+                STATEMENTS.md lists them.",
         advice: "Do without it.",
     },
 ];
@@ -163,7 +164,8 @@ static USER_CODES: [Message; 13] = [
     Message {
         texts: &["U3011"],
         meaning: "CPOOL FREE of an address that is no cell's of this cell pool, or of a free cell.",
-        advice: "See which statement already freed it; an address within a cell won't do.",
+        advice: "vsm-explain who --taken ADDRESS says which statement freed it; an address within a \
+                cell won't do.",
     },
     Message {
         texts: &["U3012"],
@@ -207,7 +209,8 @@ static SYSTEM_CODES: [Message; 6] = [
     Message {
         texts: &["SA78", "SA0A", "SA05"],
         meaning: "A part of the area isn't taken: it's free in the subpool, or in an unassigned page.",
-        advice: "See which statement already released it; a length is rounded up.",
+        advice: "vsm-explain who --taken ADDRESS says which statement released it; a length is \
+                rounded up.",
     },
     Message {
         texts: &["SA03"],
