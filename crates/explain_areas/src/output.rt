@@ -1,6 +1,6 @@
 //! What is taken, written.
 
-use crate::areas::{Area, areas_of};
+use crate::found::{Area, areas_of};
 use crate::pieces::takings;
 use crate::tracing::{Followed, follow};
 use explain_who::{WhoFault, put_count, put_holder, put_line};

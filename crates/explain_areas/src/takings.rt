@@ -23,7 +23,7 @@ fn grown(before: u64, after: u64) -> u32 {
 
 /// What a statement with this reply took, before and after which so many bytes were taken. A cell is the first of an
 /// extent where one was made for it.
-pub(crate) fn newly(reply: Reply, before: u64, after: u64) -> Newly {
+pub(crate) fn taken_by(reply: Reply, before: u64, after: u64) -> Newly {
     match reply {
         Reply::Obtained { address, length } => run(address / 8, length / 8),
         Reply::Cell(address) => run(address / 8, grown(before, after)),

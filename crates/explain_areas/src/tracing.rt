@@ -1,6 +1,6 @@
 //! A script is followed on a bench: which of its statements stand, and what each of them took.
 
-use crate::takings::{Newly, newly};
+use crate::takings::{Newly, taken_by};
 use explain_who::{Trail, WhoFault};
 use script_steps::{Bench, Response, Session, Watch};
 use std::alloc::{AllocError, Global};
@@ -20,7 +20,7 @@ pub struct Followed {
 
 /// What is known of a bench before a line.
 #[derive(Clone, Copy)]
-struct Before {
+struct Known {
     /// The changes that are kept.
     kept: u32,
     /// The bytes that are taken.
@@ -33,8 +33,8 @@ fn taken(bench: &Bench) -> u64 {
 }
 
 /// What is to be known of a bench before a line.
-fn before(bench: &Bench) -> Before {
-    Before {
+fn known_of(bench: &Bench) -> Known {
+    Known {
         kept: bench.kept(),
         taken: taken(bench),
     }
@@ -44,12 +44,12 @@ fn before(bench: &Bench) -> Before {
 fn note(
     trail: &mut Trail<Newly>,
     bench: &Bench,
-    before: Before,
+    before: Known,
     told: &Option<(u32, Response)>,
 ) -> Result<(), AllocError> {
     match told {
         Some((line, Response::Replied(reply))) => {
-            trail.applied(*line, newly(*reply, before.taken, taken(bench)))
+            trail.applied(*line, taken_by(*reply, before.taken, taken(bench)))
         }
         Some((_, Response::Kept(after))) => {
             trail.stepped(before.kept, *after);
@@ -84,7 +84,7 @@ fn follow_at(
     script: &[u8],
     at: usize,
 ) -> Result<Option<usize>, WhoFault> {
-    let known = before(session.bench());
+    let known = known_of(session.bench());
     let step = match session.take_line(script, at) {
         Ok(Some(step)) => step,
         Ok(None) => return Ok(None),
@@ -117,7 +117,7 @@ fn follow_end(
     rest: &[u8],
 ) -> Result<Bench, WhoFault> {
     let mut session = session;
-    let known = before(session.bench());
+    let known = known_of(session.bench());
     match session.take_bytes(rest) {
         Ok(()) => (),
         Err(_) => {
@@ -133,7 +133,7 @@ fn follow_end(
             return Err(WhoFault::Memory);
         }
     }
-    let then = before(&ending.bench);
+    let then = known_of(&ending.bench);
     match note(trail, &ending.bench, then, &ending.open_statement) {
         Ok(()) => Ok(ending.bench),
         Err(_) => {
