@@ -1,70 +1,111 @@
 //! What is taken, written.
+ghost use Rattle.std.specs.Prelude.{◌≡◌, [], IfOk, List, ℕ, flat_map};
+ghost use Rattle.text_output.specs.Writing.{Puts};
+ghost use Rattle.vsm_model.specs.declared.limits.Settings.{Settings as SettingsIn};
+ghost use Rattle.explain_who.specs.ScriptLines.{LinesBegin};
+ghost use Rattle.explain_areas.specs.Followed.{IsFollowedBy};
+ghost use Rattle.explain_areas.specs.Since.{taken_areas};
+ghost use Rattle.explain_areas.specs.Texts.{TellsAreas, area_text, areas_text, shown_address, standing, sum_text};
 
-use crate::found::{Area, areas_of};
-use crate::pieces::takings;
+use crate::takings::takings;
 use crate::tracing::{Followed, follow};
 use explain_who::{WhoFault, put_count, put_holder, put_line};
+use line_areas::{Area, areas_of};
 use script_steps::Watch;
 use std::alloc::{AllocError, Global};
 use std::io::Write;
+use storage_map::totals;
 use text_output::{Gathered, put_decimal, put_hexadecimal};
 use vsm_model::Settings;
 
-/// The bytes of an area.
-fn bytes_of(area: &Area) -> u64 {
-    8 * u64::from(area.count)
+/// The address of an area.
+fn shown_address(area: &Area) -> u32
+    ensures { result ≡ shown_address area.now }
+{
+    area.start.saturating_mul(8)
 }
 
 /// Puts the line of an area: its statement, its bytes, its address and its subpool.
+#[tactic(auto, using(text_output::proofs::Gathering::puts_both))]
 fn put_area<W: Write>(
     gathered: &mut Gathered,
     writer: &mut W,
     script: &[u8],
     starts: &[usize],
     area: &Area,
-) {
+)
+    requires { LinesBegin script.now script.now starts.now [] }
+    ensures { Puts (W.contents writer.old) (W.contents writer.new) gathered.old gathered.new
+        (area_text script.now area.now) }
+{
     put_line(gathered, writer, script, starts, area.line);
-    put_decimal(gathered, writer, bytes_of(area));
+    put_decimal(gathered, writer, 8 * u64::from(area.count));
     gathered.put(writer, b" bytes at ");
-    put_hexadecimal(gathered, writer, 8, 8 * area.start);
+    put_hexadecimal(gathered, writer, 8, shown_address(area));
     gathered.put(writer, b", ");
     put_holder(gathered, writer, area.subpool);
     gathered.put(writer, b"\n");
 }
 
-/// Puts the lines of areas, and gives how many bytes they have together.
+/// Puts the lines of areas.
 fn put_areas<W: Write>(
     gathered: &mut Gathered,
     writer: &mut W,
     script: &[u8],
     starts: &[usize],
     areas: &[Area],
-) -> u64 {
-    let mut bytes = 0;
+)
+    requires { LinesBegin script.now script.now starts.now [] }
+    ensures { Puts (W.contents writer.old) (W.contents writer.new) gathered.old gathered.new
+        (flat_map (area_text script.now) areas.now) }
+{
     for area in areas {
         put_area(gathered, writer, script, starts, area);
-        bytes += bytes_of(area);
     }
-    bytes
 }
 
-/// Puts how many areas there are, and how many bytes they have together.
-fn put_sum<W: Write>(gathered: &mut Gathered, writer: &mut W, areas: usize, bytes: u64) {
+/// Puts how many areas there are, and how many bytes are taken.
+#[tactic(auto, using(text_output::proofs::Gathering::puts_both))]
+fn put_sum<W: Write>(gathered: &mut Gathered, writer: &mut W, areas: usize, bytes: u64)
+    ensures { Puts (W.contents writer.old) (W.contents writer.new) gathered.old gathered.new
+        (sum_text areas bytes) }
+{
     put_count(gathered, writer, areas as u64, b"area");
     gathered.put(writer, b", ");
     put_decimal(gathered, writer, bytes);
     gathered.put(writer, b" bytes taken\n");
 }
 
+/// Puts the lines of areas, and their sum.
+#[tactic(auto, using(text_output::proofs::Gathering::puts_both))]
+fn put_all<W: Write>(
+    gathered: &mut Gathered,
+    writer: &mut W,
+    script: &[u8],
+    starts: &[usize],
+    areas: &[Area],
+    bytes: u64,
+)
+    requires { LinesBegin script.now script.now starts.now [] }
+    ensures { Puts (W.contents writer.old) (W.contents writer.new) gathered.old gathered.new
+        (areas_text script.now areas.now bytes) }
+{
+    put_areas(gathered, writer, script, starts, areas);
+    put_sum(gathered, writer, areas.len(), bytes);
+}
+
 /// What a script that was followed left taken.
-fn found(alloc: Global, followed: &Followed) -> Result<Vec<Area>, AllocError> {
+fn left(alloc: Global, followed: &Followed) -> Result<Vec<Area>, AllocError>
+    ensures { (settings : SettingsIn) (script : List ℕ) (h : IsFollowedBy settings script followed.now)
+        → IfOk result (λ areas. areas.items ≡ taken_areas settings (standing settings h.answers)) }
+{
     let takings = takings(alloc, followed.trail.standing())?;
     let areas = areas_of(alloc, followed.bench.storage(), takings.as_slice());
     drop(takings);
     areas
 }
 
-/// Writes each area that a script leaves taken: the line that obtained it, its bytes, its address and its subpool; by
+/// Writes each area that a script leaves taken: the line that took it, its bytes, its address and its subpool; by
 /// subpools and then ascending.
 ///
 /// After `Write` a front of the text was written, with each other fault nothing.
@@ -74,19 +115,24 @@ pub fn areas<W: Write, P: Watch>(
     settings: Settings,
     out: &mut W,
     watch: &mut P,
-) -> Result<(), WhoFault> {
-    let followed = follow(alloc, script, settings, watch)?;
-    let areas = match found(alloc, &followed) {
+) -> Result<(), WhoFault>
+    ensures told { TellsAreas settings script.now (W.contents out.old) (W.contents out.new) result }
+{
+    let followed = match follow(alloc, script, settings, watch) {
+        Ok(followed) => followed,
+        Err(fault) => return Err(fault),
+    };
+    let areas = match left(alloc, &followed) {
         Ok(areas) => areas,
         Err(_) => {
             drop(followed);
             return Err(WhoFault::Memory);
         }
     };
-    let starts = followed.starts.as_slice();
+    let bytes = totals(followed.bench.storage()).taken;
     let mut gathered = Gathered::new();
-    let bytes = put_areas(&mut gathered, out, script, starts, areas.as_slice());
-    put_sum(&mut gathered, out, areas.len(), bytes);
+    let starts = followed.starts.as_slice();
+    put_all(&mut gathered, out, script, starts, areas.as_slice(), bytes);
     drop(areas);
     drop(followed);
     match gathered.hand_out(out) {

@@ -1,32 +1,31 @@
-//! What a statement took.
+//! What the statements that stand took, by lines.
+ghost use Rattle.std.specs.Prelude.{◌≡◌, IfOk};
+ghost use Rattle.explain_areas.specs.Takings.{takings_of};
 
-use arrayvec::ArrayVec;
-use vsm_model::Reply;
+use explain_who::TrailEntry;
+use line_areas::Taken;
+use newly_taken::Newly;
+use std::alloc::{AllocError, Global};
 
-/// The doublewords that are taken after a statement and weren't before it: the first of them and how many there are,
-/// or none.
-pub type Newly = ArrayVec<(u32, u32), 1>;
-
-/// So many doublewords from the first on, if there is one.
-fn run(first: u32, count: u32) -> Newly {
-    let mut newly = ArrayVec::new();
-    if count > 0 {
-        let _ = newly.try_push((first, count));
+/// What these statements took, which come with the oldest first: the newest first.
+pub(crate) fn takings(
+    alloc: Global,
+    entries: &[TrailEntry<Newly>],
+) -> Result<Vec<Taken>, AllocError>
+    ensures { IfOk result (λ takings. takings.items ≡ takings_of entries.now) }
+{
+    let mut takings = Vec::new(alloc);
+    let mut left = entries.len();
+    while left > 0 {
+        left -= 1;
+        let entry = &entries[left];
+        for run in entry.seen.as_slice() {
+            takings.push(Taken {
+                start: run.0,
+                end: run.0.saturating_add(run.1),
+                line: entry.line,
+            })?;
+        }
     }
-    newly
-}
-
-/// How many doublewords more are taken, where so many bytes were before and are after.
-fn grown(before: u64, after: u64) -> u32 {
-    (after.saturating_sub(before) / 8).min(u64::from(u32::MAX)) as u32
-}
-
-/// What a statement with this reply took, before and after which so many bytes were taken. A cell is the first of an
-/// extent where one was made for it.
-pub(crate) fn taken_by(reply: Reply, before: u64, after: u64) -> Newly {
-    match reply {
-        Reply::Obtained { address, length } => run(address / 8, length / 8),
-        Reply::Cell(address) => run(address / 8, grown(before, after)),
-        Reply::Returned(_) | Reply::Attached(_) | Reply::Turn(_) | Reply::Stored => ArrayVec::new(),
-    }
+    Ok(takings)
 }

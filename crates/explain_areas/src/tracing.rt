@@ -1,7 +1,13 @@
 //! A script is followed on a bench: which of its statements stand, and what each of them took.
+ghost use Rattle.std.specs.Prelude.{◌≡◌, ◌≤◌, [], ◌∷◌, ◌++◌, drop, length, OnOk};
+ghost use Rattle.bench_core.specs.Stands.{bench_of};
+ghost use Rattle.script_steps.specs.Script.{NoFeed};
+ghost use Rattle.explain_who.specs.Notes.{with_told};
+ghost use Rattle.explain_who.specs.Trails.{marks_of};
+ghost use Rattle.explain_areas.specs.Followed.{IsEndFollowed, IsFollowed, IsKnown, IsLineFollowed, noted, taken_in};
 
-use crate::takings::{Newly, taken_by};
 use explain_who::{Trail, WhoFault};
+use newly_taken::{Newly, taken_by};
 use script_steps::{Bench, Response, Session, Watch};
 use std::alloc::{AllocError, Global};
 use storage_map::totals;
@@ -28,12 +34,16 @@ struct Known {
 }
 
 /// The bytes of a bench that are taken.
-fn taken(bench: &Bench) -> u64 {
+fn taken(bench: &Bench) -> u64
+    ensures { result ≡ taken_in bench.now }
+{
     totals(bench.storage()).taken
 }
 
 /// What is to be known of a bench before a line.
-fn known_of(bench: &Bench) -> Known {
+fn known_of(bench: &Bench) -> Known
+    ensures { IsKnown bench.now result }
+{
     Known {
         kept: bench.kept(),
         taken: taken(bench),
@@ -46,7 +56,10 @@ fn note(
     bench: &Bench,
     before: Known,
     told: &Option<(u32, Response)>,
-) -> Result<(), AllocError> {
+) -> Result<(), AllocError>
+    ensures { OnOk result (marks_of trail.new
+        ≡ with_told (noted before.taken (taken_in bench.now) told.now) before.kept told.now (marks_of trail.old)) }
+{
     match told {
         Some((line, Response::Replied(reply))) => {
             trail.applied(*line, taken_by(*reply, before.taken, taken(bench)))
@@ -71,7 +84,9 @@ fn note(
 }
 
 /// Notes where a line begins.
-fn note_start(starts: &mut Vec<usize>, at: usize) -> Result<(), AllocError> {
+fn note_start(starts: &mut Vec<usize>, at: usize) -> Result<(), AllocError>
+    ensures { OnOk result (starts.new.items ≡ starts.old.items ++ at ∷ []) }
+{
     starts.push(at)?;
     Ok(())
 }
@@ -83,7 +98,10 @@ fn follow_at(
     trail: &mut Trail<Newly>,
     script: &[u8],
     at: usize,
-) -> Result<Option<usize>, WhoFault> {
+) -> Result<Option<usize>, WhoFault>
+    requires { at ≤ length script.now }
+    ensures { IsLineFollowed script.now at session.old session.new trail.old trail.new result }
+{
     let known = known_of(session.bench());
     let step = match session.take_line(script, at) {
         Ok(Some(step)) => step,
@@ -103,7 +121,11 @@ fn follow_line(
     starts: &mut Vec<usize>,
     script: &[u8],
     at: usize,
-) -> Result<Option<usize>, WhoFault> {
+) -> Result<Option<usize>, WhoFault>
+    requires { at ≤ length script.now }
+    ensures follows { IsLineFollowed script.now at session.old session.new trail.old trail.new result }
+    ensures starts { OnOk result (starts.new.items ≡ starts.old.items ++ at ∷ []) }
+{
     match note_start(starts, at) {
         Ok(()) => follow_at(session, trail, script, at),
         Err(_) => Err(WhoFault::Memory),
@@ -115,7 +137,10 @@ fn follow_end(
     session: Session,
     trail: &mut Trail<Newly>,
     rest: &[u8],
-) -> Result<Bench, WhoFault> {
+) -> Result<Bench, WhoFault>
+    requires { NoFeed rest.now }
+    ensures { IsEndFollowed rest.now session trail.old trail.new result }
+{
     let mut session = session;
     let known = known_of(session.bench());
     match session.take_bytes(rest) {
@@ -144,7 +169,10 @@ fn follow_end(
 }
 
 /// What stands in a script from a place on.
-fn rest_from(script: &[u8], at: usize) -> &[u8] {
+fn rest_from(script: &[u8], at: usize) -> &[u8]
+    requires { at ≤ length script.now }
+    ensures { result.now ≡ drop at script.now }
+{
     &script[at..]
 }
 
@@ -154,7 +182,9 @@ pub fn follow<P: Watch>(
     script: &[u8],
     settings: Settings,
     watch: &mut P,
-) -> Result<Followed, WhoFault> {
+) -> Result<Followed, WhoFault>
+    ensures { IsFollowed settings script.now result }
+{
     let bench = match Bench::new(alloc, settings) {
         Ok(bench) => bench,
         Err(fault) => return Err(WhoFault::New(fault)),

@@ -59,6 +59,16 @@ module _ (settings : Settings) where
       ∙ ap (λ o. alone_now settings (plain (stand settings.history l (Apply (line, x)) (outcome_answer o)))) e
       ∙ ap (λ xs. alone_after (x ∷ xs)) (statements_of l.stood)
 
+  -- The state behind a line that brought an accepted statement is that of those before it with this one.
+  pub state_behind : (answers more : List Marked) (c : Bench NamedState) → Led settings (answers ++ more) c → (m : Marked) → more ≡ m ∷ [] →
+      (x : Act) (n : NamedState) (r : Reply) → m.unmet ≡ false → m.answer.what ≡ Ok (act x) → statement_step settings (alone_now settings (plain (lined answers))) x ≡ Accepted n r →
+      c.present ≡ alone_after (x ∷ acts_of (lined answers))
+  state_behind answers more c led m one x n r met is e =
+      (stands_for settings (answers ++ more) c led).present
+      ∙ ap (alone_now settings) (sym (lines_are_of_statements settings (answers ++ more)) ∙ ap (λ ms. plain (lined (answers ++ ms))) one)
+      ∙ ap (λ s. alone_now settings (plain s)) (lined_push settings nothing_stands answers (m ∷ []))
+      ∙ accepted_is (lined answers) m.answer.line m.unmet m.answer.what x n r met is e
+
 module _ {V : Type 0} (settings : Settings) (read : List Act → V) where
   abbrev pub Marked_by : Standing (ℕ × Act) Reply → Marks V → Type 0
   Marked_by l t = Follows read l t
@@ -144,12 +154,7 @@ module _ (settings : Settings) (read : NamedState → Seen) where
   -- What is read of a bench is what is read after its newest statement.
   pub read_after : (answers more : List Marked) (c : Bench NamedState) → Led settings (answers ++ more) c → (m : Marked) → more ≡ m ∷ [] →
       IsRead settings reading_after (read c.present) (lined settings answers) m.unmet m.answer.what
-  read_after answers more c led m one x n r met is e =
-      ap read
-      ((stands_for settings (answers ++ more) c led).present
-      ∙ ap (alone_now settings) (sym (lines_are_of_statements settings (answers ++ more)) ∙ ap (λ ms. plain (lined settings (answers ++ ms))) one)
-      ∙ ap (λ s. alone_now settings (plain s)) (lined_push settings nothing_stands answers (m ∷ []))
-      ∙ accepted_is settings (lined settings answers) m.answer.line m.unmet m.answer.what x n r met is e)
+  read_after answers more c led m one x n r met is e = ap read (state_behind settings answers more c led m one x n r met is e)
 
   -- the differences that the marks show
   along : (older : List Act) (xs : List (ℕ × Act)) →

@@ -60,7 +60,7 @@ module _ {X V : Type 0} (read : List X → V) where
   onto_both older [] ys = refl
   onto_both older (x ∷ xs) ys = onto_both (x.1 ∷ older) xs ys
 
-  seen_both : (older : List X) (xs ys : List (ℕ × X)) →
+  pub seen_both : (older : List X) (xs ys : List (ℕ × X)) →
       seen_along read older (xs ++ ys) ≡ seen_along read older xs ++ seen_along read (onto older xs) ys
   seen_both older [] ys = refl
   seen_both older (x ∷ xs) ys =
@@ -76,10 +76,10 @@ module _ {X V : Type 0} (read : List X → V) where
   seen_lines older (x ∷ xs) = ap (λ ys. x.0 ∷ ys) (seen_lines (x.1 ∷ older) xs)
 
 module _ {X R V : Type 0} (read : List X → V) where
-  turned : (x : Stood (ℕ × X) R) (stood : List (Stood (ℕ × X) R)) → map (λ y. y.statement) (reverse (x ∷ stood)) ≡ map (λ y. y.statement) (reverse stood) ++ x.statement ∷ []
+  pub turned : (x : Stood (ℕ × X) R) (stood : List (Stood (ℕ × X) R)) → map (λ y. y.statement) (reverse (x ∷ stood)) ≡ map (λ y. y.statement) (reverse stood) ++ x.statement ∷ []
   turned x stood = ap (map (λ y. y.statement)) (reverse_onto stood x []) ∙ map-append (λ y. y.statement) (reverse stood) (x ∷ [])
 
-  onto_turned : (stood : List (Stood (ℕ × X) R)) → onto read [] (map (λ x. x.statement) (reverse stood)) ≡ map (λ x. x.statement.1) stood
+  pub onto_turned : (stood : List (Stood (ℕ × X) R)) → onto read [] (map (λ x. x.statement) (reverse stood)) ≡ map (λ x. x.statement.1) stood
   onto_turned [] = refl
   onto_turned (x ∷ stood) =
       ap (onto read []) (turned x stood)

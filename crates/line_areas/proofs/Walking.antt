@@ -1,8 +1,8 @@
 -- A walk over the runs of a set.
-use Rattle.std.proofs.Common.{◌≡◌, ℕ, ◌+◌, ◌<◌, ◌≤◌, Bool, true, false, ◌||◌, List, [], ◌∷◌, refl, sym, ◌∙◌, arith}
-use Rattle.std.specs.Prelude.{nat_lt}
+use Rattle.std.proofs.Common.{◌≡◌, ℕ, zero, suc, ◌+◌, ◌<◌, ◌≤◌, Bool, true, false, ◌||◌, List, [], ◌∷◌, Option, Some, None, drop, length, refl, sym, ap, subst, ◌∙◌, arith}
+use Rattle.std.specs.Prelude.{nat_lt, slice_get}
 use Rattle.run_set.specs.Runs.{Run, inside, contains, Spaced, AreRunsOf}
-use Rattle.line_areas.specs.Ahead.{IsAhead}
+use Rattle.line_areas.specs.Ahead.{IsAhead, IsNext}
 
 -- a number is in a run, or isn't
 is_inside : (n : ℕ) (r : Run) → r.start ≤ n → n < r.start + r.len → inside n r ≡ true
@@ -72,3 +72,41 @@ module _ (set : ℕ → Bool) where
     starts true e =
         let no : true ≡ false = sym (in_next r rs low ahead r.start (omega arith) (is_some r rs low ahead)) ∙ none r.start (begins r rs low ahead) (grind (arith, e)) in absurd (cc)
     starts false e = grind (arith, e)
+
+-- what is left of a list from an index on
+drop_at : (all : List Run) (i : ℕ) (r : Run) → slice_get all i ≡ Some r → drop i all ≡ r ∷ drop (i + 1) all
+drop_at [] i r e = absurd (let no : ◌≡◌ {A = Option Run} None (Some r) = e in cc)
+drop_at (x ∷ all) zero r e = let is : x ≡ r = cc in ap (λ y. y ∷ all) is
+drop_at (x ∷ all) (suc i) r e = drop_at all i r e ∙ ap (λ k. r ∷ drop k (x ∷ all)) (let next : suc (i + 1) ≡ suc i + 1 = omega arith in next)
+
+drop_past : (all : List Run) (i : ℕ) → slice_get all i ≡ None → drop i all ≡ []
+drop_past [] zero e = refl
+drop_past [] (suc i) e = refl
+drop_past (x ∷ all) zero e = absurd (let no : ◌≡◌ {A = Option Run} (Some x) None = e in cc)
+drop_past (x ∷ all) (suc i) e = drop_past all i e
+
+module _ (set : ℕ → Bool) (all : List Run) (i low : ℕ) (ahead : IsAhead set (drop i all) low) where
+  pub next_of : (r : Run) → slice_get all i ≡ Some r → IsNext set low r
+  next_of r got =
+      let here : IsAhead set (r ∷ drop (i + 1) all) low = subst (λ rs. IsAhead set rs low) (drop_at all i r got) ahead in
+      record {
+        from = begins set r (drop (i + 1) all) low here;
+        some = is_some set r (drop (i + 1) all) low here;
+        before = before_next set r (drop (i + 1) all) low here;
+        within = in_next set r (drop (i + 1) all) low here;
+        past = past_next set r (drop (i + 1) all) low here;
+      }
+
+  pub others_of : (r : Run) → slice_get all i ≡ Some r → IsAhead set (drop (i + 1) all) (r.start + r.len)
+  others_of r got = others_ahead set r (drop (i + 1) all) low (subst (λ rs. IsAhead set rs low) (drop_at all i r got) ahead)
+
+  pub none_of : slice_get all i ≡ None → (n : ℕ) → low ≤ n → set n ≡ false
+  none_of got n from = none_left set low n (subst (λ rs. IsAhead set rs low) (drop_past all i got) ahead) from
+
+  pub on_to : (high : ℕ) → low ≤ high → ((n : ℕ) → low ≤ n → n < high → set n ≡ false) → IsAhead set (drop i all) high
+  on_to high on none = later set (drop i all) low high ahead on none
+
+pub in_list : (all : List Run) (i : ℕ) (r : Run) → slice_get all i ≡ Some r → i < length all
+in_list [] i r e = absurd (let no : ◌≡◌ {A = Option Run} None (Some r) = e in cc)
+in_list (x ∷ all) zero r e = omega arith
+in_list (x ∷ all) (suc i) r e = let h = in_list all i r e in omega (arith, h)

@@ -1,5 +1,6 @@
 -- The areas of a subpool: the longest runs of its doublewords that the statement of one line took.
-use Rattle.std.specs.Prelude.{ℕ, zero, suc, ◌+◌, Bool, ◌&&◌, ◌==◌, if◌then◌else◌, Option, Some, None, List, [], ◌∷◌}
+use Rattle.std.specs.Prelude.{ℕ, zero, suc, ◌+◌, ◌^◌, Bool, ◌&&◌, ◌==◌, if◌then◌else◌, Option, Some, None, List, []}
+use Rattle.std.specs.Prelude.{◌∷◌, reverse}
 use Rattle.vsm_model.specs.declared.Subpool.{Subpool}
 use Rattle.line_areas.specs.declared.parts.Area.{Area}
 
@@ -26,3 +27,7 @@ with_doubleword p d (Some line) others =
 abbrev pub areas_to : Subpool → (ℕ → Option ℕ) → ℕ → List Area → List Area
 areas_to p line_of zero others = others
 areas_to p line_of (suc d) others = with_doubleword p d (line_of d) (areas_to p line_of d others)
+
+-- All areas of a subpool, ascending. Closed, since they may be many; a doubleword is below 2^29.
+unfoldable pub areas_of : Subpool → (ℕ → Option ℕ) → List Area
+areas_of p line_of = reverse (areas_to p line_of (2 ^ 29) [])

@@ -1,0 +1,4 @@
+pub mod Following
+pub mod Whole
+pub mod Newest
+pub mod Lines
