@@ -33,17 +33,17 @@ front_in k d (r ∷ rs) = go (r.0 == suc k) refl where
   go true e =
       ap (λ b. is_in d (if b then (k, suc r.1) ∷ rs else (k, 1) ∷ r ∷ rs)) e
       ∙ ap (λ b. b || is_in d rs) (joins k d r.0 r.1 e) ∙ assoc (d == k) (among r.0 r.1 d) (is_in d rs) where
-    joins : (k d first count : ℕ) → (first == suc k) ≡ true → among k (suc count) d ≡ ((d == k) || among first count d)
-    joins k d first count e = grind (arith, e)
+        joins : (k d first count : ℕ) → (first == suc k) ≡ true → among k (suc count) d ≡ ((d == k) || among first count d)
+        joins k d first count e = grind (arith, e)
 
-    assoc : (a b c : Bool) → ((a || b) || c) ≡ (a || (b || c))
-    assoc true b c = refl
-    assoc false b c = refl
+        assoc : (a b c : Bool) → ((a || b) || c) ≡ (a || (b || c))
+        assoc true b c = refl
+        assoc false b c = refl
   go false e =
       ap (λ b. is_in d (if b then (k, suc r.1) ∷ rs else (k, 1) ∷ r ∷ rs)) e
       ∙ ap (λ b. b || is_in d (r ∷ rs)) (one k d) where
-    one : (k d : ℕ) → among k 1 d ≡ (d == k)
-    one k d = grind arith
+        one : (k d : ℕ) → among k 1 d ≡ (d == k)
+        one k d = grind arith
 
 module _ (f : ℕ → Bool) (first n d : ℕ) where
   split : (d == first) ≡ true → among first (suc n) d ≡ true
@@ -94,12 +94,12 @@ found line d low [] others = refl
 found line d low (r ∷ rs) others =
     ap (λ b. if b then Some line else line_at (map (taking line) rs ++ others) d) (in_run r.0 r.1)
     ∙ go (among r.0 r.1 d) where
-  in_run : (first count : ℕ) → has (taking line (first, count)) d ≡ among first count d
-  in_run first count = grind (arith, low)
+      in_run : (first count : ℕ) → has (taking line (first, count)) d ≡ among first count d
+      in_run first count = grind (arith, low)
 
-  go : (b : Bool) → (if b then Some line else line_at (map (taking line) rs ++ others) d) ≡ (if b || is_in d rs then Some line else line_at others d)
-  go true = refl
-  go false = found line d low rs others
+      go : (b : Bool) → (if b then Some line else line_at (map (taking line) rs ++ others) d) ≡ (if b || is_in d rs then Some line else line_at others d)
+      go true = refl
+      go false = found line d low rs others
 
 module _ (settings : Settings) where
   -- what was noted, the newest first

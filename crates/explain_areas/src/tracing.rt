@@ -133,11 +133,7 @@ fn follow_line(
 }
 
 /// Follows what stands behind the last line feed, and gives the bench as it is then.
-fn follow_end(
-    session: Session,
-    trail: &mut Trail<Newly>,
-    rest: &[u8],
-) -> Result<Bench, WhoFault>
+fn follow_end(session: Session, trail: &mut Trail<Newly>, rest: &[u8]) -> Result<Bench, WhoFault>
     requires { NoFeed rest.now }
     ensures { IsEndFollowed rest.now session trail.old trail.new result }
 {

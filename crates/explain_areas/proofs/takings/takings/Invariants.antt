@@ -1,5 +1,5 @@
-use Rattle.std.proofs.Common.{◌≡◌, ◌≤◌, ◌++◌, ℕ, length, drop, map, take}
-use Rattle.explain_areas.specs.Takings.{taking, takings_of}
+use Rattle.std.proofs.Common.{◌≡◌, ◌≤◌, length, drop}
+use Rattle.explain_areas.specs.Takings.{takings_of}
 use Rattle.explain_areas.proofs.takings.takings.Given as goal
 
 abbrev pub invariant-loop-left : goal.invariant-loop-left
@@ -10,6 +10,3 @@ invariant-loop-left l = record {
 
 abbrev pub decreases-loop-left : goal.decreases-loop-left
 decreases-loop-left l = l.left
-
-abbrev pub invariant-loop-run : goal.invariant-loop-run
-invariant-loop-run l = l.takings.items ≡ l.initial.takings.items ++ map (taking l.entry.now.line) (take l.run-index l.entry.now.seen.items)
