@@ -26,8 +26,11 @@ is_in : ℕ → List (ℕ × ℕ) → Bool
 is_in d rs = list_any (λ r. among r.0 r.1 d) rs
 
 -- one number in front of runs
+one : (k d : ℕ) → among k 1 d ≡ (d == k)
+one k d = grind arith
+
 front_in : (k d : ℕ) (rs : List (ℕ × ℕ)) → is_in d (with_first k rs) ≡ ((d == k) || is_in d rs)
-front_in k d [] = grind arith
+front_in k d [] = ap (λ b. b || false) (one k d)
 front_in k d (r ∷ rs) = go (r.0 == suc k) refl where
   go : (b : Bool) → (r.0 == suc k) ≡ b → is_in d (with_first k (r ∷ rs)) ≡ ((d == k) || is_in d (r ∷ rs))
   go true e =
@@ -41,9 +44,7 @@ front_in k d (r ∷ rs) = go (r.0 == suc k) refl where
         assoc false b c = refl
   go false e =
       ap (λ b. is_in d (if b then (k, suc r.1) ∷ rs else (k, 1) ∷ r ∷ rs)) e
-      ∙ ap (λ b. b || is_in d (r ∷ rs)) (one k d) where
-        one : (k d : ℕ) → among k 1 d ≡ (d == k)
-        one k d = grind arith
+      ∙ ap (λ b. b || is_in d (r ∷ rs)) (one k d)
 
 module _ (f : ℕ → Bool) (first n d : ℕ) where
   split : (d == first) ≡ true → among first (suc n) d ≡ true
@@ -72,14 +73,14 @@ module _ (f : ℕ → Bool) (first n d : ℕ) where
 
 runs_have : (f : ℕ → Bool) (first n d : ℕ) → is_in d (runs f first n) ≡ (among first n d && f d)
 runs_have f first zero d = ap (λ b. b && f d) (let e : false ≡ among first 0 d = grind arith in e)
-runs_have f first (suc n) d = go (f first) refl where
-  go : (v : Bool) → f first ≡ v → is_in d (runs f first (suc n)) ≡ (among first (suc n) d && f d)
-  go true is =
+runs_have f first (suc n) d = go (f first) refl (runs_have f (suc first) n d) where
+  go : (v : Bool) → f first ≡ v → is_in d (runs f (suc first) n) ≡ (among (suc first) n d && f d) → is_in d (runs f first (suc n)) ≡ (among first (suc n) d && f d)
+  go true is rest =
       ap (λ b. is_in d (if b then with_first first (runs f (suc first) n) else runs f (suc first) n)) is
-      ∙ front_in first d (runs f (suc first) n) ∙ ap (λ c. (d == first) || c) (runs_have f (suc first) n d) ∙ with_it f first n d is (d == first) refl
-  go false is =
+      ∙ front_in first d (runs f (suc first) n) ∙ ap (λ c. (d == first) || c) rest ∙ with_it f first n d is (d == first) refl
+  go false is rest =
       ap (λ b. is_in d (if b then with_first first (runs f (suc first) n) else runs f (suc first) n)) is
-      ∙ runs_have f (suc first) n d ∙ without_it f first n d is (d == first) refl
+      ∙ rest ∙ without_it f first n d is (d == first) refl
 
 newly_has : (s t : State) (d : ℕ) → d < 2 ^ 28 → is_in d (newly_between s t) ≡ is_newly s t d
 unfolding newly_between
@@ -93,22 +94,23 @@ found : (line d : ℕ) → d < 2 ^ 28 → (rs : List (ℕ × ℕ)) (others : Lis
 found line d low [] others = refl
 found line d low (r ∷ rs) others =
     ap (λ b. if b then Some line else line_at (map (taking line) rs ++ others) d) (in_run r.0 r.1)
-    ∙ go (among r.0 r.1 d) where
+    ∙ go (among r.0 r.1 d) (found line d low rs others) where
       in_run : (first count : ℕ) → has (taking line (first, count)) d ≡ among first count d
       in_run first count = grind (arith, low)
 
-      go : (b : Bool) → (if b then Some line else line_at (map (taking line) rs ++ others) d) ≡ (if b || is_in d rs then Some line else line_at others d)
-      go true = refl
-      go false = found line d low rs others
+      go : (b : Bool) → line_at (map (taking line) rs ++ others) d ≡ (if is_in d rs then Some line else line_at others d)
+          → (if b then Some line else line_at (map (taking line) rs ++ others) d) ≡ (if b || is_in d rs then Some line else line_at others d)
+      go true rest = refl
+      go false rest = rest
 
 module _ (settings : Settings) where
   -- what was noted, the newest first
-  abbrev noted_of : List (Stood (ℕ × Act) Reply) → List (TrailEntry (ArrayVec (ℕ × ℕ)))
+  abbrev pub noted_of : List (Stood (ℕ × Act) Reply) → List (TrailEntry (ArrayVec (ℕ × ℕ)))
   noted_of [] = []
   noted_of (x ∷ older) =
       record { line = x.statement.0; seen = newly_after settings (x.statement.1 ∷ map (λ y. y.statement.1) older) } ∷ noted_of older
 
-  newest_first : (stood : List (Stood (ℕ × Act) Reply)) →
+  pub newest_first : (stood : List (Stood (ℕ × Act) Reply)) →
       reverse (seen_along (newly_after settings) [] (map (λ y. y.statement) (reverse stood))) ≡ noted_of stood
   newest_first [] = refl
   newest_first (x ∷ older) =
@@ -119,17 +121,17 @@ module _ (settings : Settings) where
       ∙ ap (λ older_acts. record { line = x.statement.0; seen = read (x.statement.1 ∷ older_acts) } ∷ reverse (seen_along read [] (map (λ y. y.statement) (reverse older)))) (onto_turned read older)
       ∙ ap (λ es. record { line = x.statement.0; seen = read (x.statement.1 ∷ map (λ y. y.statement.1) older) } ∷ es) (newest_first older)
 
-  abbrev all_taken : List (Stood (ℕ × Act) Reply) → List Taken
+  abbrev pub all_taken : List (Stood (ℕ × Act) Reply) → List Taken
   all_taken stood = flat_map (λ e. map (taking e.line) e.seen.items) (noted_of stood)
 
-  abbrev lined : List (Stood (ℕ × Act) Reply) → List (ℕ × Act)
+  abbrev pub lined : List (Stood (ℕ × Act) Reply) → List (ℕ × Act)
   lined = map (λ x. x.statement)
 
-  acts_are : (stood : List (Stood (ℕ × Act) Reply)) → acts (lined stood) ≡ map (λ y. y.statement.1) stood
+  pub acts_are : (stood : List (Stood (ℕ × Act) Reply)) → acts (lined stood) ≡ map (λ y. y.statement.1) stood
   acts_are [] = refl
   acts_are (x ∷ older) = ap (λ xs. x.statement.1 ∷ xs) (acts_are older)
 
-  abbrev taken_at : List (Stood (ℕ × Act) Reply) → ℕ → Bool
+  abbrev pub taken_at : List (Stood (ℕ × Act) Reply) → ℕ → Bool
   taken_at stood = (storage_after settings (acts (lined stood))).taken
 
   -- A doubleword that isn't taken has no line,
@@ -146,16 +148,17 @@ module _ (settings : Settings) where
       (newly_has (storage_after settings olds) (storage_after settings (x.statement.1 ∷ olds)) d low
       ∙ ap (λ (olds : List Act). (storage_after settings (x.statement.1 ∷ olds)).taken d && not ((storage_after settings olds).taken d)) (sym (acts_are older))
       ∙ ap (λ b. b && not (taken_at older d)) e)
-      ∙ go (taken_at older d) refl)
+      ∙ go (taken_at older d) refl (is_taken older d low))
     where
       olds : List Act
       olds = map (λ y. y.statement.1) older
 
-      go : (b : Bool) → taken_at older d ≡ b → (if not (taken_at older d) then Some x.statement.0 else line_at (all_taken older) d)
+      go : (b : Bool) → taken_at older d ≡ b → (taken_at older d ≡ true → taken_since settings (lined older) d ≡ line_at (all_taken older) d)
+          → (if not (taken_at older d) then Some x.statement.0 else line_at (all_taken older) d)
           ≡ taken_since settings (lined (x ∷ older)) d
-      go true is =
-          ap (λ b. if not b then Some x.statement.0 else line_at (all_taken older) d) is ∙ sym (is_taken older d low is)
+      go true is rest =
+          ap (λ b. if not b then Some x.statement.0 else line_at (all_taken older) d) is ∙ sym (rest is)
           ∙ sym ((λ i. since (e i) (is i) x.statement.0 (taken_since settings (lined older) d)))
-      go false is =
+      go false is rest =
           ap (λ b. if not b then Some x.statement.0 else line_at (all_taken older) d) is
           ∙ sym ((λ i. since (e i) (is i) x.statement.0 (taken_since settings (lined older) d)))

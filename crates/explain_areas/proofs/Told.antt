@@ -1,5 +1,5 @@
 -- What is written of a script is what the definitions say.
-use Rattle.std.proofs.Common.{◌≡◌, ℕ, List, [], Option, Result, Ok, Err, length, subst, ap, sym, ◌∙◌}
+use Rattle.std.proofs.Common.{◌≡◌, ℕ, true, List, [], Option, Result, Ok, Err, length, subst, ap, sym, ◌∙◌}
 use Rattle.std.specs.Io.KnownBytes.{Appends}
 use Rattle.text_output.specs.Writing.{AppendsFront}
 use Rattle.text_output.proofs.Known.{appends_nothing}

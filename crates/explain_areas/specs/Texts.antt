@@ -3,6 +3,7 @@ use Rattle.std.specs.Prelude.{◌≡◌, ℕ, ◌*◌, min, true, List, [], ◌+
 use Rattle.std.specs.Fmt.{decimal}
 use Rattle.std.specs.Io.KnownBytes.{Appends}
 use Rattle.text_output.specs.Writing.{AppendsFront}
+use Rattle.vsm_model.specs.declared.Subpool.{Subpool}
 use Rattle.vsm_model.specs.declared.limits.Settings.{Settings}
 use Rattle.vsm_model.specs.Map.{line, total_bytes}
 use Rattle.vsm_model.specs.Standing.{nothing_stands}
@@ -22,12 +23,14 @@ use Rattle.macro_statements.specs.Requests.{Act}
 abbrev pub shown_address : Area → ℕ
 shown_address a = min (8 * a.start) 4294967295
 
+-- so many bytes at an address, of a subpool
+abbrev pub place_text : ℕ → ℕ → Subpool → List ℕ
+place_text bytes address p =
+    decimal bytes ++ codes " bytes at " ++ hexadecimal 8 address ++ codes ", " ++ holder_text p
+
 -- the line of an area: its statement's, with its bytes, its address and its subpool
 abbrev pub area_text : List ℕ → Area → List ℕ
-area_text script a =
-    line
-    (line_text script a.line ++ decimal (8 * a.count) ++ codes " bytes at " ++ hexadecimal 8 (shown_address a)
-    ++ codes ", " ++ holder_text a.subpool)
+area_text script a = line (line_text script a.line ++ place_text (8 * a.count) (shown_address a) a.subpool)
 
 -- how many areas there are, and how many bytes are taken
 abbrev pub sum_text : ℕ → ℕ → List ℕ

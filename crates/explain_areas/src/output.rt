@@ -1,11 +1,12 @@
 //! What is taken, written.
-ghost use Rattle.std.specs.Prelude.{◌≡◌, [], IfOk, List, ℕ, flat_map};
+ghost use Rattle.std.specs.Prelude.{◌≡◌, ◌*◌, [], IfOk, List, ℕ, flat_map};
 ghost use Rattle.text_output.specs.Writing.{Puts};
 ghost use Rattle.vsm_model.specs.declared.limits.Settings.{Settings as SettingsIn};
 ghost use Rattle.explain_who.specs.ScriptLines.{LinesBegin};
 ghost use Rattle.explain_areas.specs.Followed.{IsFollowedBy};
 ghost use Rattle.explain_areas.specs.Since.{taken_areas};
-ghost use Rattle.explain_areas.specs.Texts.{TellsAreas, area_text, areas_text, shown_address, standing, sum_text};
+ghost use Rattle.explain_areas.specs.Texts.{TellsAreas, area_text, areas_text, place_text, shown_address, standing};
+ghost use Rattle.explain_areas.specs.Texts.{sum_text};
 
 use crate::takings::takings;
 use crate::tracing::{Followed, follow};
@@ -16,7 +17,14 @@ use std::alloc::{AllocError, Global};
 use std::io::Write;
 use storage_map::totals;
 use text_output::{Gathered, put_decimal, put_hexadecimal};
-use vsm_model::Settings;
+use vsm_model::{Settings, Subpool};
+
+/// The bytes of an area.
+fn bytes_of(area: &Area) -> u64
+    ensures { result ≡ 8 * area.now.count }
+{
+    8 * u64::from(area.count)
+}
 
 /// The address of an area.
 fn shown_address(area: &Area) -> u32
@@ -25,8 +33,26 @@ fn shown_address(area: &Area) -> u32
     area.start.saturating_mul(8)
 }
 
-/// Puts the line of an area: its statement, its bytes, its address and its subpool.
+/// Puts how many bytes an area has, where, and of which subpool.
 #[tactic(auto, using(text_output::proofs::Gathering::puts_both))]
+fn put_place<W: Write>(
+    gathered: &mut Gathered,
+    writer: &mut W,
+    bytes: u64,
+    address: u32,
+    subpool: Subpool,
+)
+    ensures { Puts (W.contents writer.old) (W.contents writer.new) gathered.old gathered.new
+        (place_text bytes address subpool) }
+{
+    put_decimal(gathered, writer, bytes);
+    gathered.put(writer, b" bytes at ");
+    put_hexadecimal(gathered, writer, 8, address);
+    gathered.put(writer, b", ");
+    put_holder(gathered, writer, subpool);
+}
+
+/// Puts the line of an area: its statement, its bytes, its address and its subpool.
 fn put_area<W: Write>(
     gathered: &mut Gathered,
     writer: &mut W,
@@ -39,11 +65,9 @@ fn put_area<W: Write>(
         (area_text script.now area.now) }
 {
     put_line(gathered, writer, script, starts, area.line);
-    put_decimal(gathered, writer, 8 * u64::from(area.count));
-    gathered.put(writer, b" bytes at ");
-    put_hexadecimal(gathered, writer, 8, shown_address(area));
-    gathered.put(writer, b", ");
-    put_holder(gathered, writer, area.subpool);
+    let bytes = bytes_of(area);
+    let address = shown_address(area);
+    put_place(gathered, writer, bytes, address, area.subpool);
     gathered.put(writer, b"\n");
 }
 

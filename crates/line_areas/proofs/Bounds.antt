@@ -15,11 +15,11 @@ use Rattle.line_areas.specs.Areas.{areas_to}
 use Rattle.line_areas.specs.declared.parts.Area.{Area}
 use Rattle.line_areas.proofs.Joining.{none_on}
 
-is_false : (b : Bool) → (b ≡ true → ⊥) → b ≡ false
+pub is_false : (b : Bool) → (b ≡ true → ⊥) → b ≡ false
 is_false true never = absurd (never refl)
 is_false false never = refl
 
-both_ways : (b : Bool) → b ≡ true → b ≡ false → ⊥
+pub both_ways : (b : Bool) → b ≡ true → b ≡ false → ⊥
 both_ways b is other = let e : true ≡ false = sym is ∙ other in cc
 
 module _ (s : Storage) (p : Subpool) where

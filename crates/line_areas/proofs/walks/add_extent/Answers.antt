@@ -25,7 +25,7 @@ loop-area-preserved c =
       areas = λ f others lines before.
           c.in_ok-add_taken.ensures f others
           (λ d from to.
-              lines.taken d (c.requires.pages (d / 512) (omega (arith, l.invariant.from, from)) (omega (arith, to, c.in-Some.ensures.before))) (next.before d from to))
+          lines.taken d (c.requires.pages (d / 512) (omega (arith, l.invariant.from, from)) (omega (arith, to, c.in-Some.ensures.before))) (next.before d from to))
           (l.invariant.areas f others lines before)
           ∙ sym (same_to p f others area.start (area.start + area.len) (omega (arith, next.some)) (λ d from to. lines.free d (next.within d from to)));
     }
