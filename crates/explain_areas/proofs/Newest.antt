@@ -22,7 +22,7 @@ use Rattle.explain_areas.specs.Takings.{newly_after, taking, takings_of}
 
 -- ---- runs
 
-is_in : ℕ → List (ℕ × ℕ) → Bool
+abbrev is_in : ℕ → List (ℕ × ℕ) → Bool
 is_in d rs = list_any (λ r. among r.0 r.1 d) rs
 
 -- one number in front of runs
