@@ -1,17 +1,15 @@
 -- What is noted follows the statements that stand.
-use Rattle.std.proofs.Common.{◌≡◌, ℕ, Bool, true, false, List, [], ◌∷◌, ◌++◌, length, map, Option, Some, None, Result, Ok, Err, refl, sym, ap, subst, ◌∙◌}
+use Rattle.std.proofs.Common.{◌≡◌, ℕ, true, false, List, [], ◌∷◌, ◌++◌, Option, Some, None, Ok, sym, ap, subst, ◌∙◌}
 use Rattle.std.proofs.Props.{props}
 use mathlib.Core.Logic.{∥∥₁_elim}
 use Rattle.arrayvec.specs.ArrayVec.{ArrayVec}
-use Rattle.macro_operands.specs.declared.faults.FaultKind.{FaultKind}
-use Rattle.macro_statements.specs.Requests.{Act, Asked, act}
+use Rattle.macro_statements.specs.Requests.{Act, act}
 use Rattle.vsm_model.specs.declared.limits.Settings.{Settings}
 use Rattle.vsm_model.specs.declared.replies.Reply.{Reply}
 use Rattle.vsm_model.specs.Map.{total_bytes}
-use Rattle.vsm_model.specs.Names.{NamedState, first_named_state, is_one_too_many}
+use Rattle.vsm_model.specs.Names.{NamedState, is_one_too_many}
 use Rattle.vsm_model.specs.Regions.{settings_valid}
-use Rattle.vsm_model.specs.Standing.{Outcome, Accepted, Apply, Bench as PlainBench, outcome_answer, nothing_stands, alone, state_after}
-use Rattle.vsm_model.specs.State.{State}
+use Rattle.vsm_model.specs.Standing.{Outcome, Accepted, Apply, outcome_answer, nothing_stands, state_after}
 use Rattle.vsm_model.specs.WellFormed.{IsWellFormed}
 use Rattle.bench_core.specs.Machine.{Why, statement_step, name_asked}
 use Rattle.bench_core.specs.Stands.{bench_of, settings_in}
@@ -29,12 +27,12 @@ use Rattle.script_steps.proofs.Standings.{stands_for}
 use Rattle.vsm_bench.proofs.Served.{accepted_is_its_service}
 use Rattle.newly_taken.specs.Newly.{taken_by, newly_between}
 use Rattle.newly_taken.proofs.ByReply.{taken_by_the_reply}
-use Rattle.explain_who.specs.Lined.{plain, lined_all}
+use Rattle.explain_who.specs.Lined.{plain}
 use Rattle.explain_who.specs.Notes.{with_told}
-use Rattle.explain_who.specs.Trails.{Marks, marks_of}
+use Rattle.explain_who.specs.Trails.{Marks}
 use Rattle.explain_who.proofs.Followed.{IsRead, Marked_by, acts_of, alone_after, alone_is, follow_more, lined, state_behind}
 use Rattle.explain_who.proofs.Lines.{lines_are_of_statements}
-use Rattle.explain_areas.specs.Followed.{Follows, IsKnown, noted, taken_in}
+use Rattle.explain_areas.specs.Followed.{IsKnown, noted, taken_in}
 use Rattle.explain_areas.specs.Takings.{newly_after}
 use Rattle.explain_areas.specs.declared.tracing.Known.{Known}
 

@@ -1,5 +1,5 @@
 -- What a script that was followed leaves taken.
-use Rattle.std.proofs.Common.{◌≡◌, ℕ, List, Option, Result, Ok, Err, map, take, flat_map, reverse, sym, ap, subst, ◌∙◌}
+use Rattle.std.proofs.Common.{◌≡◌, ℕ, List, Option, Result, Ok, Err, map, take, flat_map, sym, ap, subst, ◌∙◌}
 use Rattle.std.specs.Prelude.{IfOk}
 use Rattle.arrayvec.specs.ArrayVec.{ArrayVec}
 use Rattle.macro_statements.specs.Requests.{Act}
@@ -7,8 +7,7 @@ use Rattle.vsm_model.specs.declared.Subpool.{Subpool}
 use Rattle.vsm_model.specs.declared.limits.Settings.{Settings}
 use Rattle.vsm_model.specs.declared.replies.Reply.{Reply}
 use Rattle.vsm_model.specs.Names.{NamedState}
-use Rattle.vsm_model.specs.Standing.{Standing, Stood, nothing_stands}
-use Rattle.vsm_model.specs.State.{State}
+use Rattle.vsm_model.specs.Standing.{Stood, nothing_stands}
 use Rattle.bench_core.specs.Stands.{bench_of}
 use Rattle.storage_core.specs.declared.storage.Storage.{Storage}
 use Rattle.storage_core.specs.Meaning.{state_in_place, state_of}
@@ -22,7 +21,7 @@ use Rattle.line_areas.specs.declared.taken.Taken.{Taken}
 use Rattle.explain_who.specs.Lined.{lined_all}
 use Rattle.explain_who.specs.Trails.{marks_of}
 use Rattle.explain_who.specs.declared.trail.TrailEntry.{TrailEntry}
-use Rattle.explain_who.proofs.Followed.{acts_of, alone_after, alone_is}
+use Rattle.explain_who.proofs.Followed.{alone_after, alone_is}
 use Rattle.explain_who.proofs.Lines.{lines_are_of_statements}
 use Rattle.explain_who.proofs.Moves.{standing_marks}
 use Rattle.explain_areas.specs.Followed.{IsFollowedBy}

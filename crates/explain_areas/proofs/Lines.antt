@@ -1,8 +1,7 @@
 -- What was found of a storage is what is taken by the definition.
-use Rattle.std.proofs.Common.{◌≡◌, ℕ, ◌+◌, ◌*◌, ◌/◌, ◌^◌, ◌<◌, ◌≤◌, Bool, true, false, not, if◌then◌else◌, Option, Some, None, is_some, List, [], ◌∷◌, ◌++◌, map, flat_map, reverse, take, refl, sym, ap, subst, ◌∙◌, arith}
+use Rattle.std.proofs.Common.{◌≡◌, ℕ, ◌/◌, ◌^◌, ◌<◌, Bool, true, false, not, if◌then◌else◌, Option, Some, None, List, [], flat_map, reverse, refl, sym, ap, ◌∙◌, arith}
 use Rattle.std.proofs.Props.{props}
 use mathlib.Core.Logic.{∥∥₁_elim}
-use Rattle.arrayvec.specs.ArrayVec.{ArrayVec}
 use Rattle.macro_statements.specs.Requests.{Act}
 use Rattle.vsm_model.specs.declared.Subpool.{Subpool}
 use Rattle.vsm_model.specs.declared.limits.Settings.{Settings}
@@ -13,7 +12,7 @@ use Rattle.vsm_model.specs.State.{State}
 use Rattle.vsm_model.specs.Subpools.{same_subpool}
 use Rattle.service_laws.proofs.Cases.{same_is}
 use Rattle.service_laws.proofs.Words.{low_page}
-use Rattle.storage_changes.specs.Meaning.{all_subpools, first_of, subpool_of, is_taken as is_taken_in}
+use Rattle.storage_changes.specs.Meaning.{all_subpools, subpool_of, is_taken as is_taken_in}
 use Rattle.storage_changes.proofs.Cases.{same-self}
 use Rattle.storage_changes.proofs.FirstLemmas.{first-passes}
 use Rattle.storage_changes.proofs.MapOrder.{in_order}
@@ -22,9 +21,7 @@ use Rattle.storage_core.specs.Meaning.{state_in_place, state_of, settings_of}
 use Rattle.subpool_storage.specs.Order.{subpools_in_order}
 use Rattle.subpool_storage.specs.Subpools.{is_there}
 use Rattle.line_areas.specs.Ahead.{AreLinesOf}
-use Rattle.line_areas.specs.Areas.{areas_to, areas_of}
-use Rattle.line_areas.specs.Taken.{line_at}
-use Rattle.line_areas.specs.declared.parts.Area.{Area}
+use Rattle.line_areas.specs.Areas.{areas_of}
 use Rattle.line_areas.proofs.Bounds.{both_ways, free_in_page, is_false, same_to}
 use Rattle.explain_areas.specs.Since.{acts, line_of, storage_after, taken_areas, taken_since}
 use Rattle.explain_areas.proofs.Newest.{all_taken, is_taken, lined, not_taken}

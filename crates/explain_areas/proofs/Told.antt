@@ -1,7 +1,5 @@
 -- What is written of a script is what the definitions say.
-use Rattle.std.proofs.Common.{◌≡◌, ℕ, true, List, [], Option, Result, Ok, Err, length, subst, ap, sym, ◌∙◌}
-use Rattle.std.specs.Io.KnownBytes.{Appends}
-use Rattle.text_output.specs.Writing.{AppendsFront}
+use Rattle.std.proofs.Common.{◌≡◌, ℕ, true, List, Option, Err, ◌∙◌}
 use Rattle.text_output.proofs.Known.{appends_nothing}
 use Rattle.vsm_model.specs.declared.limits.Settings.{Settings}
 use Rattle.explain_who.specs.Faults.{FollowsNot}

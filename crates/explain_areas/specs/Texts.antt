@@ -1,5 +1,5 @@
 -- The text that goes out: what is taken, by lines.
-use Rattle.std.specs.Prelude.{◌≡◌, ℕ, ◌*◌, min, true, List, [], ◌++◌, length, flat_map, map, codes, Option, Result, Ok, Err}
+use Rattle.std.specs.Prelude.{ℕ, ◌*◌, min, true, List, [], ◌++◌, length, flat_map, map, codes, Option, Result, Ok, Err}
 use Rattle.std.specs.Fmt.{decimal}
 use Rattle.std.specs.Io.KnownBytes.{Appends}
 use Rattle.text_output.specs.Writing.{AppendsFront}

@@ -1,5 +1,5 @@
 -- A service takes what its reply tells.
-use Rattle.std.proofs.Common.{◌≡◌, ◌⊎◌, ℕ, zero, suc, ◌+◌, ◌-◌, ◌*◌, ◌/◌, ◌<◌, ◌≤◌, ◌^◌, min, Bool, true, false, not, ◌&&◌, ◌||◌, if◌then◌else◌, Option, Some, None, is_some, List, [], ◌∷◌, refl, sym, ap, subst, ◌∙◌, arith, inl, inr}
+use Rattle.std.proofs.Common.{◌≡◌, ◌⊎◌, ℕ, zero, suc, ◌+◌, ◌-◌, ◌*◌, ◌/◌, ◌<◌, ◌≤◌, ◌^◌, Bool, true, false, not, ◌&&◌, ◌||◌, Option, Some, None, is_some, List, [], ◌∷◌, refl, sym, ap, ◌∙◌, arith, inl, inr}
 use Rattle.std.specs.Prelude.{Contains, ◌==◌}
 use Rattle.std.specs.List.{list_any}
 use Rattle.vsm_model.specs.declared.Subpool.{Subpool}
@@ -8,9 +8,9 @@ use Rattle.vsm_model.specs.declared.limits.Residence.{Residence}
 use Rattle.vsm_model.specs.declared.limits.Residence.TheVariants.{Below, Above}
 use Rattle.vsm_model.specs.declared.limits.Settings.{Settings}
 use Rattle.vsm_model.specs.declared.replies.Reply.{Reply}
-use Rattle.vsm_model.specs.declared.replies.Reply.TheVariants.{Obtained, Returned, Cell, Attached, Turn, Stored}
+use Rattle.vsm_model.specs.declared.replies.Reply.TheVariants.{Obtained, Returned, Cell, Attached}
 use Rattle.vsm_model.specs.Ending.{is_in_subtree}
-use Rattle.vsm_model.specs.Map.{taken_doublewords, total_bytes}
+use Rattle.vsm_model.specs.Map.{total_bytes}
 use Rattle.vsm_model.specs.declared.services.Attach.{Attach}
 use Rattle.vsm_model.specs.declared.services.Build.{Build}
 use Rattle.vsm_model.specs.declared.services.Get.{Get}
@@ -20,15 +20,13 @@ use Rattle.service_laws.specs.Extents.{lies_in}
 use Rattle.service_laws.proofs.Placed.{in_regions}
 use Rattle.vsm_model.specs.Regions.{Region, doublewords, side, among, within, low_region, high_region, regions_for, in_a_region, settings_valid}
 use Rattle.vsm_model.specs.Registers.{with_register, with_registers, registers_set}
-use Rattle.vsm_model.specs.Releasing.{without_storage}
-use Rattle.vsm_model.specs.Search.{holds, passing}
-use Rattle.vsm_model.specs.Services.{Service, obtain, release, whole, attach, detach, end_task, run, store, build, get, free, delete, is_conditional}
-use Rattle.vsm_model.specs.Standing.{Outcome, Accepted, Refused, state_after, reply_in}
+use Rattle.vsm_model.specs.Search.{holds}
+use Rattle.vsm_model.specs.Services.{Service, obtain, release, whole, attach, detach, end_task, run, store, build, get, free, delete}
+use Rattle.vsm_model.specs.Standing.{Outcome, Accepted, state_after, reply_in}
 use Rattle.vsm_model.specs.State.{State}
-use Rattle.vsm_model.specs.Step.{effect, replied, step}
+use Rattle.vsm_model.specs.Step.{effect, step}
 use Rattle.vsm_model.specs.WellFormed.{IsWellFormed}
 use Rattle.vsm_model.proofs.Chosen.{accepted_has_its_effect}
-use Rattle.vsm_model.proofs.Stores.{stored_is_loaded}
 use Rattle.service_laws.proofs.Words.{low_page}
 use Rattle.service_laws.proofs.Grants.{obtain_grants_free_storage, answer_four_sets_register_15_alone}
 use Rattle.service_laws.proofs.BuiltAndDeleted.{build_makes_a_cell_pool, delete_gives_its_extents_back}
@@ -166,7 +164,7 @@ module _ (settings : Settings) (names_full : Bool) (s t : State) (reply : Reply)
     | inl (address, given, is) ↦
         let granted = (obtain_grants_free_storage settings names_full s t o address given w (e ∙ ap (Accepted t) is)).0 in
         let area = granted.area in
-        let which : (area.region ≡ low_region settings) ⊎ (area.region ≡ high_region settings) = elim area.on_side [ | inl low ↦ inl low | inr high ↦ inr high.0 ] in
+        let which : (area.region ≡ low_region settings) ⊎ (area.region ≡ high_region settings) = elim area.on_side [ inl low ↦ inl low | inr high ↦ inr high.0 ] in
         as_told (Obtained address given) is
         (area_is settings s t (address / 8) (given / 8) valid (λ d at. in_either settings area.region (d / 512) which (area.in_region d at)) area.was_free area.taken)
     | inr four ↦ as_told (Returned 4) four.1 (sym (none_newly s t (kept_newly s t (ap (λ (u : State). u.taken) four.2.same))))

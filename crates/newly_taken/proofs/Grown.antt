@@ -1,11 +1,10 @@
 -- How much more is taken when an area is.
-use Rattle.std.proofs.Common.{◌≡◌, ◌⊎◌, ℕ, zero, suc, ◌+◌, ◌-◌, ◌*◌, ◌/◌, ◌<◌, ◌≤◌, ◌^◌, min, Bool, true, false, not, ◌&&◌, ◌||◌, if◌then◌else◌, is_some, refl, sym, ap, ◌∙◌, arith, inl, inr}
+use Rattle.std.proofs.Common.{◌≡◌, ◌⊎◌, ℕ, zero, suc, ◌+◌, ◌-◌, ◌*◌, ◌/◌, ◌<◌, ◌≤◌, ◌^◌, Bool, true, false, ◌&&◌, ◌||◌, is_some, refl, sym, ap, ◌∙◌, arith, inl, inr}
 use Rattle.vsm_model.specs.declared.limits.Settings.{Settings}
 use Rattle.vsm_model.specs.Map.{taken_doublewords, total_bytes}
-use Rattle.vsm_model.specs.Regions.{Region, among, within, low_region, high_region, in_a_region, settings_valid}
+use Rattle.vsm_model.specs.Regions.{Region, among, within, low_region, high_region, settings_valid}
 use Rattle.vsm_model.specs.Search.{passing}
 use Rattle.vsm_model.specs.State.{State}
-use Rattle.service_laws.proofs.Words.{low_page}
 use Rattle.storage_changes.proofs.MapSums.{one_if, passing_apart, passing_all, passing_plus}
 use Rattle.newly_taken.specs.Newly.{grown}
 use Rattle.newly_taken.proofs.SingleRun.{is_among, is_before, is_past}
@@ -65,9 +64,9 @@ module _ (settings : Settings) (s t : State) (a n : ℕ) (valid : settings_valid
       ap (λ b. one_if b + one_if (among a n d)) (in_page s sound d)
       ∙ go (among a n d) refl
       ∙ ap one_if (sym (is d) ∙ sym (in_page t sound_on d)) where
-    go : (b : Bool) → among a n d ≡ b → one_if (s.taken d) + one_if b ≡ one_if (b || s.taken d)
-    go true e = ap (λ c. one_if c + 1) (was d e)
-    go false e = omega arith
+        go : (b : Bool) → among a n d ≡ b → one_if (s.taken d) + one_if b ≡ one_if (b || s.taken d)
+        go true e = ap (λ c. one_if c + 1) (was d e)
+        go false e = omega arith
 
   more : (r : Region) → taken_doublewords s true r + passing (among a n) (512 * r.first) (512 * r.count) ≡ taken_doublewords t true r
   more r =
@@ -104,7 +103,7 @@ module _ (settings : Settings) (s t : State) (a n : ℕ) (valid : settings_valid
       let low = more (low_region settings) in
       let high = more (high_region settings) in
       let sum : taken_doublewords t true (low_region settings) + taken_doublewords t true (high_region settings)
-          ≡ taken_doublewords s true (low_region settings) + taken_doublewords s true (high_region settings) + n = omega (arith, low, high, below, above) in
+      ≡ taken_doublewords s true (low_region settings) + taken_doublewords s true (high_region settings) + n = omega (arith, low, high, below, above) in
       ap (λ x. grown (total_bytes settings s true) (8 * x)) sum
       ∙ by_eight (taken_doublewords s true (low_region settings) + taken_doublewords s true (high_region settings)) n small
 
@@ -115,6 +114,6 @@ module _ (settings : Settings) (s t : State) (a n : ℕ) (valid : settings_valid
       let low = more (low_region settings) in
       let high = more (high_region settings) in
       let sum : taken_doublewords t true (low_region settings) + taken_doublewords t true (high_region settings)
-          ≡ taken_doublewords s true (low_region settings) + taken_doublewords s true (high_region settings) + n = omega (arith, low, high, below, above) in
+      ≡ taken_doublewords s true (low_region settings) + taken_doublewords s true (high_region settings) + n = omega (arith, low, high, below, above) in
       ap (λ x. grown (total_bytes settings s true) (8 * x)) sum
       ∙ by_eight (taken_doublewords s true (low_region settings) + taken_doublewords s true (high_region settings)) n small

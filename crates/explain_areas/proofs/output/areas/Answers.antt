@@ -1,4 +1,4 @@
-use Rattle.std.proofs.Common.{◌≡◌, Ok, Err, subst, ap, ◌∙◌}
+use Rattle.std.proofs.Common.{Ok, Err, subst, ap}
 use Rattle.std.specs.Io.KnownBytes.{Appends}
 use Rattle.text_output.specs.Writing.{AppendsFront}
 use Rattle.storage_map.specs.declared.counts.Totals.{Totals}

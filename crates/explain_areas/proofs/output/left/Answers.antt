@@ -1,4 +1,3 @@
-use Rattle.std.proofs.Common.{◌≡◌}
 use Rattle.explain_areas.proofs.Left.{left_areas, of_ok}
 use Rattle.explain_areas.proofs.output.left.Goals as goal
 

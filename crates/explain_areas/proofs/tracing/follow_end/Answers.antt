@@ -1,4 +1,4 @@
-use Rattle.std.proofs.Common.{◌≡◌, subst, ◌∙◌, ◌++◌, []}
+use Rattle.std.proofs.Common.{subst, ◌∙◌, ◌++◌, []}
 use Rattle.std.proofs.lemmas.List.{append-nil}
 use Rattle.explain_who.specs.Trails.{marks_of}
 use Rattle.script_steps.specs.Taken.{PassesBound}

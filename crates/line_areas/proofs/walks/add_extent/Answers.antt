@@ -1,4 +1,4 @@
-use Rattle.std.proofs.Common.{◌≡◌, ℕ, ◌+◌, ◌*◌, ◌/◌, ◌<◌, ◌≤◌, ◌∙◌, sym, arith}
+use Rattle.std.proofs.Common.{◌+◌, ◌/◌, ◌∙◌, sym, arith}
 use Rattle.line_areas.proofs.Bounds.{ends_within, same_to}
 use Rattle.line_areas.proofs.walks.add_extent.Goals as goal
 

@@ -1,4 +1,4 @@
-use Rattle.std.proofs.Common.{◌-◌, ◌≡◌, ◌+◌, ◌*◌, ◌<◌, ◌≤◌, ℕ, List, Option, reverse, length}
+use Rattle.std.proofs.Common.{◌-◌, ◌≡◌, ◌+◌, ◌*◌, ◌≤◌, ℕ, List, Option, reverse}
 use Rattle.line_areas.specs.Areas.{areas_to}
 use Rattle.line_areas.specs.Ahead.{IsFreeFrom, AreLinesOf}
 use Rattle.line_areas.specs.declared.parts.Area.{Area as AreaIn}

@@ -1,8 +1,8 @@
-use Rattle.std.proofs.Common.{◌≡◌, ℕ, ◌+◌, ◌-◌, ◌*◌, ◌/◌, ◌^◌, ◌<◌, ◌≤◌, ◌∙◌, [], reverse, sym, ap, arith}
+use Rattle.std.proofs.Common.{◌+◌, ◌*◌, ◌/◌, ◌^◌, ◌∙◌, [], reverse, sym, ap, arith}
 use Rattle.std.proofs.lemmas.List.{reverse-reverse}
 use Rattle.subpool_storage.specs.Extents.{extents, free_areas}
 use Rattle.storage_core.specs.Meaning.{state_in_place}
-use Rattle.line_areas.specs.Areas.{areas_to, areas_of}
+use Rattle.line_areas.specs.Areas.{areas_of}
 use Rattle.line_areas.proofs.Bounds.{not_free, pages_are_runs, free_are_runs, same_to}
 use Rattle.line_areas.proofs.Walking.{all_ahead, next_of, others_of, none_of, on_to, in_list}
 use Rattle.line_areas.proofs.walks.areas_in.Goals as goal

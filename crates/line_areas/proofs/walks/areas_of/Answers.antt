@@ -1,4 +1,4 @@
-use Rattle.std.proofs.Common.{◌≡◌, ℕ, ◌++◌, ◌∷◌, List, Option, flat_map, length, append_assoc, sym, ap, ◌∙◌, arith}
+use Rattle.std.proofs.Common.{◌++◌, List, flat_map, length, append_assoc, sym, ap, ◌∙◌, arith}
 use Rattle.std.proofs.lemmas.List.{append-nil}
 use Rattle.vsm_model.specs.declared.Subpool.{Subpool}
 use Rattle.storage_core.specs.Walks.{subpools_left}

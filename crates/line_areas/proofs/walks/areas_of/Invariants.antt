@@ -1,4 +1,4 @@
-use Rattle.std.proofs.Common.{◌≡◌, ◌++◌, ℕ, List, Option, flat_map, length}
+use Rattle.std.proofs.Common.{◌≡◌, ◌++◌, ℕ, Option, flat_map, length}
 use Rattle.vsm_model.specs.declared.Subpool.{Subpool}
 use Rattle.subpool_storage.specs.Order.{subpools_in_order}
 use Rattle.storage_core.specs.Meaning.{state_in_place}
