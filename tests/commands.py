@@ -57,7 +57,7 @@ def completed(text: str) -> str:
     text = re.sub(r"(?:^|(?<=\| ))(vsm(?:-explain)?)(?= |$)", r"./\1", text)
     text = re.sub(r"^(vsm-\w+)(?= )", r"tools/\1", text)
     # A subcommand that a sentence names.
-    text = re.sub(r"^(\./vsm-explain [a-z]+)(?: --over-time)?$", r"\1 --help", text)
+    text = re.sub(r"^(\./vsm-explain [a-z]+)(?: --over-time| --areas)?$", r"\1 --help", text)
     values = {**VALUES, "FILE": "lesson.vsm"} if text.startswith("tools/vsm-test") else VALUES
     return " ".join(values.get(word, word) for word in text.split(" "))
 

@@ -147,13 +147,17 @@ IsWhyAsked rows (question.Code first second) =
     × (option_map_or is_line (first_of (codes "LINE") rows) false ≡ false)
 IsWhyAsked rows _ = ⊥
 
--- `report` asks of the statement of a line, or of the last; with --over-time of each, of all storage or of a subpool.
+-- `report` asks of the statement of a line, or of the last; with --areas of what is taken at the end; with --over-time
+-- of each statement, of all storage or of a subpool.
 abbrev pub IsReportAsked : List Row → Question → Type 0
 IsReportAsked rows (question.Report line) =
-    (is_set (codes "over-time") rows ≡ false) × (is_given (codes "subpool") rows ≡ false)
-    × Says line_in (first_of (codes "LINE") rows) line
+    (is_set (codes "over-time") rows ≡ false) × (is_set (codes "areas") rows ≡ false)
+    × (is_given (codes "subpool") rows ≡ false) × Says line_in (first_of (codes "LINE") rows) line
+IsReportAsked rows question.Areas =
+    (is_set (codes "over-time") rows ≡ false) × (is_set (codes "areas") rows ≡ true)
+    × (is_given (codes "subpool") rows ≡ false) × (is_given (codes "LINE") rows ≡ false)
 IsReportAsked rows (question.OverTime subpool) =
-    (is_set (codes "over-time") rows ≡ true) × (is_given (codes "LINE") rows ≡ false)
+    (is_set (codes "over-time") rows ≡ true) × (is_set (codes "areas") rows ≡ false) × (is_given (codes "LINE") rows ≡ false)
     × Says seen_in (first_of (codes "subpool") rows) subpool
 IsReportAsked rows _ = ⊥
 
@@ -214,6 +218,10 @@ IsWrong rows (refusal.NoLine word) = ⊥
 IsWrong rows (refusal.Line word) = IsWrongWord (codes "LINE") line_in rows word.now
 IsWrong rows refusal.LineOverTime =
     (is_set (codes "over-time") rows ≡ true) × (is_given (codes "LINE") rows ≡ true)
+IsWrong rows refusal.LineOfAreas =
+    (is_set (codes "areas") rows ≡ true) × (is_given (codes "LINE") rows ≡ true)
+IsWrong rows refusal.AreasOverTime =
+    (is_set (codes "over-time") rows ≡ true) × (is_set (codes "areas") rows ≡ true)
 IsWrong rows refusal.SubpoolAtOnce =
     (is_set (codes "over-time") rows ≡ false) × (is_given (codes "subpool") rows ≡ true)
 IsWrong rows (refusal.Address word) =

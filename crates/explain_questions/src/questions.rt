@@ -74,6 +74,8 @@ pub enum Question<'a> {
     OverTime {
         subpool: Option<(u8, u8)>,
     },
+    /// What is taken at the end, and by which line.
+    Areas,
     /// Which lines changed this.
     Who(About),
     /// Which lines made the changes that are kept and undone.
@@ -433,17 +435,24 @@ fn report_asked<'a>(matches: &ArgMatches<'a>) -> Result<AskedOfScript<'a>, WordR
     let file = text_of(matches, "FILE");
     let line = line_asked(text_of(matches, "LINE"))?;
     let subpool = seen_asked(text_of(matches, "subpool"))?;
-    if !is_set(matches, "over-time") {
-        return if subpool.is_some() {
-            Err(WordRefusal::SubpoolAtOnce)
+    let areas = is_set(matches, "areas");
+    if is_set(matches, "over-time") {
+        if areas {
+            Err(WordRefusal::AreasOverTime)
+        } else if line.is_some() {
+            Err(WordRefusal::LineOverTime)
         } else {
-            Ok((Question::Report { line }, file))
-        };
+            Ok((Question::OverTime { subpool }, file))
+        }
+    } else if subpool.is_some() {
+        Err(WordRefusal::SubpoolAtOnce)
+    } else if !areas {
+        Ok((Question::Report { line }, file))
+    } else if line.is_some() {
+        Err(WordRefusal::LineOfAreas)
+    } else {
+        Ok((Question::Areas, file))
     }
-    if line.is_some() {
-        return Err(WordRefusal::LineOverTime);
-    }
-    Ok((Question::OverTime { subpool }, file))
 }
 
 /// How many things the words ask for that lines change.

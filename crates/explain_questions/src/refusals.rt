@@ -12,6 +12,10 @@ pub enum WordRefusal<'a> {
     Line(&'a str),
     /// `report --over-time` has the number of a line.
     LineOverTime,
+    /// `report --areas` has the number of a line.
+    LineOfAreas,
+    /// `report` has `--areas` and `--over-time`.
+    AreasOverTime,
     /// `report` has a subpool, and no `--over-time`.
     SubpoolAtOnce,
     /// It's no address.
@@ -71,6 +75,9 @@ impl<'a> WordRefusal<'a> {
     fn text(self) -> &'static str {
         match self {
             WordRefusal::LineOverTime => "--over-time goes over all lines, and takes no LINE",
+            WordRefusal::LineOfAreas => "--areas tells what is taken at the end, and takes no LINE",
+            WordRefusal::AreasOverTime =>
+                "--areas tells what is taken at the end, and --over-time what after each statement",
             WordRefusal::SubpoolAtOnce =>
                 "--subpool goes with --over-time: a report has each subpool",
             WordRefusal::NothingAsked =>

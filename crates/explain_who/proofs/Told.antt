@@ -20,7 +20,7 @@ use Rattle.explain_who.specs.Lined.{lined_all}
 use Rattle.explain_who.specs.Readings.{reading}
 use Rattle.explain_who.specs.Texts.{found_text, kept_text, log_text, lines_of, standing_text, state_text, statements_text}
 use Rattle.explain_who.specs.Told.{is_absent, missing, lacking, standing_entries, undone_entries, entry_lines, TellsFound, changes_of, who_text, lacking_of, NamesChanges, NamesStatements}
-use Rattle.explain_who.specs.Traced.{IsTraced}
+use Rattle.explain_who.specs.Traced.{IsTraced, reading_alone}
 use Rattle.explain_who.specs.Trails.{marks_of}
 use Rattle.explain_who.specs.Who.{Difference, differences_of}
 use Rattle.explain_who.specs.declared.faults.WhoFault.{WhoFault}
@@ -81,12 +81,11 @@ module _ (settings : Settings) (script : List ℕ) where
   stand_count : (asked : Option AskedOf) (t : Traced) (h : IsTraced settings script asked t) →
       length (standing_entries t) ≡ length (lined_all settings nothing_stands h.answers).stood
   stand_count asked t h =
-      let read = reading settings asked in
-      let step = statement_step settings in
+      let read = reading_alone settings asked in
       let l = lined_all settings nothing_stands h.answers in
       let old : List (ℕ × Act) = map (λ y. y.statement) (reverse l.stood) in
-      ap length (standing_marks first_named_state step read l (marks_of t.trail) h.follows)
-      ∙ seen_count first_named_state step read [] old
+      ap length (standing_marks read l (marks_of t.trail) h.follows)
+      ∙ seen_count read [] old
       ∙ length-map (reverse l.stood) (λ y. y.statement)
       ∙ length-reverse l.stood
 
@@ -147,20 +146,18 @@ module _ (settings : Settings) (script : List ℕ) where
 
     undone_is : entry_lines (undone_entries t) ≡ lines_of stands.undone
     undone_is =
-        let read = reading settings None in
-        let step = statement_step settings in
+        let read = reading_alone settings None in
         let old : List (ℕ × Act) = map (λ y. y.statement) (reverse stands.stood) in
-        ap entry_lines (undone_marks first_named_state step read stands (marks_of t.trail) h.follows)
-        ∙ seen_lines first_named_state step read (onto first_named_state step read [] old) (map (λ y. y.statement) stands.undone)
+        ap entry_lines (undone_marks read stands (marks_of t.trail) h.follows)
+        ∙ seen_lines read (onto read [] old) (map (λ y. y.statement) stands.undone)
         ∙ lines_in stands.undone
 
     standing_is : reverse (entry_lines (standing_entries t)) ≡ lines_of stands.stood
     standing_is =
-        let read = reading settings None in
-        let step = statement_step settings in
+        let read = reading_alone settings None in
         let old : List (ℕ × Act) = map (λ y. y.statement) (reverse stands.stood) in
-        ap (λ es. reverse (entry_lines es)) (standing_marks first_named_state step read stands (marks_of t.trail) h.follows)
-        ∙ ap reverse (seen_lines first_named_state step read [] old ∙ lines_in (reverse stands.stood) ∙ map_reverse (λ x. x.statement.0) stands.stood)
+        ap (λ es. reverse (entry_lines es)) (standing_marks read stands (marks_of t.trail) h.follows)
+        ∙ ap reverse (seen_lines read [] old ∙ lines_in (reverse stands.stood) ∙ map_reverse (λ x. x.statement.0) stands.stood)
         ∙ reverse-reverse (lines_of stands.stood)
 
     pub log_is : statements_text script (entry_lines (undone_entries t)) (reverse (entry_lines (standing_entries t))) t.kept ≡ log_text script stands

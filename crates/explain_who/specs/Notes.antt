@@ -6,11 +6,10 @@ use Rattle.script_steps.specs.Steps.{IsLineOf}
 use Rattle.script_steps.specs.declared.responses.Response.{Response}
 use Rattle.script_steps.specs.declared.responses.Response.TheVariants as response
 use Rattle.explain_who.specs.declared.faults.WhoFault.{WhoFault}
-use Rattle.explain_who.specs.declared.readings.Seen.{Seen}
 
 -- An accepted statement is noted with what is read behind it, and a step by how many changes are kept before it and
 -- behind it; nothing else is noted.
-abbrev pub with_told : Seen → ℕ → Option (ℕ × Response) → Marks Seen → Marks Seen
+abbrev pub with_told : {V : Type 0} → V → ℕ → Option (ℕ × Response) → Marks V → Marks V
 with_told seen before None t = t
 with_told seen before (Some (line, response.Replied reply)) t = with_mark t line seen
 with_told seen before (Some (line, response.Kept after)) t = stepped t before after

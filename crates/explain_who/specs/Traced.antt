@@ -5,7 +5,8 @@ use Rattle.explain_who.specs.Trails.{marks_of}
 use Rattle.explain_who.specs.declared.trail.Trail.{Trail}
 use Rattle.vsm_model.specs.declared.limits.Settings.{Settings}
 use Rattle.vsm_model.specs.Names.{first_named_state}
-use Rattle.vsm_model.specs.Standing.{nothing_stands}
+use Rattle.macro_statements.specs.Requests.{Act}
+use Rattle.vsm_model.specs.Standing.{alone, nothing_stands}
 use Rattle.bench_core.specs.Machine.{statement_step}
 use Rattle.script_steps.specs.Output.{Marked}
 use Rattle.script_steps.specs.Taken.{Took, Ended}
@@ -21,11 +22,15 @@ use Rattle.explain_who.specs.declared.readings.Subject.{Subject}
 use Rattle.explain_who.specs.declared.readings.Seen.{Seen}
 use Rattle.explain_who.specs.declared.tracing.Traced.{Traced}
 
+-- what is asked for, as it is after these statements alone, the newest first
+abbrev pub reading_alone : Settings → Option Subject → List Act → Seen
+reading_alone settings asked xs = reading settings asked (alone first_named_state (statement_step settings) xs)
+
 -- The trail has the statements that stand by the definition after these answers, and those that are undone, each with
 -- its line and what is read behind it.
 abbrev pub Follows : Settings → Option Subject → List Marked → Trail Seen → Type 0
 Follows settings asked answers trail =
-    marks.Follows first_named_state (statement_step settings) (reading settings asked)
+    marks.Follows (reading_alone settings asked)
     (lined_all settings nothing_stands answers) (marks_of trail)
 
 -- What a line brought is followed; or nothing was taken; or it can't be followed.

@@ -1,6 +1,6 @@
 -- The lines of statements that stand or are undone, with what was read behind each.
 use Rattle.std.specs.Prelude.{◌≡◌, ℕ, suc, ◌+◌, ◌-◌, ◌≤◌, min, List, [], ◌∷◌, ◌++◌, length, map, reverse, take}
-use Rattle.vsm_model.specs.Standing.{Outcome, Standing, alone}
+use Rattle.vsm_model.specs.Standing.{Standing}
 use Rattle.explain_who.specs.declared.trail.TrailEntry.{TrailEntry}
 use Rattle.explain_who.specs.declared.trail.Trail.{Trail}
 
@@ -33,16 +33,17 @@ module _ {X R : Type 0} where
   abbrev pub in_turn : Standing X R → List X
   in_turn l = map (λ x. x.statement) (reverse l.stood ++ l.undone)
 
-module _ {S X R C V : Type 0} (first : S) (step : S → X → Outcome S R C) (read : S → V) where
+module _ {X V : Type 0} (read : List X → V) where
   -- What is read behind each of these statements, where those stand before them, the newest first.
   abbrev pub seen_along : List X → List (ℕ × X) → List (TrailEntry V)
   seen_along older [] = []
   seen_along older (x ∷ xs) =
-      record { line = x.0; seen = read (alone first step (x.1 ∷ older)) } ∷ seen_along (x.1 ∷ older) xs
+      record { line = x.0; seen = read (x.1 ∷ older) } ∷ seen_along (x.1 ∷ older) xs
 
+module _ {X R V : Type 0} (read : List X → V) where
   -- The marks are those of the statements that stand and are undone: what was read behind a statement is what is read
-  -- behind it and those before it run alone.
+  -- behind it and those before it.
   pub record Follows (l : Standing (ℕ × X) R) (t : Marks V) : Type 0 where
-    pub entries : t.entries ≡ seen_along [] (in_turn l)
+    pub entries : t.entries ≡ seen_along read [] (in_turn l)
     pub standing : t.standing ≡ length l.stood
     pub kept : l.kept ≤ length l.stood

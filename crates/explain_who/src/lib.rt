@@ -17,4 +17,7 @@ pub use found::{NamedChange, changes};
 pub use holdings::{Holding, Runs};
 pub use output::{log, who};
 pub use readings::{Seen, Subject};
+pub use shown_lines::put_line;
+pub use texts::put_count;
 pub use tracing::{Traced, follow};
+pub use trail::{Trail, TrailEntry};

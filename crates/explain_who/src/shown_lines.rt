@@ -117,7 +117,7 @@ fn put_padded<W: Write>(gathered: &mut Gathered, writer: &mut W, text: &[u8])
 
 /// Puts the number of a line and the line, in a column; the lines of the script begin at these places.
 #[tactic(auto, using(text_output::proofs::Gathering::puts_both))]
-pub(crate) fn put_line<W: Write>(
+pub fn put_line<W: Write>(
     gathered: &mut Gathered,
     writer: &mut W,
     script: &[u8],

@@ -27,7 +27,7 @@ fn put_plural<W: Write>(gathered: &mut Gathered, writer: &mut W, n: u64)
 
 /// Puts a number, and after it what it counts: the word, and an `s` if there isn't one of it.
 #[tactic(auto, using(text_output::proofs::Gathering::puts_both))]
-pub(crate) fn put_count<W: Write>(gathered: &mut Gathered, writer: &mut W, n: u64, word: &[u8])
+pub fn put_count<W: Write>(gathered: &mut Gathered, writer: &mut W, n: u64, word: &[u8])
     ensures { Puts (W.contents writer.old) (W.contents writer.new) gathered.old gathered.new (counted n word.now) }
 {
     put_decimal(gathered, writer, n);

@@ -2,6 +2,7 @@
 use Rattle.std.specs.Prelude.{◌≡◌, ℕ, Bool, true, false, List, min, if◌then◌else◌, Option, Result, Ok, Err}
 use Rattle.std.specs.Prelude.{IfOk, ⊤}
 use Rattle.vsm_model.specs.declared.limits.Settings.{Settings}
+use Rattle.explain_areas.specs.Texts.{TellsAreas}
 use Rattle.explain_list.specs.Listing.{Shows}
 use Rattle.explain_list.specs.declared.checking.Shown.{Shown}
 use Rattle.explain_list.specs.declared.checking.Shown.TheVariants as shown
@@ -88,6 +89,9 @@ IsAnswered settings script (question.Report line) old new code =
 IsAnswered settings script (question.OverTime seen) old new code =
     (outcome : Result (Unit {0}) ReportFault) × ReportsOverTime settings script seen old new outcome
     × (code ≡ report_status outcome)
+IsAnswered settings script question.Areas old new code =
+    (outcome : Result (Unit {0}) WhoFault) × TellsAreas settings script old new outcome
+    × (code ≡ who_status outcome)
 IsAnswered settings script (question.Who it) old new code =
     (outcome : Result (Unit {0}) WhoFault) × NamesChanges settings script (subject_of it) old new outcome
     × (code ≡ who_status outcome)

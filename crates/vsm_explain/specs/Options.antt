@@ -41,7 +41,9 @@ why_form = record { name = codes "why"; rules = needed (codes "FILE") ∷ operan
 abbrev pub report_form : Form
 report_form = record {
   name = codes "report";
-  rules = flag (codes "over-time") ∷ valued (codes "subpool") ∷ operand (codes "FILE") ∷ operand (codes "LINE") ∷ [];
+  rules =
+      flag (codes "over-time") ∷ flag (codes "areas") ∷ valued (codes "subpool") ∷ operand (codes "FILE")
+      ∷ operand (codes "LINE") ∷ [];
 }
 
 abbrev pub who_form : Form

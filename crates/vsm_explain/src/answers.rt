@@ -8,6 +8,7 @@ ghost use Rattle.vsm_explain.specs.Status.{IsWordless, fault_status, status};
 
 use crate::faults::CommandFault;
 use crate::scripts::excess_of;
+use explain_areas::areas;
 use explain_list::{ListFault, Shown, list};
 use explain_questions::{About, Asking, Question, WordRefusal};
 use explain_report::{ReportFault, over_time, report};
@@ -229,6 +230,10 @@ pub(crate) fn answer<'a, W: Write, P: Watch>(
         Question::OverTime { subpool } => {
             let outcome = over_time(alloc, script, settings, subpool, out, watch);
             reported(script, None, outcome)
+        }
+        Question::Areas => {
+            let outcome = areas(alloc, script, settings, out, watch);
+            followed(script, outcome)
         }
         Question::Who(about) => {
             let outcome = who(alloc, script, settings, asked(about), out, watch);

@@ -80,6 +80,11 @@ static REPORT: CommandForm = CommandForm {
             help: "Print a row of CSV behind each statement",
         },
         WordRow {
+            name: "areas",
+            kind: WordKind::Flag,
+            help: "Print each area that is taken at the end, with the line that obtained it",
+        },
+        WordRow {
             name: "subpool",
             kind: WordKind::Valued("T,N"),
             help: "With --over-time: only of the subpool that task T, or with N alone task 1, sees at N",

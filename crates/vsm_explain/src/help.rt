@@ -49,6 +49,7 @@ pub(crate) const REPORT_AFTER: &str =
 and how fragmented the free storage is. For each side of the 16 MB line: unassigned pages, their runs, the longest.
 
 Example: 'vsm-explain report example.vsm 40' shows what was left behind the statement of line 40;
+'vsm-explain report --areas example.vsm' names each area that is taken at the end, and the line that obtained it;
 'vsm-explain report --over-time example.vsm > rows.csv' makes a row of CSV for each statement.
 ";
 

@@ -1,0 +1,4 @@
+pub mod Since
+pub mod Takings
+pub mod Followed
+pub mod Texts

@@ -1,0 +1,3 @@
+pub mod SingleRun
+pub mod Grown
+pub mod ByReply
