@@ -16,8 +16,8 @@ use Rattle.script_steps.specs.Output.{alone_now}
 use Rattle.script_steps.proofs.Standings.{stands_for}
 use Rattle.line_areas.specs.Ahead.{AreLinesOf}
 use Rattle.line_areas.specs.Areas.{areas_of}
-use Rattle.line_areas.specs.declared.parts.Area.{Area}
-use Rattle.line_areas.specs.declared.taken.Taken.{Taken}
+use Rattle.line_areas.specs.declared.parts.LineArea.{LineArea}
+use Rattle.line_areas.specs.declared.taken.Taking.{Taking}
 use Rattle.explain_who.specs.Lined.{lined_all}
 use Rattle.explain_who.specs.Trails.{marks_of}
 use Rattle.explain_who.specs.declared.trail.TrailEntry.{TrailEntry}
@@ -47,7 +47,7 @@ module _ (settings : Settings) (script : List ℕ) (f : Followed) (h : IsFollowe
       ((stands_for settings h.answers (bench_of f.bench) h.led).present ∙ ap (alone_now settings) (sym (lines_are_of_statements settings h.answers))
       ∙ alone_is settings (lined_all settings nothing_stands h.answers) ∙ sym (ap (alone_after settings) (acts_are settings stood)))
 
-  pub left_areas : (s : Storage) (takings : List Taken) (areas : List Area) (shown : List Taken) (entries : List (TrailEntry (ArrayVec (ℕ × ℕ)))) → state_of s ≡ (bench_of f.bench).present.storage →
+  pub left_areas : (s : Storage) (takings : List Taking) (areas : List LineArea) (shown : List Taking) (entries : List (TrailEntry (ArrayVec (ℕ × ℕ)))) → state_of s ≡ (bench_of f.bench).present.storage →
       entries ≡ take (marks_of f.trail).standing (marks_of f.trail).entries → takings ≡ takings_of entries → shown ≡ takings →
       ((g : Subpool → ℕ → Option ℕ) → ((p : Subpool) → AreLinesOf shown s p (g p)) → areas ≡ flat_map (λ p. areas_of p (g p)) (subpools_in_order (state_in_place s).subpools)) →
       areas ≡ taken_areas settings (standing settings h.answers)

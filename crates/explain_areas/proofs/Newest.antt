@@ -13,7 +13,7 @@ use Rattle.vsm_model.specs.Standing.{Stood}
 use Rattle.vsm_model.specs.State.{State}
 use Rattle.newly_taken.specs.Newly.{is_newly, newly_between}
 use Rattle.line_areas.specs.Taken.{has, line_at}
-use Rattle.line_areas.specs.declared.taken.Taken.{Taken}
+use Rattle.line_areas.specs.declared.taken.Taking.{Taking}
 use Rattle.explain_who.specs.Trails.{seen_along}
 use Rattle.explain_who.specs.declared.trail.TrailEntry.{TrailEntry}
 use Rattle.explain_who.proofs.Moves.{onto, onto_turned, seen_both, turned}
@@ -89,7 +89,7 @@ newly_has s t d low = runs_have (is_newly s t) 0 (2 ^ 28) d ∙ ap (λ b. b && i
 -- ---- takings
 
 -- takings of one statement, before those of others
-found : (line d : ℕ) → d < 2 ^ 28 → (rs : List (ℕ × ℕ)) (others : List Taken) →
+found : (line d : ℕ) → d < 2 ^ 28 → (rs : List (ℕ × ℕ)) (others : List Taking) →
     line_at (map (taking line) rs ++ others) d ≡ (if is_in d rs then Some line else line_at others d)
 found line d low [] others = refl
 found line d low (r ∷ rs) others =
@@ -121,7 +121,7 @@ module _ (settings : Settings) where
       ∙ ap (λ older_acts. record { line = x.statement.0; seen = read (x.statement.1 ∷ older_acts) } ∷ reverse (seen_along read [] (map (λ y. y.statement) (reverse older)))) (onto_turned read older)
       ∙ ap (λ es. record { line = x.statement.0; seen = read (x.statement.1 ∷ map (λ y. y.statement.1) older) } ∷ es) (newest_first older)
 
-  abbrev pub all_taken : List (Stood (ℕ × Act) Reply) → List Taken
+  abbrev pub all_taken : List (Stood (ℕ × Act) Reply) → List Taking
   all_taken stood = flat_map (λ e. map (taking e.line) e.seen.items) (noted_of stood)
 
   abbrev pub lined : List (Stood (ℕ × Act) Reply) → List (ℕ × Act)

@@ -9,7 +9,7 @@ use Rattle.vsm_model.specs.Map.{total_bytes}
 use Rattle.bench_core.specs.Stands.{bench_of, settings_in}
 use Rattle.storage_core.specs.declared.storage.Storage.{Storage}
 use Rattle.storage_core.specs.Meaning.{state_of, settings_of}
-use Rattle.line_areas.specs.declared.parts.Area.{Area}
+use Rattle.line_areas.specs.declared.parts.LineArea.{LineArea}
 use Rattle.explain_areas.specs.Followed.{IsFollowedBy}
 use Rattle.explain_areas.specs.Since.{taken_areas}
 use Rattle.explain_areas.specs.Texts.{TellsAreas, areas_text, left_text, standing}
@@ -28,7 +28,7 @@ areas_untold settings script old (fault.NoName name) h = absurd h
 areas_untold settings script old fault.Write h = absurd h
 
 -- The text of the areas that a script left.
-pub text_is : (settings : Settings) (script : List ℕ) (f : Followed) (h : IsFollowedBy settings script f) (s : Storage) (areas shown : List Area) (bytes : ℕ) →
+pub text_is : (settings : Settings) (script : List ℕ) (f : Followed) (h : IsFollowedBy settings script f) (s : Storage) (areas shown : List LineArea) (bytes : ℕ) →
     state_of s ≡ (bench_of f.bench).present.storage → settings_of s ≡ settings_in f.bench → areas ≡ taken_areas settings (standing settings h.answers) → shown ≡ areas →
     bytes ≡ total_bytes (settings_of s) (state_of s) true → areas_text script shown bytes ≡ left_text settings script h.answers
 text_is settings script f h s areas shown bytes state under are same sum =

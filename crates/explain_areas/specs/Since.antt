@@ -11,7 +11,7 @@ use Rattle.vsm_model.specs.State.{State}
 use Rattle.vsm_model.specs.Subpools.{same_subpool}
 use Rattle.bench_core.specs.Machine.{statement_step}
 use Rattle.line_areas.specs.Areas.{areas_of}
-use Rattle.line_areas.specs.declared.parts.Area.{Area}
+use Rattle.line_areas.specs.declared.parts.LineArea.{LineArea}
 
 -- statements without their lines
 abbrev pub acts : List (ℕ × Act) → List Act
@@ -43,7 +43,7 @@ module _ (settings : Settings) where
       if holds (same_subpool p) ((storage_after (acts xs)).pages (d / 512)) then taken_since xs d else None
 
   -- All areas that are taken after these statements: those of each subpool, by its number and its owner.
-  abbrev pub taken_areas : List (ℕ × Act) → List Area
+  abbrev pub taken_areas : List (ℕ × Act) → List LineArea
   taken_areas xs =
       flat_map
       (λ number. flat_map

@@ -4,7 +4,7 @@ use Rattle.arrayvec.specs.ArrayVec.{ArrayVec}
 use Rattle.macro_statements.specs.Requests.{Act}
 use Rattle.vsm_model.specs.declared.limits.Settings.{Settings}
 use Rattle.explain_who.specs.declared.trail.TrailEntry.{TrailEntry}
-use Rattle.line_areas.specs.declared.taken.Taken.{Taken}
+use Rattle.line_areas.specs.declared.taken.Taking.{Taking}
 use Rattle.newly_taken.specs.Newly.{newly_between}
 use Rattle.explain_areas.specs.Since.{storage_after}
 
@@ -15,9 +15,9 @@ newly_after settings (x ∷ older) =
     record { items = newly_between (storage_after settings older) (storage_after settings (x ∷ older)) }
 
 -- a run that the statement of a line took
-abbrev pub taking : ℕ → ℕ × ℕ → Taken
+abbrev pub taking : ℕ → ℕ × ℕ → Taking
 taking line run = record { start = run.0; end = min (run.0 + run.1) 4294967295; line = line }
 
 -- what statements took, which come with the oldest first: the newest first
-abbrev pub takings_of : List (TrailEntry (ArrayVec (ℕ × ℕ))) → List Taken
+abbrev pub takings_of : List (TrailEntry (ArrayVec (ℕ × ℕ))) → List Taking
 takings_of entries = flat_map (λ e. map (taking e.line) e.seen.items) (reverse entries)

@@ -16,12 +16,12 @@ use Rattle.explain_who.specs.Texts.{counted, line_text}
 use Rattle.taken_places.specs.Texts.{subpool_text}
 use Rattle.explain_who.specs.declared.faults.WhoFault.{WhoFault}
 use Rattle.explain_who.specs.declared.faults.WhoFault.TheVariants as fault
-use Rattle.line_areas.specs.declared.parts.Area.{Area}
+use Rattle.line_areas.specs.declared.parts.LineArea.{LineArea}
 use Rattle.explain_areas.specs.Since.{acts, storage_after, taken_areas}
 use Rattle.macro_statements.specs.Requests.{Act}
 
 -- the address of an area
-abbrev pub shown_address : Area → ℕ
+abbrev pub shown_address : LineArea → ℕ
 shown_address a = min (8 * a.start) 4294967295
 
 -- so many bytes at an address, of a subpool
@@ -30,14 +30,14 @@ place_text bytes address p =
     decimal bytes ++ codes " bytes at " ++ hexadecimal 8 address ++ codes ", " ++ subpool_text p
 
 -- the line of an area: its statement's, with its bytes, its address and its subpool
-abbrev pub area_text : List ℕ → Area → List ℕ
+abbrev pub area_text : List ℕ → LineArea → List ℕ
 area_text script a = line (line_text script a.line ++ place_text (8 * a.count) (shown_address a) a.subpool)
 
 -- how many areas there are, and how many bytes are taken
 abbrev pub sum_text : ℕ → ℕ → List ℕ
 sum_text areas bytes = counted areas (codes "area") ++ codes ", " ++ decimal bytes ++ line (codes " bytes taken")
 
-abbrev pub areas_text : List ℕ → List Area → ℕ → List ℕ
+abbrev pub areas_text : List ℕ → List LineArea → ℕ → List ℕ
 areas_text script areas bytes = flat_map (area_text script) areas ++ sum_text (length areas) bytes
 
 -- the statements that stand after these answers, each with its line, the newest first

@@ -11,7 +11,7 @@ ghost use Rattle.explain_areas.specs.Texts.{sum_text};
 use crate::takings::takings;
 use crate::tracing::{Followed, follow};
 use explain_who::{WhoFault, put_count, put_line};
-use line_areas::{Area, areas_of};
+use line_areas::{LineArea, areas_of};
 use script_steps::Watch;
 use std::alloc::{AllocError, Global};
 use std::io::Write;
@@ -21,14 +21,14 @@ use text_output::{Gathered, put_decimal, put_hexadecimal};
 use vsm_model::{Settings, Subpool};
 
 /// The bytes of an area.
-fn bytes_of(area: &Area) -> u64
+fn bytes_of(area: &LineArea) -> u64
     ensures { result ≡ 8 * area.now.count }
 {
     8 * u64::from(area.count)
 }
 
 /// The address of an area.
-fn shown_address(area: &Area) -> u32
+fn shown_address(area: &LineArea) -> u32
     ensures { result ≡ shown_address area.now }
 {
     area.start.saturating_mul(8)
@@ -59,7 +59,7 @@ fn put_area<W: Write>(
     writer: &mut W,
     script: &[u8],
     starts: &[usize],
-    area: &Area,
+    area: &LineArea,
 )
     requires { LinesBegin script.now script.now starts.now [] }
     ensures { Puts (W.contents writer.old) (W.contents writer.new) gathered.old gathered.new
@@ -78,7 +78,7 @@ fn put_areas<W: Write>(
     writer: &mut W,
     script: &[u8],
     starts: &[usize],
-    areas: &[Area],
+    areas: &[LineArea],
 )
     requires { LinesBegin script.now script.now starts.now [] }
     ensures { Puts (W.contents writer.old) (W.contents writer.new) gathered.old gathered.new
@@ -108,7 +108,7 @@ fn put_all<W: Write>(
     writer: &mut W,
     script: &[u8],
     starts: &[usize],
-    areas: &[Area],
+    areas: &[LineArea],
     bytes: u64,
 )
     requires { LinesBegin script.now script.now starts.now [] }
@@ -120,7 +120,7 @@ fn put_all<W: Write>(
 }
 
 /// What a script that was followed left taken.
-fn left(alloc: Global, followed: &Followed) -> Result<Vec<Area>, AllocError>
+fn left(alloc: Global, followed: &Followed) -> Result<Vec<LineArea>, AllocError>
     ensures { (settings : SettingsIn) (script : List ℕ) (h : IsFollowedBy settings script followed.now)
         → IfOk result (λ areas. areas.items ≡ taken_areas settings (standing settings h.answers)) }
 {

@@ -3,16 +3,16 @@ ghost use Rattle.std.specs.Prelude.{◌≡◌, ◌++◌, IfOk, OnOk, map};
 ghost use Rattle.explain_areas.specs.Takings.{taking, takings_of};
 
 use explain_who::TrailEntry;
-use line_areas::Taken;
+use line_areas::Taking;
 use newly_taken::Newly;
 use std::alloc::{AllocError, Global};
 
 /// Adds runs that the statement of a line took.
-fn add_runs(takings: &mut Vec<Taken>, line: u32, runs: &[(u32, u32)]) -> Result<(), AllocError>
+fn add_runs(takings: &mut Vec<Taking>, line: u32, runs: &[(u32, u32)]) -> Result<(), AllocError>
     ensures { OnOk result (takings.new.items ≡ takings.old.items ++ map (taking line) runs.now) }
 {
     for run in runs {
-        takings.push(Taken {
+        takings.push(Taking {
             start: run.0,
             end: run.0.saturating_add(run.1),
             line,
@@ -25,7 +25,7 @@ fn add_runs(takings: &mut Vec<Taken>, line: u32, runs: &[(u32, u32)]) -> Result<
 pub(crate) fn takings(
     alloc: Global,
     entries: &[TrailEntry<Newly>],
-) -> Result<Vec<Taken>, AllocError>
+) -> Result<Vec<Taking>, AllocError>
     ensures { IfOk result (λ takings. takings.items ≡ takings_of entries.now) }
 {
     let mut takings = Vec::new(alloc);

@@ -12,7 +12,7 @@ use Rattle.storage_core.specs.declared.storage.Storage.{Storage}
 use Rattle.storage_core.specs.Meaning.{state_in_place, settings_of}
 use Rattle.line_areas.specs.Ahead.{IsNext}
 use Rattle.line_areas.specs.Areas.{areas_to}
-use Rattle.line_areas.specs.declared.parts.Area.{Area}
+use Rattle.line_areas.specs.declared.parts.LineArea.{LineArea}
 use Rattle.line_areas.proofs.Joining.{none_on}
 
 pub is_false : (b : Bool) → (b ≡ true → ⊥) → b ≡ false
@@ -45,7 +45,7 @@ module _ (s : Storage) (p : Subpool) where
       (λ d high. is_false ((state_in_place s).subpools.free p d) (λ own. let low = page_low (d / 512) (free_in_page d own) in omega (arith, low, high)))
 
 -- Areas stay the same where no doubleword has a line.
-pub same_to : (p : Subpool) (f : ℕ → Option ℕ) (others : List Area) (low high : ℕ) → low ≤ high → ((d : ℕ) → low ≤ d → d < high → f d ≡ None) →
+pub same_to : (p : Subpool) (f : ℕ → Option ℕ) (others : List LineArea) (low high : ℕ) → low ≤ high → ((d : ℕ) → low ≤ d → d < high → f d ≡ None) →
     areas_to p f high others ≡ areas_to p f low others
 same_to p f others low high on none =
     let e : high ≡ low + (high - low) = omega (arith, on) in

@@ -9,7 +9,7 @@ use Rattle.storage_core.specs.declared.walks.FreeAreaPlace.{FreeAreaPlace}
 use Rattle.storage_core.specs.Meaning.{state_in_place}
 use Rattle.storage_core.specs.Walks.{IsExtentPlace, IsFreeAreaPlace}
 use Rattle.line_areas.specs.Taken.{line_at}
-use Rattle.line_areas.specs.declared.taken.Taken.{Taken}
+use Rattle.line_areas.specs.declared.taken.Taking.{Taking}
 
 -- From a number on the set has just these runs, none of which begins before it.
 pub record IsAhead (set : ℕ → Bool) (rs : List Run) (low : ℕ) : Type 0 where
@@ -37,7 +37,7 @@ IsExtentFrom s p place k =
 
 -- Each taken doubleword of a subpool has the line of the first of these takings that has it, and no other doubleword
 -- has a line.
-pub record AreLinesOf (takings : List Taken) (s : Storage) (p : Subpool) (line_of : ℕ → Option ℕ) : Type 0 where
+pub record AreLinesOf (takings : List Taking) (s : Storage) (p : Subpool) (line_of : ℕ → Option ℕ) : Type 0 where
   pub elsewhere : (d : ℕ) → (state_in_place s).subpools.pages p (d / 512) ≡ false → line_of d ≡ None
   pub free : (d : ℕ) → (state_in_place s).subpools.free p d ≡ true → line_of d ≡ None
   pub taken :

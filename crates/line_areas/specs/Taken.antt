@@ -1,11 +1,11 @@
 -- Which of some takings has a doubleword.
 use Rattle.std.specs.Prelude.{ℕ, Bool, ◌&&◌, nat_le, nat_lt, if◌then◌else◌, Option, Some, None, List, [], ◌∷◌}
-use Rattle.line_areas.specs.declared.taken.Taken.{Taken}
+use Rattle.line_areas.specs.declared.taken.Taking.{Taking}
 
-abbrev pub has : Taken → ℕ → Bool
+abbrev pub has : Taking → ℕ → Bool
 has x d = nat_le x.start d && nat_lt d x.end
 
 -- the line of the first of these takings that has it
-abbrev pub line_at : List Taken → ℕ → Option ℕ
+abbrev pub line_at : List Taking → ℕ → Option ℕ
 line_at [] d = None
 line_at (x ∷ xs) d = if has x d then Some x.line else line_at xs d

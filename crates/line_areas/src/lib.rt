@@ -5,6 +5,6 @@ mod parts;
 mod taken;
 mod walks;
 
-pub use parts::{Area, add_taken};
-pub use taken::Taken;
+pub use parts::{LineArea, add_taken};
+pub use taken::Taking;
 pub use walks::areas_of;

@@ -2,15 +2,15 @@
 ghost use Rattle.std.specs.Prelude.{◌≡◌, ◌+◌, ◌^◌, ◌<◌, ◌≤◌, ℕ, List, Option, OnOk, reverse};
 ghost use Rattle.line_areas.specs.Areas.{areas_to, goes_on, joined};
 ghost use Rattle.line_areas.specs.Taken.{line_at};
-ghost use Rattle.line_areas.specs.declared.parts.Area.{Area as AreaIn};
+ghost use Rattle.line_areas.specs.declared.parts.LineArea.{LineArea as AreaIn};
 
-use crate::taken::{Taken, first_with};
+use crate::taken::{Taking, first_with};
 use std::alloc::AllocError;
 use vsm_model::Subpool;
 
 /// Doublewords of a subpool, one after the other, that the statement of one line took.
 #[derive(Clone, Copy)]
-pub struct Area {
+pub struct LineArea {
     pub subpool: Subpool,
     pub start: u32,
     pub count: u32,
@@ -18,7 +18,7 @@ pub struct Area {
 }
 
 /// Whether an area goes on where another one ends.
-fn goes_on(last: &Area, next: &Area) -> bool
+fn goes_on(last: &LineArea, next: &LineArea) -> bool
     ensures { result ≡ goes_on last.now next.now }
 {
     last.subpool.number == next.subpool.number
@@ -28,7 +28,7 @@ fn goes_on(last: &Area, next: &Area) -> bool
 }
 
 /// Adds an area after the last, or to it where it goes on.
-fn add(areas: &mut Vec<Area>, next: Area) -> Result<(), AllocError>
+fn add(areas: &mut Vec<LineArea>, next: LineArea) -> Result<(), AllocError>
     requires { next.start + next.count < 2 ^ 32 }
     ensures { OnOk result (reverse areas.new.items ≡ joined next (reverse areas.old.items)) }
 {
@@ -44,7 +44,7 @@ fn add(areas: &mut Vec<Area>, next: Area) -> Result<(), AllocError>
 
 /// Adds a part of a subpool, from the first doubleword up to an end, that the statement of this line took, if one did.
 fn add_part(
-    areas: &mut Vec<Area>,
+    areas: &mut Vec<LineArea>,
     subpool: Subpool,
     line: Option<u32>,
     first: u32,
@@ -59,7 +59,7 @@ fn add_part(
     match line {
         Some(line) => add(
             areas,
-            Area {
+            LineArea {
                 subpool,
                 start: first,
                 count: end - first,
@@ -73,8 +73,8 @@ fn add_part(
 /// Adds doublewords of a subpool from the first up to an end, each with the line of the first of these takings that has
 /// it.
 pub fn add_taken(
-    areas: &mut Vec<Area>,
-    takings: &[Taken],
+    areas: &mut Vec<LineArea>,
+    takings: &[Taking],
     subpool: Subpool,
     first: u32,
     end: u32,

@@ -6,10 +6,10 @@ ghost use Rattle.subpool_storage.specs.Order.{subpools_in_order};
 ghost use Rattle.storage_core.specs.Meaning.{state_in_place};
 ghost use Rattle.line_areas.specs.Areas.{areas_of, areas_to};
 ghost use Rattle.line_areas.specs.Ahead.{IsFreeFrom, IsNext, AreLinesOf};
-ghost use Rattle.line_areas.specs.declared.parts.Area.{Area as AreaIn};
+ghost use Rattle.line_areas.specs.declared.parts.LineArea.{LineArea as AreaIn};
 
-use crate::parts::{Area, add_taken};
-use crate::taken::Taken;
+use crate::parts::{LineArea, add_taken};
+use crate::taken::Taking;
 use std::alloc::{AllocError, Global};
 use storage_core::{Area as FreeArea, FreeAreaPlace, Run, Storage, Subpool};
 
@@ -47,8 +47,8 @@ fn next_before(
 /// Adds what is taken of an extent of a subpool, whose free areas from the extent on come after a place; gives the
 /// place after the last of them in the extent.
 fn add_extent(
-    areas: &mut Vec<Area>,
-    takings: &[Taken],
+    areas: &mut Vec<LineArea>,
+    takings: &[Taking],
     storage: &Storage,
     subpool: Subpool,
     extent: Run,
@@ -81,10 +81,10 @@ fn add_extent(
 /// What is taken of a subpool.
 fn areas_in(
     alloc: Global,
-    takings: &[Taken],
+    takings: &[Taking],
     storage: &Storage,
     subpool: Subpool,
-) -> Result<Vec<Area>, AllocError>
+) -> Result<Vec<LineArea>, AllocError>
     ensures { IfOk result (λ areas. (f : ℕ → Option ℕ) → AreLinesOf takings.now storage.now subpool f
         → areas.items ≡ areas_of subpool f) }
 {
@@ -100,9 +100,9 @@ fn areas_in(
 
 /// Adds what is taken of a subpool.
 fn add_subpool(
-    areas: &mut Vec<Area>,
+    areas: &mut Vec<LineArea>,
     alloc: Global,
-    takings: &[Taken],
+    takings: &[Taking],
     storage: &Storage,
     subpool: Subpool,
 ) -> Result<(), AllocError>
@@ -120,8 +120,8 @@ fn add_subpool(
 pub fn areas_of(
     alloc: Global,
     storage: &Storage,
-    takings: &[Taken],
-) -> Result<Vec<Area>, AllocError>
+    takings: &[Taking],
+) -> Result<Vec<LineArea>, AllocError>
     ensures { IfOk result (λ areas. (f : Named → ℕ → Option ℕ)
         → ((p : Named) → AreLinesOf takings.now storage.now p (f p))
         → areas.items ≡ flat_map (λ p. areas_of p (f p))

@@ -9,7 +9,7 @@ use operand_texts::words::is_word;
 pub type Keyword = (&'static [u8], Kind);
 
 /// What can be written after an operation that has one of these forms.
-pub struct Form {
+pub struct MacroForm {
     pub operation: &'static [u8],
     /// What the first operand is. None where the operation has no forms.
     pub words: &'static [&'static [u8]],
@@ -39,8 +39,8 @@ static WITH_THESE: [&[u8]; 6] = [
 ];
 
 /// The forms, in the order of docs/STATEMENTS.md.
-static FORMS: [Form; 21] = [
-    Form {
+static FORMS: [MacroForm; 21] = [
+    MacroForm {
         operation: b"STORAGE",
         words: &[b"OBTAIN"],
         positions: &[],
@@ -55,7 +55,7 @@ static FORMS: [Form; 21] = [
         required: &[b"LENGTH"],
         instead: None,
     },
-    Form {
+    MacroForm {
         operation: b"STORAGE",
         words: &[b"RELEASE"],
         positions: &[],
@@ -68,7 +68,7 @@ static FORMS: [Form; 21] = [
         required: &[b"LENGTH", b"ADDR"],
         instead: Some(b"SP"),
     },
-    Form {
+    MacroForm {
         operation: b"GETMAIN",
         words: &[b"R"],
         positions: &[],
@@ -76,7 +76,7 @@ static FORMS: [Form; 21] = [
         required: &[b"LV"],
         instead: None,
     },
-    Form {
+    MacroForm {
         operation: b"GETMAIN",
         words: &[b"RC", b"RU"],
         positions: &[],
@@ -89,7 +89,7 @@ static FORMS: [Form; 21] = [
         required: &[b"LV"],
         instead: None,
     },
-    Form {
+    MacroForm {
         operation: b"GETMAIN",
         words: &[b"VRC", b"VRU"],
         positions: &[],
@@ -102,7 +102,7 @@ static FORMS: [Form; 21] = [
         required: &[b"LV"],
         instead: None,
     },
-    Form {
+    MacroForm {
         operation: b"GETMAIN",
         words: &[b"EC", b"EU"],
         positions: &[],
@@ -115,7 +115,7 @@ static FORMS: [Form; 21] = [
         required: &[b"LV", b"A"],
         instead: None,
     },
-    Form {
+    MacroForm {
         operation: b"FREEMAIN",
         words: &[b"R", b"RC", b"RU"],
         positions: &[],
@@ -127,7 +127,7 @@ static FORMS: [Form; 21] = [
         required: &[b"LV", b"A"],
         instead: Some(b"SP"),
     },
-    Form {
+    MacroForm {
         operation: b"FREEMAIN",
         words: &[b"E", b"EC", b"EU"],
         positions: &[],
@@ -139,7 +139,7 @@ static FORMS: [Form; 21] = [
         required: &[b"LV", b"A"],
         instead: None,
     },
-    Form {
+    MacroForm {
         operation: b"CPOOL",
         words: &[b"BUILD"],
         positions: &[],
@@ -155,7 +155,7 @@ static FORMS: [Form; 21] = [
         required: &[b"PCELLCT", b"CSIZE", b"CPID"],
         instead: None,
     },
-    Form {
+    MacroForm {
         operation: b"CPOOL",
         words: &[b"GET"],
         positions: &[(b"a condition", Kind::ConditionWord)],
@@ -163,7 +163,7 @@ static FORMS: [Form; 21] = [
         required: &[b"CPID"],
         instead: None,
     },
-    Form {
+    MacroForm {
         operation: b"CPOOL",
         words: &[b"FREE"],
         positions: &[],
@@ -171,7 +171,7 @@ static FORMS: [Form; 21] = [
         required: &[b"CPID", b"CELL"],
         instead: None,
     },
-    Form {
+    MacroForm {
         operation: b"CPOOL",
         words: &[b"DELETE"],
         positions: &[],
@@ -179,7 +179,7 @@ static FORMS: [Form; 21] = [
         required: &[b"CPID"],
         instead: None,
     },
-    Form {
+    MacroForm {
         operation: b"ATTACH",
         words: &[],
         positions: &[],
@@ -194,7 +194,7 @@ static FORMS: [Form; 21] = [
         required: &[],
         instead: None,
     },
-    Form {
+    MacroForm {
         operation: b"DETACH",
         words: &[],
         positions: &[(b"the task's number", Kind::Value)],
@@ -202,7 +202,7 @@ static FORMS: [Form; 21] = [
         required: &[],
         instead: None,
     },
-    Form {
+    MacroForm {
         operation: b"RUN",
         words: &[],
         positions: &[(b"the task's number", Kind::Value)],
@@ -210,7 +210,7 @@ static FORMS: [Form; 21] = [
         required: &[],
         instead: None,
     },
-    Form {
+    MacroForm {
         operation: b"ENDTASK",
         words: &[],
         positions: &[],
@@ -218,7 +218,7 @@ static FORMS: [Form; 21] = [
         required: &[],
         instead: None,
     },
-    Form {
+    MacroForm {
         operation: b"POKE",
         words: &[],
         positions: &[(b"the address", Kind::Value), (b"the bytes", Kind::Content)],
@@ -226,7 +226,7 @@ static FORMS: [Form; 21] = [
         required: &[],
         instead: None,
     },
-    Form {
+    MacroForm {
         operation: b"PEEK",
         words: &[],
         positions: &[
@@ -237,7 +237,7 @@ static FORMS: [Form; 21] = [
         required: &[],
         instead: None,
     },
-    Form {
+    MacroForm {
         operation: b"MAP",
         words: &[],
         positions: &[],
@@ -245,7 +245,7 @@ static FORMS: [Form; 21] = [
         required: &[],
         instead: None,
     },
-    Form {
+    MacroForm {
         operation: b"BACK",
         words: &[],
         positions: &[(b"how many changes", Kind::Count)],
@@ -253,7 +253,7 @@ static FORMS: [Form; 21] = [
         required: &[],
         instead: None,
     },
-    Form {
+    MacroForm {
         operation: b"FORWARD",
         words: &[],
         positions: &[(b"how many changes", Kind::Count)],
@@ -264,7 +264,7 @@ static FORMS: [Form; 21] = [
 ];
 
 /// The forms. Nothing is said of them, so that who looks through them doesn't carry the table.
-pub fn forms() -> &'static [Form] {
+pub fn forms() -> &'static [MacroForm] {
     FORMS.as_slice()
 }
 
@@ -315,7 +315,7 @@ pub fn has_forms(operation: &[u8]) -> bool {
 }
 
 /// What can be written after an operation whose first operand is this text.
-pub fn form_of(operation: &[u8], first: &[u8]) -> Option<&'static Form>
+pub fn form_of(operation: &[u8], first: &[u8]) -> Option<&'static MacroForm>
     ensures { IfSome result (λ form. is_word operation.now form.now.operation.now ≡ true) }
 {
     for form in forms() {
@@ -338,7 +338,7 @@ pub fn everywhere(operation: &[u8]) -> &'static [Keyword] {
 }
 
 /// The keyword of a form that a text is, with its kind.
-pub fn keyword_of(form: &Form, text: &[u8]) -> Option<Keyword>
+pub fn keyword_of(form: &MacroForm, text: &[u8]) -> Option<Keyword>
     ensures { IfSome result (λ found. is_word text.now found.0.now ≡ true) }
 {
     match listed(text, form.keywords) {
@@ -362,7 +362,7 @@ pub fn keyword_in(operation: &[u8], text: &[u8]) -> Option<&'static [u8]>
 }
 
 /// The kind of an operand of a form: by its keyword, or if it has none by whether it's the first.
-pub fn kind_of(form: &Form, keyword: &[u8], is_first: bool) -> Option<Kind> {
+pub fn kind_of(form: &MacroForm, keyword: &[u8], is_first: bool) -> Option<Kind> {
     if let Some((_, kind)) = keyword_of(form, keyword) {
         return Some(kind);
     }

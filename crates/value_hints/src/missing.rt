@@ -1,6 +1,6 @@
 //! Which operand is missing.
 
-use crate::forms::Form;
+use crate::forms::MacroForm;
 use crate::operands::before;
 use crate::values::expected;
 use listed_text::Words;
@@ -24,7 +24,7 @@ fn has_keyword(field: &[u8], keyword: &[u8]) -> bool {
 }
 
 /// Appends the required keywords that a field hasn't; whether it has none of them.
-fn add_keywords(words: &mut Words, form: &Form, field: &[u8]) -> bool {
+fn add_keywords(words: &mut Words, form: &MacroForm, field: &[u8]) -> bool {
     let mut has_none = true;
     let mut between: &[u8] = b"";
     for keyword in form.required {
@@ -40,7 +40,7 @@ fn add_keywords(words: &mut Words, form: &Form, field: &[u8]) -> bool {
 }
 
 /// Appends the operand without a keyword that isn't there.
-fn add_position(words: &mut Words, form: &Form, field: &[u8]) {
+fn add_position(words: &mut Words, form: &MacroForm, field: &[u8]) {
     let place = if field.is_empty() || form.positions.len() < 2 {
         0
     } else {
@@ -55,7 +55,7 @@ fn add_position(words: &mut Words, form: &Form, field: &[u8]) {
 }
 
 /// Appends what a form requires and a field hasn't.
-pub fn add_required(words: &mut Words, form: &Form, field: &[u8]) {
+pub fn add_required(words: &mut Words, form: &MacroForm, field: &[u8]) {
     words.add(b": ");
     if form.required.is_empty() {
         add_position(words, form, field);

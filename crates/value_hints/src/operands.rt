@@ -1,6 +1,6 @@
 //! What is told of an operand that is wrong.
 
-use crate::forms::{Form, forms, has_forms, keyword_in, kind_of};
+use crate::forms::{MacroForm, forms, has_forms, keyword_in, kind_of};
 use crate::guesses::{form_like, keyword_like};
 use crate::values::{expected, slip_in};
 use listed_text::Words;
@@ -120,7 +120,7 @@ pub fn add_no_form(words: &mut Words, operation: &'static [u8], key: &[u8]) {
 }
 
 /// Appends that an operand of this field is none of a form's, and which one was meant.
-pub fn add_no_operand(words: &mut Words, form: &Form, field: &[u8], operand: &[u8]) {
+pub fn add_no_operand(words: &mut Words, form: &MacroForm, field: &[u8], operand: &[u8]) {
     let key = before(operand, b'=');
     if let Some(word) = keyword_in(form.operation, key) {
         add_refused(words, form.operation, field, word, has(operand, b'='));
@@ -132,7 +132,7 @@ pub fn add_no_operand(words: &mut Words, form: &Form, field: &[u8], operand: &[u
 }
 
 /// Appends what is expected of the value of a form's operand, which is the first or another.
-pub fn add_value(words: &mut Words, form: &Form, operand: &[u8], is_first: bool) {
+pub fn add_value(words: &mut Words, form: &MacroForm, operand: &[u8], is_first: bool) {
     let Some(kind) = kind_of(form, before(operand, b'='), is_first) else {
         return;
     };

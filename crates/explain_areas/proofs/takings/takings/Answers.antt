@@ -4,7 +4,7 @@ use Rattle.std.proofs.lemmas.Grind.{reverse_onto, flat_map-append}
 use Rattle.std.proofs.lemmas.List.{append-nil, drop_all}
 use Rattle.arrayvec.specs.ArrayVec.{ArrayVec}
 use Rattle.explain_who.specs.declared.trail.TrailEntry.{TrailEntry}
-use Rattle.line_areas.specs.declared.taken.Taken.{Taken}
+use Rattle.line_areas.specs.declared.taken.Taking.{Taking}
 use Rattle.explain_areas.specs.Takings.{taking, takings_of}
 use Rattle.explain_areas.proofs.takings.takings.Goals as goal
 
@@ -15,7 +15,7 @@ Noted = TrailEntry (ArrayVec (ℕ × ℕ))
 one_more : (xs : List Noted) (i j : ℕ) (x : Noted) → j < length xs → ◌≡◌ {A = List Noted} (drop j xs) (x ∷ drop i xs) →
     takings_of (drop j xs) ≡ takings_of (drop i xs) ++ map (taking x.line) x.seen.items
 one_more xs i j x short is =
-    let of : Noted → List Taken = λ e. map (taking e.line) e.seen.items in
+    let of : Noted → List Taking = λ e. map (taking e.line) e.seen.items in
     ap takings_of is ∙ ap (flat_map of) (reverse_onto (drop i xs) x []) ∙ flat_map-append of (reverse (drop i xs)) (x ∷ [])
     ∙ ap (λ ys. takings_of (drop i xs) ++ ys) (append-nil (of x))
 

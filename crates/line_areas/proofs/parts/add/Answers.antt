@@ -1,7 +1,7 @@
 use Rattle.std.proofs.Common.{◌≡◌, ◌+◌, ◌∙◌, ◌-◌, ◌∷◌, length, take, reverse, sym, ap, refl, arith}
 use Rattle.std.specs.Vec.{vec_len}
 use Rattle.line_areas.specs.Areas.{joined}
-use Rattle.line_areas.specs.declared.parts.Area.{Area as AreaIn}
+use Rattle.line_areas.specs.declared.parts.LineArea.{LineArea as AreaIn}
 use Rattle.line_areas.proofs.Joining.{from_end, set_at_end, goes}
 use Rattle.line_areas.proofs.parts.add.Goals as goal
 

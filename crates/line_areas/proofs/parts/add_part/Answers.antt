@@ -1,6 +1,6 @@
 use Rattle.std.proofs.Common.{◌≡◌, ◌+◌, ◌-◌, ◌<◌, ◌≤◌, ◌∙◌, ℕ, List, Option, Some, Ok, Err, Result, OnOk, reverse, sym, ap, arith}
 use Rattle.line_areas.specs.Areas.{areas_to, joined}
-use Rattle.line_areas.specs.declared.parts.Area.{Area as AreaIn}
+use Rattle.line_areas.specs.declared.parts.LineArea.{LineArea as AreaIn}
 use Rattle.line_areas.proofs.Joining.{part, some_on, none_on}
 use Rattle.vsm_model.specs.declared.Subpool.{Subpool}
 use Rattle.line_areas.proofs.parts.add_part.Goals as goal

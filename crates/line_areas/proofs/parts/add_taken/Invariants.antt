@@ -1,7 +1,7 @@
 use Rattle.std.proofs.Common.{◌-◌, ◌≡◌, ◌<◌, ◌≤◌, ℕ, List, Option, reverse}
 use Rattle.line_areas.specs.Areas.{areas_to}
 use Rattle.line_areas.specs.Taken.{line_at}
-use Rattle.line_areas.specs.declared.parts.Area.{Area as AreaIn}
+use Rattle.line_areas.specs.declared.parts.LineArea.{LineArea as AreaIn}
 use Rattle.line_areas.proofs.parts.add_taken.Given as goal
 
 abbrev pub invariant-loop-at : goal.invariant-loop-at

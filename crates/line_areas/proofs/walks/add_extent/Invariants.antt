@@ -1,7 +1,7 @@
 use Rattle.std.proofs.Common.{◌-◌, ◌≡◌, ◌+◌, ◌*◌, ◌≤◌, ℕ, List, Option, reverse}
 use Rattle.line_areas.specs.Areas.{areas_to}
 use Rattle.line_areas.specs.Ahead.{IsFreeFrom, AreLinesOf}
-use Rattle.line_areas.specs.declared.parts.Area.{Area as AreaIn}
+use Rattle.line_areas.specs.declared.parts.LineArea.{LineArea as AreaIn}
 use Rattle.line_areas.proofs.walks.add_extent.Given as goal
 
 abbrev pub invariant-loop-area : goal.invariant-loop-area

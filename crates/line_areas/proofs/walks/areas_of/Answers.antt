@@ -3,7 +3,7 @@ use Rattle.std.proofs.lemmas.List.{append-nil}
 use Rattle.vsm_model.specs.declared.Subpool.{Subpool}
 use Rattle.storage_core.specs.Walks.{subpools_left}
 use Rattle.line_areas.specs.Areas.{areas_of}
-use Rattle.line_areas.specs.declared.parts.Area.{Area}
+use Rattle.line_areas.specs.declared.parts.LineArea.{LineArea}
 use Rattle.line_areas.proofs.walks.areas_of.Goals as goal
 
 pub loop-subpool-init : goal.loop-subpool-init
@@ -26,7 +26,7 @@ loop-subpool-preserved c =
     record {
       place = c.in-Some.ensures.place;
       areas = λ f lines.
-          let all : Subpool → List Area = λ (p : Subpool). areas_of p (f p) in
+          let all : Subpool → List LineArea = λ (p : Subpool). areas_of p (f p) in
           let rest = flat_map all (subpools_left s c.in-Some.behind) in
           ap (λ xs. xs ++ rest) (c.in_ok-add_subpool.ensures (f c.in-Some.subpool) (lines c.in-Some.subpool))
           ∙ append_assoc old (all c.in-Some.subpool) rest
@@ -36,6 +36,6 @@ loop-subpool-preserved c =
 
 pub returns : goal.returns
 returns c = λ f lines.
-    let all : Subpool → List Area = λ (p : Subpool). areas_of p (f p) in
+    let all : Subpool → List LineArea = λ (p : Subpool). areas_of p (f p) in
     let items = c.loop-subpool.areas.items in
     sym (append-nil items) ∙ ap (λ ps. items ++ flat_map all ps) (sym c.in_default.ensures.none) ∙ c.loop-subpool.invariant.areas f lines
