@@ -35,7 +35,9 @@ LESSON = b" STORAGE OBTAIN,LENGTH=8\n"
 FILES = {"script": LESSON, "script.vsm": LESSON + b" MAP\n", "lesson.vsm": LESSON, "exercise.vsm": LESSON + b"*> ?\n",
          "mybench": b"#!/bin/sh\nASAN_OPTIONS=detect_leaks=0 exec crates/vsm/out/vsm-unproved \"$@\"\n"}
 # Statuses that are right beside 0, and for the programs of this repository beside 0 and 4, which counts refusals.
-STATUSES = {"tools/vsm-test exercise.vsm": 1, "./vsm --low 6 nowhere": 8, "./vsm --low 4294967296 nowhere": 16}
+STATUSES = {"tools/vsm-test exercise.vsm": 1, "./vsm --low 6 nowhere": 8, "./vsm --low 4294967296 nowhere": 16,
+            # As MESSAGES has it, without a script: standard input is empty.
+            "./vsm-explain who --taken \"X'6000'\"": 8}
 
 
 @dataclass
