@@ -1,9 +1,8 @@
-# Sourced by ./vsm and ./vsm-explain, which set `top`, the program's `name` and `crate`, and `help`, the file with what it
-# says to --help. Runs the program with the words and the standard streams that are given.
-# If it isn't proved and built from these sources (./prove does that), a program that isn't proved is run in its place, and
-# standard error says so after the compile, and later if it's a terminal. That one is compiled once, in some two minutes,
-# and kept in the crate's out/ as NAME-unproved until a source is changed or ./prove has run.
-# RT names the command rt where it isn't on the PATH.
+# Sourced by ./vsm and ./vsm-explain, which set `top`, the program's `name` and `crate`, and `help`, the file with what
+# it prints for --help. Runs the program with the given arguments and standard streams. If it isn't proved and built
+# from these sources (./prove does that), an unproved program is run in its place, and standard error says so after the
+# compile, and later if it's a terminal. That one is compiled once, in some two minutes, and kept in the crate's out/
+# as NAME-unproved until a source is changed or ./prove has run. RT names the command rt if it isn't on the PATH.
 out=$top/crates/$crate/out
 program=$out/$crate
 unproved=$program-unproved
@@ -24,7 +23,7 @@ print_help() {
   exit 0
 }
 
-# A link in the second folder to each file of the first that the second hasn't.
+# A link in the second folder to each file of the first that the second lacks.
 link_rest() {
   local file
   for file in "$1"/*; do
@@ -37,8 +36,8 @@ put_tool() {
   { echo '#!/usr/bin/env bash'; cat; } >"$1" && chmod +x "$1"
 }
 
-# Lays out a folder that stands for the kit's. rt try throws the program away that it has compiled, so the linker leaves it
-# as `made` too; and the compiler optimizes where it puts checks in, since the program is then some 25 times as fast.
+# Lays out a folder in place of the kit's. rt try deletes the program that it compiled, so the linker also leaves it as
+# `made`; and the compiler optimizes when it adds checks, which makes the program some 25 times as fast.
 lay_out_kit() {
   local kit tools
   kit=$(dirname "$("$rt" doc)") && [ -f "$kit/bin/rtlib.py" ] || return 1
@@ -57,7 +56,7 @@ END
     link_rest "$kit/bin" "$room/kit/bin" && link_rest "$kit" "$room/kit"
 }
 
-# Reads what rt says up to its end, and says every half minute how long it has been.
+# Reads all that rt prints, and says every half minute how long it has taken.
 hear_out() {
   local line start=$SECONDS next=30 heard
   while :; do
@@ -139,5 +138,5 @@ if ! "$top/prove" --program "$crate" --check "$unproved"; then
 elif [ -t 2 ]; then
   tell
 fi
-# Its name is told in what it says of its words. The checks that are compiled in would also look for leaks at its end.
+# Its errors about arguments begin with this name. The compiled-in checks would also look for leaks at its end.
 ASAN_OPTIONS=${ASAN_OPTIONS-detect_leaks=0} exec -a "$name" "$unproved" "$@"

@@ -1,4 +1,4 @@
-// The output as text; in the teacher's mode a list of statements whose answers come when they're asked for.
+// The output as text; in the teacher's mode a list of statements, each answer shown only on request.
 import { make } from './elements.js';
 import { withoutRemarks } from './remarks.js';
 import { kindOf } from './replies.js';
@@ -6,7 +6,7 @@ import { kindOf } from './replies.js';
 const MOST_TEXT = 2 ** 20; // characters of the output that are shown
 const AT_ONCE = 200; // statements of the list that are shown at once
 
-/** The answers of an output, with the lines of a map behind each. */
+/** The answers of an output, each followed by the lines of its map. */
 function answersWithMaps(output) {
   const found = [];
   for (const line of output.split('\n')) {
@@ -36,7 +36,7 @@ function itemOf({ line, reply, map }, lines) {
     make('code', { class: 'statement' }, withoutRemarks([lines[line - 1] ?? ''])[0].trim()), answer);
 }
 
-/** The list of the statements, and a button for those that don't stand there yet. */
+/** The list of the statements, and a button for those not listed yet. */
 function askedList(output, script) {
   const answers = answersWithMaps(output), lines = script.split('\n'), list = make('ol', { class: 'asked' });
   const more = make('button', { type: 'button', onclick: () => add() }, 'More statements');

@@ -1,21 +1,21 @@
-// The editor: a text field, with the numbers of its lines before it and their replies after it, and the present
-// statement marked.
+// The editor: a text field, with the numbers of its lines before it and their replies after it; the present statement
+// and faults are marked.
 import { make } from './elements.js';
 
-const ABOVE = 10; // pixels above the first line, as in bench.css
+const ABOVE = 10, LEFT = 8; // pixels above the first line and before each, as in bench.css
 
 /** `edited` is called at each edit, and `chosen` with the line whose reply is clicked. */
 export function editorOf(parts, edited, chosen) {
-  const { area, numbers, replies, now, caret } = parts;
+  const { area, numbers, replies, now, caret, marks } = parts;
   const lines = () => {
     let count = 1;
     for (let at = area.value.indexOf('\n'); at >= 0; at = area.value.indexOf('\n', at + 1)) count++;
     return count;
   };
   const lineHeight = () => parseFloat(getComputedStyle(area).lineHeight);
-  let count = 1, told = new Map(), present = [0, 0];
+  let count = 1, told = new Map(), present = [0, 0], faults = [];
 
-  /** Draws what stands beside the lines that can be seen, and no others. */
+  /** Draws what is next to the lines in sight, and no others. */
   function drawBeside() {
     const line = lineHeight();
     const first = Math.floor(area.scrollTop / line), seen = Math.ceil(area.clientHeight / line) + 1;
@@ -23,12 +23,18 @@ export function editorOf(parts, edited, chosen) {
     numbers.replaceChildren(...shown.map(it => make('div', {}, String(it))));
     replies.replaceChildren(...shown.map(it => {
       const { reply = ' ', kind = '' } = told.get(it) ?? {};
-      return make('div', { class: kind, title: reply, onclick: () => told.has(it) && chosen(it) }, reply);
+      const act = () => told.has(it) && chosen(it);
+      return make('div', { class: kind, title: reply, 'data-line': it, onclick: act }, reply);
     }));
+    const top = number => ABOVE + (number - 1) * line - area.scrollTop;
+    marks.replaceChildren(...faults.filter(it => shown.includes(it.line)).map(it => make('div', {
+      class: it.text.startsWith('WARNING') ? 'warning' : null,
+      style: `top:${top(it.line)}px;left:calc(${LEFT - area.scrollLeft}px + ${it.column - 1}ch);width:${it.length}ch`
+    })));
     for (const it of [numbers, replies]) it.style.transform = `translateY(${first * line - area.scrollTop}px)`;
     const [from, to] = present;
     now.hidden = !from || to > count;
-    now.style.top = `${ABOVE + (from - 1) * line - area.scrollTop}px`;
+    now.style.top = `${top(from)}px`;
     now.style.height = `${(to - from + 1) * line}px`;
   }
   function drawCaret() {
@@ -57,18 +63,27 @@ export function editorOf(parts, edited, chosen) {
       area.setSelectionRange(0, 0);
       told = new Map();
       present = [0, 0];
+      faults = [];
       changed();
     },
-    /** Shows replies, by line, and marks the lines of the present statement; they're scrolled to if they have
-        moved. */
-    show(byLine, [from, to]) {
+    /** Shows replies, by line, and marks faults and the lines of the present statement; these are scrolled to if they
+        have moved. */
+    show(byLine, [from, to], found) {
       const isMoved = from !== present[0];
       told = byLine;
       present = [from, to];
+      faults = found;
       const line = lineHeight(), top = (from - 1) * line, bottom = to * line + 2 * ABOVE;
       if (from && isMoved && (top < area.scrollTop || bottom > area.scrollTop + area.clientHeight))
         area.scrollTop = Math.max(0, top - area.clientHeight / 3);
       drawBeside();
+    },
+    /** Selects what is at a place. */
+    select({ line, column, length }) {
+      const from = area.value.split('\n', line - 1).reduce((sum, it) => sum + it.length + 1, column - 1);
+      area.focus();
+      area.setSelectionRange(from, from + length);
+      area.scrollTop = Math.max(0, (line - 1) * lineHeight() - area.clientHeight / 3);
     },
   };
 }

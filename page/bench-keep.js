@@ -1,4 +1,4 @@
-// What is kept of scripts and their options: a link, and a list of one's own in the browser's storage.
+// Scripts with their options as they are kept: a link, and a list of one's own in the browser's storage.
 import { MOST_BYTES } from './bench-script.js';
 import { latin, latinText } from './module-host.js';
 
@@ -14,7 +14,7 @@ export const gzipped = bytes => through(bytes, new CompressionStream('gzip'));
 export const gunzipped = bytes => through(bytes, new DecompressionStream('gzip'));
 export const bytesOf = base64 => latin(atob(base64));
 
-/** The part of a link behind its #: options in words, and the script compressed. */
+/** The part of a link after its #: options as text, and the script compressed. */
 export async function linkOf({ script, options, name, teacher }) {
   const packed = await through(latin(script), new CompressionStream('deflate-raw'));
   const told = new URLSearchParams();
@@ -25,7 +25,7 @@ export async function linkOf({ script, options, name, teacher }) {
   return `#${told}`;
 }
 
-/** What a script is once it's unpacked; no more of it is unpacked than a script may have, and one byte. */
+/** An unpacked script; at most one byte more than a script may have is unpacked. */
 async function unpacked(bytes) {
   const reader = piped(bytes, new DecompressionStream('deflate-raw')).getReader();
   let text = '';
@@ -39,8 +39,8 @@ async function unpacked(bytes) {
   return text;
 }
 
-/** What a link holds; null where it holds no script. It throws where it can't be read, or is longer than any
-    link of this page. */
+/** The contents of a link; null if it has no script. It throws if the link can't be read or is longer than any of this
+    page. */
 export async function readLink(hash) {
   const told = new URLSearchParams(hash.slice(1)), packed = told.get('script');
   if (packed === null) return null;
@@ -50,14 +50,14 @@ export async function readLink(hash) {
   return { script, options, name: told.get('name') ?? '', teacher: told.has('teacher') };
 }
 
-/** A script of one's own as it was kept; null if it's nothing that can be read. */
+/** A script of one's own as it was kept; null if it can't be read. */
 function ownOf(it) {
   if (typeof it?.script !== 'string') return null;
   const options = Object.fromEntries(NAMES.map(name => [name, String(it.options?.[name] ?? '')]));
   return { script: it.script, options, name: String(it.name ?? ''), id: String(it.id ?? 'first') };
 }
 
-/** One's own scripts, the newest first; what an older page of this bench kept is among them. */
+/** One's own scripts, the newest first, including one kept by an older page of this bench. */
 export function keptScripts() {
   const read = key => {
     try {
@@ -70,8 +70,8 @@ export function keptScripts() {
   return all.map(ownOf).filter(Boolean);
 }
 
-/** Keeps a script of one's own, in place of the one with its id; whether it could. Others stay, also those of
-    other windows; only the eleventh goes. */
+/** Keeps a script of one's own, replacing the one with its id; whether that succeeded. Others stay, including those of
+    other windows; only the eleventh is dropped. */
 export function keep(own) {
   try {
     const others = keptScripts().filter(it => it.id !== own.id);

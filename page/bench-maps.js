@@ -1,23 +1,11 @@
-// What vsm-view does, over bytes: a script with a MAP before each statement and behind the last.
+// What vsm-view does, on bytes: a script with a MAP before each statement and after the last.
 import { Run } from './map.js';
-import { latin, latinText } from './module-host.js';
+import { joinedBytes, latin, latinText } from './module-host.js';
 
 const LINE_FEED = 10, BLANK = 32, BYTES_IN_ROW = 16, MOST_PEEKS = 200_000, MOST_MAPS = 4 * 2 ** 20;
 const POKED = /^\S* +POKE +([^ ,]+),(X'[0-9A-F]*)?/i;
 
-/** Bytes one behind the other. */
-export function joinedBytes(pieces) {
-  const whole = new Uint8Array(pieces.reduce((sum, it) => sum + it.length, 0));
-  let at = 0;
-  for (const piece of pieces) {
-    whole.set(piece, at);
-    at += piece.length;
-  }
-  return whole;
-}
-
-/** The answers of an output: the number of each one's line, and its text. A map's lines begin with a blank.
-    */
+/** The answers of an output: line number and text of each. A map's lines begin with a blank. */
 export function answersOf(output) {
   const found = [];
   for (let at = 0; at < output.length;) {
@@ -31,9 +19,8 @@ export function answersOf(output) {
   return found;
 }
 
-/** The script with lines put in before each of these lines, which ascend, and after the last: `texts` has one
-    text more than there are lines. A line that a statement begins on never continues another, so no statement
-    is cut in two. */
+/** The script with texts inserted before each of these lines, which ascend, and after the last: there is one more text
+    than lines. A line on which a statement begins never continues another, so no statement is cut in two. */
 export function withLines(script, begins, texts) {
   const pieces = [];
   let from = 0, at = 0, line = 1;
@@ -47,13 +34,13 @@ export function withLines(script, begins, texts) {
   return joinedBytes([...pieces, latin(texts.at(-1))]);
 }
 
-/** Whether the answers between the maps that were put in are those of the script without them. */
+/** Whether the answers between the inserted maps are those of the script without them. */
 export function isSameRun(plain, mapped) {
   const between = mapped.filter((it, k) => k % 2);
   return between.length === plain.length && plain.every((it, k) => it.reply === between[k].reply);
 }
 
-/** What a number, a name or a register is in a state; undefined if it's none of these. */
+/** The value of a number, a name or a register in a state; undefined if it's none of these. */
 function valueOf(word, state) {
   const [, decimal, hexadecimal, binary, register] =
     /^(?:(\d+)|X'([0-9A-F]+)'|B'([01]+)'|\(R?(\d\d?)\))$/.exec(word) ?? [];
@@ -77,8 +64,8 @@ function pokedRows(run) {
   return [...rows].sort((a, b) => a - b);
 }
 
-/** For each place of a map those rows in which a POKE of the run stores whose page is assigned there; none if
-    these are too many. */
+/** For each map, the rows in which a POKE of the run stores and whose page is assigned then; none if they are too
+    many. */
 export function rowsToPeek(script, output) {
   if (output.length > MOST_MAPS) return [];
   const run = new Run({ script: latinText(script), skipped: 0 }, latinText(output)), rows = pokedRows(run);
@@ -95,8 +82,8 @@ export function rowsToPeek(script, output) {
 export const peeksOf = rowsAt =>
   rowsAt.map(rows => rows.map(it => ` PEEK X'${it.toString(16).toUpperCase()}',${BYTES_IN_ROW}\n`).join(''));
 
-/** What the PEEKs put in show: step, row and bytes, of each row that is other than a step before; no bytes if
-    its page isn't assigned. */
+/** What the inserted PEEKs show: step, row and bytes of each row that differs from the step before; no bytes if its
+    page isn't assigned. */
 export function bytesSeen(answers, rowsAt) {
   const found = [];
   let known = new Map(), at = 0;

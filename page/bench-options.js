@@ -5,7 +5,7 @@ const LIMITS = {
   history: { name: 'History', least: 1, most: 65536, step: 1 },
 };
 
-/** What is wrong with an option's value, as a sentence; or null. An option that is left out is right. */
+/** What is wrong with an option's value, as a sentence; or null. An omitted option is right. */
 export function faultOfOption(option, value) {
   const limits = LIMITS[option];
   if (!limits || value === '') return null;

@@ -1,7 +1,6 @@
-// Runs in a worker, one at a time; a run that is stopped ends with its worker.
+// Runs in a worker, one at a time; stopping a run ends its worker.
 
-/** `told` is called with each message of the worker; with `{ kind: 'fault', why }` too where there is no
-    worker. */
+/** `told` is called with each message of the worker; if there is no worker, with `{ kind: 'fault', why }`. */
 export function runnerOf(source, wasm, told) {
   let worker = null, isRunning = false;
   const url = URL.createObjectURL(new Blob([source], { type: 'text/javascript' }));
@@ -28,12 +27,12 @@ export function runnerOf(source, wasm, told) {
     worker = null;
     isRunning = false;
   }
-  function run(words, script) {
+  function run(given) {
     if (isRunning) stop();
     try {
       worker ??= begun();
       isRunning = true;
-      worker.postMessage({ wasm, words, script });
+      worker.postMessage({ wasm, ...given });
     } catch (fault) {
       ended(`this browser doesn’t start a worker (${fault.message})`);
     }

@@ -3,7 +3,7 @@
 export const MOST_LINES = 20_000; // a text field of many more is slow
 export const MOST_BYTES = 4 * 2 ** 20;
 
-/** Where a place of a text is, in words. */
+/** The line and column of a place in a text, in words. */
 export function placeIn(text, at) {
   const before = text.slice(0, at).split('\n');
   return `line ${before.length}, column ${before.at(-1).length + 1}`;
@@ -13,12 +13,12 @@ export function placeIn(text, at) {
 export function faultOfScript(text) {
   const other = /[^\0-\xff]/u.exec(text);
   if (other)
-    return `${placeIn(text, other.index)}: “${other[0]}” isn’t one byte, so it can’t stand in a script`;
+    return `${placeIn(text, other.index)}: “${other[0]}” isn’t one byte, so a script can’t have it`;
   let lines = 0;
   for (let at = 0; at < text.length; lines++) at = text.indexOf('\n', at) + 1 || text.length;
   const tooMany = (has, most, what) => has <= most ? null
-    : `the script has ${has.toLocaleString('en')} ${what}, and this page takes ${most.toLocaleString('en')}: ` +
-      'the program vsm itself runs it';
+    : `the script has ${has.toLocaleString('en')} ${what}, and this page takes at most ` +
+      `${most.toLocaleString('en')}: the program vsm itself runs it`;
   return tooMany(lines, MOST_LINES, 'lines') ?? tooMany(text.length, MOST_BYTES, 'bytes');
 }
 
@@ -33,8 +33,8 @@ export function optionsIn(text) {
   return found;
 }
 
-/** A file's text as the editor holds it, which knows no carriage returns: right before a line feed they go,
-    as vsm takes them; any other belongs to its line. */
+/** A file's text as the editor can hold it. Carriage returns right before line feeds are dropped, as vsm drops them;
+    any other is a fault. */
 export function editorText(text) {
   const plain = text.replaceAll('\r\n', '\n');
   const alone = plain.indexOf('\r');

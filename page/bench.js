@@ -1,6 +1,7 @@
 // The bench in a browser: an editor, the program in a worker, and what a run shows.
 import { showOutput } from './bench-answers.js';
 import { editorOf } from './bench-editor.js';
+import { Explainer, faultsList, NO_RUN, partsOfPanel } from './bench-explain.js';
 import {
   base64Of, bytesOf, gunzipped, gzipped, keep, keptScripts, linkOf, MOST_LINK, NAMES, readLink
 } from './bench-keep.js';
@@ -40,16 +41,22 @@ class Bench {
     this.name = OWN;
     this.result = { output: '', script: '', words: [], mapped: null };
     this.view = null;
-    this.turned = false; // whether the output is shown since there was no picture
-    this.id = null; // of the script of one's own that the editor has: a lesson or a link's has none until it's edited
+    this.turned = false; // whether the output is shown because there was no picture
+    this.id = null; // of one's own script in the editor: a lesson or a link's script has none until it's edited
     this.isUnkept = false;
     this.place = Infinity; // the statement that the next picture shows
-    this.ending = ''; // what the status line says of a run that has ended
+    this.ending = ''; // the status line of a run that has ended
     this.runner = runnerOf(data.worker, wasm, told => this.told(told));
     const parts = {
-      area: byId('script'), numbers: byId('numbers'), replies: byId('replies'), now: byId('now'), caret: byId('caret')
+      area: byId('script'), numbers: byId('numbers'), replies: byId('replies'), now: byId('now'), caret: byId('caret'),
+      marks: byId('marks')
     };
     this.editor = editorOf(parts, () => this.edited(), line => this.view?.go(this.view.run.atLine.get(line)));
+    this.faults = [];
+    this.listFaults = faultsList(byId('faults'), it => this.editor.select(it));
+    this.explainer = new Explainer(
+      partsOfPanel(byId), data.explainer, byId('explain-module'), it => this.foundFaults(it)
+    );
     byId('identity').textContent = data.identity.line;
     this.listen();
   }
@@ -78,7 +85,7 @@ class Bench {
     addEventListener('hashchange', () => this.followLink());
   }
 
-  /** Begins with what the link holds, else with the newest script of one's own, else with the first lesson. */
+  /** Begins with the link's script, or else with the newest script of one's own, or else with the first lesson. */
   async begin() {
     if (await this.followLink()) return;
     const [own] = keptScripts();
@@ -102,7 +109,7 @@ class Bench {
     return { script: this.editor.text, options: this.options, name: this.name, teacher: this.isTeaching };
   }
 
-  /** Takes a script with its options, and runs it. One that is kept nowhere isn't replaced without asking. */
+  /** Loads a script with its options, and runs it. A script that is kept nowhere isn't replaced without a question. */
   load({ script, options, name, teacher }, id = null) {
     if (this.isLost() && !confirm('The script in the editor is kept nowhere. Is it to be replaced?'))
       return this.listScripts();
@@ -121,7 +128,7 @@ class Bench {
     this.run(true);
   }
 
-  /** Whether an edit would be lost, since it can be kept nowhere. */
+  /** Whether an edit would be lost because it can be kept nowhere. */
   isLost() {
     return this.isUnkept && !keep({ ...this.state, id: this.id });
   }
@@ -163,15 +170,15 @@ class Bench {
     this.keeping = setTimeout(() => this.keepNow(), SAVING);
   }
 
-  /** Keeps a script of one's own in the browser and, if it's short enough, any in the address; a script that was
-      loaded anew is another place that Back leads to. */
+  /** Keeps a script of one's own in the browser, and any script in the address if it's short enough. The browser's Back
+      leads to the script before a newly loaded one. */
   async keepNow(isNew = false) {
     clearTimeout(this.keeping);
     const { state, id } = this, isKept = id !== null && keep({ ...state, id });
     this.kept = state;
     const link = faultOfScript(state.script) ? null : await linkOf(state);
     const fits = link !== null && link.length <= MOST_LINK, address = fits ? link : '#';
-    // Another edit may have come while this one was packed.
+    // Another edit may have been made while this one was packed.
     if (this.kept !== state) return { link, fits };
     if (isNew && location.hash.length > 1 && location.hash !== address) history.pushState(null, '', address);
     else history.replaceState(null, '', address);
@@ -193,7 +200,7 @@ class Bench {
     return text;
   }
 
-  /** Marks what is shown as of another script or options than those of the editor. */
+  /** Marks the run as old if its script or options aren't those of the editor. */
   markOld() {
     const { script, words } = this.result;
     const isOld = script !== this.editor.text || words.join() !== this.words.join();
@@ -202,28 +209,47 @@ class Bench {
     this.showBeside();
   }
 
-  /** Shows replies and the present statement beside the editor's lines, as far as these are those of the run. */
+  /** Shows replies, faults and the present statement next to the editor's lines, as far as these are those of the
+      run. */
   showBeside() {
     const { view } = this, { run } = view ?? {}, byLine = new Map();
-    if (!run) return this.editor.show(byLine, [0, 0]);
-    const lines = this.editor.text.split('\n'), other = run.lines.findIndex((it, k) => it !== lines[k]);
-    const isSame = ([, to]) => other < 0 || to <= other;
-    for (let step = 1; step <= view.told && isSame(run.linesOf(step)); step++) {
+    const lines = this.editor.text.split('\n'), ran = this.result.script.replace(/\n$/, '').split('\n');
+    const other = ran.findIndex((it, k) => it !== lines[k]), isSame = ([, to]) => other < 0 || to <= other;
+    const faults = this.isTeaching ? [] : this.faults.filter(it => isSame([it.line, it.line]));
+    this.listFaults(faults);
+    for (let step = 1; step <= view?.told && isSame(run.linesOf(step)); step++) {
       const { line, reply } = run.statement(step);
       byLine.set(line, { reply, kind: kindOf(reply) });
     }
-    const now = view.step ? run.linesOf(view.step) : [0, 0];
-    this.editor.show(byLine, isSame(now) ? now : [0, 0]);
+    const now = view?.step ? run.linesOf(view.step) : [0, 0];
+    this.editor.show(byLine, isSame(now) ? now : [0, 0], faults);
   }
 
-  /** What the view calls at each step; its own key T switches the teacher's mode too. */
+  /** The view calls this at each step; its own key T also switches the teacher's mode. */
   moved(view) {
     if (view !== this.view) return;
     if (view.teaching !== this.isTeaching) this.setTeaching(view.teaching);
     this.showBeside();
+    this.explain();
   }
 
-  /** Takes what the address holds; whether it holds a script. */
+  /** Has the panel explain the present statement, or say why not. */
+  explain() {
+    const { step, told, run } = this.view;
+    if (!step) this.explainer.show(null, 'No statement is shown yet.');
+    else if (step > told) this.explainer.show(null, 'The answer is hidden until you ask for it.');
+    else {
+      const [line, end] = run.linesOf(step);
+      this.explainer.show({ line, end });
+    }
+  }
+
+  foundFaults(faults) {
+    this.faults = faults;
+    this.showBeside();
+  }
+
+  /** Loads the script in the address; whether it has one. */
   async followLink() {
     try {
       const found = await readLink(location.hash);
@@ -250,13 +276,15 @@ class Bench {
     this.keepNow(isNew);
     this.result = { script, words: this.words, name: this.name, output: '', mapped: null };
     byId('result').classList.remove('old');
+    this.explainer.begin(NO_RUN);
     if (fault || wrong) return this.refuse(fault ? `${this.name}, ${fault}.` : wrong);
     this.result.question = this.examples.get(this.chosen)?.question ?? '';
     this.began = performance.now();
     this.isCleared = false;
     this.busy(true);
     this.say('Running');
-    this.runner.run(this.words, latin(script));
+    this.explainer.begin(this.result);
+    this.runner.run({ words: this.words, script: latin(script) });
   }
 
   stop() {
@@ -267,21 +295,21 @@ class Bench {
     if (!this.result.mapped) this.withoutPicture('The run was stopped, so there’s no picture.');
   }
 
-  /** What the worker says. */
+  /** Handles a message of the worker. */
   told(message) {
     const acts = {
       progress: () => this.progress(message),
       ran: () => this.ran(message),
       picture: () => this.pictured(message),
       end: () => this.ended(),
-      fault: () => this.refuse(`The run came to no end: ${message.why}.`),
+      fault: () => this.refuse(`The run didn’t end: ${message.why}.`),
     };
     acts[message.kind]();
   }
 
   progress({ part, share, bytes }) {
     byId('progress').value = share;
-    // What is shown of the run before would be taken for this one's.
+    // What is shown of the run before could be mistaken for this one's.
     if (!this.isCleared) {
       this.isCleared = true;
       this.withoutPicture('The run is under way.');
@@ -316,7 +344,7 @@ class Bench {
     this.showBeside();
   }
 
-  /** The data of a run's page, but for what the program printed. */
+  /** The data of a run's page, except what the program printed. */
   dataOf({ name, words, script, bytes, question }) {
     return { name, options: words, script: script.replace(/\n$/, ''), skipped: 0, bytes, question };
   }
@@ -330,9 +358,10 @@ class Bench {
     this.sayEnding();
     if (status > 4) byId('status').classList.add('bad');
     this.markOld();
+    if (/^\d{7} FAULT /m.test(this.result.output)) this.explainer.check();
   }
 
-  /** That there was no run, or no end of it, in words. */
+  /** Says why there was no run, or why it didn't end. */
   refuse(why) {
     this.busy(false);
     this.fail(why);
@@ -369,11 +398,12 @@ class Bench {
     showOutput(byId('output'), this.result, this.isTeaching);
   }
 
-  /** In the teacher's mode the status tells no answer, and the editor, which has the comments, is hidden. */
+  /** In the teacher's mode the status shows no answer, and the editor, which has the comments, is hidden. */
   setTeaching(isOn) {
     if (isOn !== this.isTeaching) this.fold(isOn, false);
     byId('teacher').setAttribute('aria-checked', String(isOn));
     this.showOutput();
+    this.showBeside();
     this.sayEnding();
     this.keepSoon();
   }
@@ -417,38 +447,39 @@ class Bench {
 
   note(title, ...inner) {
     byId('note-title').textContent = title;
-    byId('note-text').replaceChildren(...inner);
+    byId('note-text').replaceChildren(...inner.filter(Boolean));
     byId('note').showModal();
   }
 
   help() {
-    const { commit, kit, program, module, bytes } = this.data.identity;
+    const { identity: { commit, kit, program, module, bytes }, explained } = this.data;
     const asked = make('pre', { tabindex: 0, 'aria-label': 'The program’s own help' });
     const rows = {
       Commit: commit, Kit: kit, 'Program (SHA-256)': program, 'Module (SHA-256)': module,
       'Module, bytes': bytes.toLocaleString('en')
     };
     const first = make(
-      'p', {}, 'Ctrl+Enter runs the script. A statement begins behind a blank, and a character in the tinted column, ' +
+      'p', {}, 'Ctrl+Enter runs the script. A statement begins after a blank, and a character in the tinted column, ' +
         'the 72nd, continues it on the next line. Each character is one byte. In the picture ', make('kbd', {}, '?'),
-      ' tells the keys.'
+      ' lists the keys.'
     );
     this.note(
       'The bench', first,
       make('p', {}, 'Nothing is loaded, and nothing is sent: the page has no access to the network. Script and ' +
         'options are kept in this browser and in the address.'),
       make('h3', {}, 'What runs here'),
-      make('p', {}, 'The functions of this page’s program are those of vsm that were proved at this commit by this ' +
+      make('p', {}, 'The functions of this page’s program are those of vsm that were proved at this commit with this ' +
         'kit. To run in a browser they were compiled to WebAssembly; that step, and the browser, are trusted.'),
       make('dl', {}, ...Object.entries(rows).flatMap(([name, value]) => [make('dt', {}, name), make('dd', {}, value)])),
-      make('h3', {}, 'What the program says of itself'), asked
+      explained && make('p', {}, explained.line),
+      make('h3', {}, 'The program’s own help'), asked
     );
     const runner = runnerOf(this.data.worker, this.wasm, ({ kind, output, why }) => {
       if (kind === 'progress') return;
       runner.stop();
       asked.textContent = kind === 'ran' ? latinText(output) : why;
     });
-    runner.run(['--help'], latin(''));
+    runner.run({ words: ['--help'], script: latin('') });
   }
 
   async copyLink() {
@@ -499,7 +530,7 @@ class Bench {
     this.save('.out', latin(this.result.output), 'application/octet-stream');
   }
 
-  /** Saves the page that vsm-view makes of this run. */
+  /** Saves the page that vsm-view would make of this run. */
   async savePage() {
     const { mapped, name } = this.result;
     if (!mapped) return this.note('There’s no picture to be saved', make('p', {}, 'Run the script first.'));

@@ -1,10 +1,11 @@
 #!/usr/bin/env python3
-"""Makes the bench in a browser: one page, dist/bench.html, of the files here and the program's module.
+"""Makes the bench in a browser: one page, dist/bench.html, of the files here and the programs' modules.
 
 Usage: page/bench.py [MODULE.wasm [PAGE.html]]
     by default dist/vsm.wasm, which page/module makes, and dist/bench.html.
 
-Beside the module has to stand its file .json, which says of what commit and kit it is.
+The module's file .json must be next to it; it names the commit and the kit. If vsm-explain.wasm is next to it too, the
+page explains answers; without it the page is made and works without that.
 """
 from __future__ import annotations
 
@@ -27,12 +28,12 @@ SHORT = 12  # characters of a commit in the page's foot
 
 
 def identity_of(module: Path) -> dict[str, str | int]:
-    """What page/module wrote beside the module, and the line of it that the page shows; whether the module is the one
-    that it wrote this of is known by its sum."""
+    """What page/module wrote about the module, and the line that the page shows of it. The module's sum shows whether
+    this was written about it."""
     said = json.loads(module.with_suffix(".json").read_text(encoding="utf-8"))
     found = hashlib.sha256(module.read_bytes()).hexdigest()
     commit = said["commit"].partition(" ")
-    line = f"The program vsm, proved at commit {commit[0][:SHORT]}{commit[1]}{commit[2]} with {said['kit']}"
+    line = f"The program {module.stem}, proved at commit {commit[0][:SHORT]}{commit[1]}{commit[2]} with {said['kit']}"
     if found != said["module"]:
         line = "A program that isn't known to be proved"
     return {**said, "bytes": module.stat().st_size, "line": f"{line}. The SHA-256 of its module is {found}."}
@@ -44,7 +45,7 @@ def option_words(script: Path) -> list[str]:
 
 
 def example(script: Path) -> dict[str, object]:
-    """An example script, each character one byte, its options by their names, and what the lesson is."""
+    """An example script, each character one byte, with its options by name, and the lesson's title and question."""
     words = option_words(script)
     options = {name.removeprefix("--"): value for name, value in zip(words[::2], words[1::2])}
     title, question = lessons().get(script.name, ("", ""))
@@ -53,23 +54,31 @@ def example(script: Path) -> dict[str, object]:
 
 
 def examples() -> list[dict[str, object]]:
-    """The lessons in their order, and then what else is there."""
+    """The lessons in their order, and then the other examples."""
     files = {script.name: script for script in sorted((TOP / "examples").glob("*.vsm"))}
     names = [*lessons(), *(it for it in files if it not in lessons())]
     return [example(files[name]) for name in names if name in files]
 
 
-def bench_page(module: Path) -> str:
-    # The time of the packing isn't put in, so that the same files make the same page.
-    packed = gzip.compress(module.read_bytes(), 9, mtime=0)
+def packed(module: Path) -> str:
+    """A module, gzip'd and in base64. The time isn't put in, so that the same files make the same page."""
+    return base64.b64encode(gzip.compress(module.read_bytes(), 9, mtime=0)).decode()
+
+
+def bench_page(module: Path, explain: Path | None) -> str:
+    """The page of the module of vsm and, if there is one, that of vsm-explain."""
     data = {
         "identity": identity_of(module),
-        "wasm": base64.b64encode(packed).decode(),
+        "explained": identity_of(explain) if explain else None,
+        "wasm": packed(module),
         "worker": joined_script("bench-worker.js"),
+        "explainer": joined_script("explain-worker.js"),
         "page": build_page(HERE / "view.html", "", {}),
         "examples": examples(),
     }
-    return build_page(HERE / "bench.html", "Nilbozad: a bench for z/OS virtual storage", {"data": data})
+    # A module that is used only when something is explained isn't read with the other data.
+    more = {"explain-module": packed(explain)} if explain else {}
+    return build_page(HERE / "bench.html", "Nilbozad: a bench for z/OS virtual storage", {"data": data, **more})
 
 
 def main(words: list[str]) -> int:
@@ -77,9 +86,10 @@ def main(words: list[str]) -> int:
         print(__doc__.strip())
         return 0 if words == ["--help"] else 16
     module = Path(words[0]) if words else TOP / "dist" / "vsm.wasm"
+    explain = module.with_name("vsm-explain.wasm")
     page = Path(words[1]) if len(words) > 1 else TOP / "dist" / "bench.html"
     try:
-        text = bench_page(module)
+        text = bench_page(module, explain if explain.is_file() else None)
         page.parent.mkdir(parents=True, exist_ok=True)
         page.write_text(text, encoding="utf-8")
     except OSError as fault:
@@ -87,12 +97,12 @@ def main(words: list[str]) -> int:
         print(f"page/bench.py: {fault.filename}: {fault.strerror}{first}", file=sys.stderr)
         return 1
     except KeyError as fault:
-        print(f"page/bench.py: {module.with_suffix('.json')}: it lacks {fault}", file=sys.stderr)
+        print(f"page/bench.py: a module's file .json in {module.parent} lacks {fault}", file=sys.stderr)
         return 1
     except (BuildFault, ValueError) as fault:
         print(f"page/bench.py: the page can't be built: {fault}", file=sys.stderr)
         return 1
-    print(f"{page}: {page.stat().st_size} bytes")
+    print(f"{page}: {page.stat().st_size} bytes{'' if explain.is_file() else ', without vsm-explain'}")
     return 0
 
 

@@ -2,11 +2,11 @@
 """Trials of the program's module in node, and of the bench in headless Chromium. page/check runs them.
 
 Usage: page/bench_trials.py [MODULE.wasm]
-    these alone; by default of dist/vsm.wasm. The last line is 'N passed, M failed'.
+    only these; by default of dist/vsm.wasm. The last line is 'N passed, M failed'.
 
-In node the module has to give each row of tests/rows, script of conformance and example, byte for byte, with
-its status and what it says on standard error; scripts come whole, as a file, and byte by byte. In the browser
-the bench has to give the same for each example, and to do what docs/BENCH-IN-A-BROWSER.md says.
+In node the module has to print what each row of tests/rows, script of conformance and example says, byte for byte,
+with status and standard error; it reads scripts whole, as a file, and byte by byte. In the browser the bench has to
+show the same for each example, and to do what docs/BENCH-IN-A-BROWSER.md says.
 """
 from __future__ import annotations
 
@@ -35,12 +35,12 @@ import bench  # noqa: E402
 from build import BuildFault, joined_script  # noqa: E402
 from chromium import Browser, BrowserFault, installed  # noqa: E402
 from on_page import probed  # noqa: E402
-from trials import Trials  # noqa: E402
+from trials import Programs, Trials  # noqa: E402
 
 MODULE = TOP / "dist" / "vsm.wasm"
 SECONDS = 60
-WORKER_SECONDS = 15  # for a worker to end that computes
-ENDLESS_BYTES = 1 << 22  # of a row that has no end, far more than the program reads of it
+WORKER_SECONDS = 15  # until a busy worker has ended
+ENDLESS_BYTES = 1 << 22  # of an endless row, far more than the program reads of it
 NOT_READ = b" BACK 0\n"
 LACKS = ("WebAssembly", "DecompressionStream", "CompressionStream", "Worker")
 
@@ -50,14 +50,15 @@ def encoded(data: bytes) -> str:
 
 
 class Node:
-    """The module in one process of node, which runs one job after the other."""
+    """A module in one process of node, which runs one job after another."""
 
-    def __init__(self, module: Path, folder: Path) -> None:
+    def __init__(self, module: Path, folder: Path, name: str = "vsm") -> None:
         self.module, self.folder = module, folder
         program = installed("nodejs", ("node", "nodejs"))
         script = folder / "serve.mjs"
         script.write_text(joined_script("module-serve.js"), encoding="utf-8")
-        self.child = subprocess.Popen([program, script, module], stdin=subprocess.PIPE, stdout=subprocess.PIPE)
+        words = [program, script, module, name]
+        self.child = subprocess.Popen(words, stdin=subprocess.PIPE, stdout=subprocess.PIPE)
         self.held = b""
 
     def close(self) -> None:
@@ -78,7 +79,7 @@ class Node:
         return line
 
     def run(self, words: Sequence[str], script: bytes, files: dict[str, bytes], slowly: bool = False) -> dict[str, Any]:
-        """Status, output and errors of a run, and how many bytes of the script it has read."""
+        """Status, output and errors of a run, and the number of bytes read of the script."""
         job = {"words": [encoded(word.encode()) for word in words], "script": encoded(script), "slowly": slowly,
                "files": {name: encoded(data) for name, data in files.items()}}
         assert self.child.stdin
@@ -91,7 +92,7 @@ class Node:
 
 
 def rows_check() -> ModuleType:
-    """The check of tests/rows, whose rows and judgement are taken."""
+    """The check of tests/rows, whose rows and judgement are used here."""
     path = TOP / "tests" / "rows" / "check"
     loader = SourceFileLoader("rows_check", str(path))
     module = ModuleType(loader.name)
@@ -154,7 +155,7 @@ def try_examples(node: Node, trials: Trials) -> None:
 
 
 class BenchPage:
-    """The bench in a browser, as its user has it."""
+    """The bench in a browser, used as by a person."""
 
     def __init__(self, browser: Browser, path: Path) -> None:
         self.browser, self.address = browser, path.as_uri()
@@ -178,7 +179,7 @@ class BenchPage:
         self.browser.settle()
 
     def put(self, element: str, value: str, event: str = "input") -> None:
-        """Gives a field a value, as if that had been typed."""
+        """Sets a field's value, as if typed."""
         told = f"it.value = {json.dumps(value)}; it.dispatchEvent(new Event('{event}', {{ bubbles: true }}));"
         self.js(f"(it => {{ {told} }})(document.getElementById('{element}'))")
 
@@ -202,7 +203,7 @@ class BenchPage:
         self.ended()
 
     def output(self) -> bytes:
-        """What the page shows as output."""
+        """The output that the page shows."""
         text = self.js("document.querySelector('#output .text')?.textContent ?? ''")
         return b"" if text == "No output." else text.encode("latin-1")
 
@@ -223,16 +224,16 @@ def try_opening(page: BenchPage, trials: Trials) -> None:
         page.browser.controls())
     for name in ("low", "script", "run", "stop", "open", "copy", "teacher", "help", "examples", "save-script",
         "tab-output"):
-        trials.want(f"there is the control {name}", page.js(f"Boolean(document.getElementById('{name}'))"))
+        trials.want(f"the control {name} exists", page.js(f"Boolean(document.getElementById('{name}'))"))
 
 
-# Texts, and frames of controls, whose contrast is too small.
+# Texts, and frames of controls, whose contrast is too low.
 FRAMED = ".mine :is(button, select, input):enabled:not([role=tab], .chief)"
 PALE = probed(f"pale(document.getElementById('bench'), '{FRAMED}')")
 
 
 def try_foot(page: BenchPage, node: Node, trials: Trials) -> None:
-    """The foot says whether the module is of a proved program: the one that page/module wrote of, by its sum."""
+    """The foot says by the sum whether the module is the one that page/module made of a proved program."""
     found = hashlib.sha256(node.module.read_bytes()).hexdigest()
     proved = page.text("identity").startswith("The program vsm, proved at commit ")
     trials.want("the foot has the module's sum", proved and found in page.text("identity"), page.text("identity"))
@@ -256,7 +257,7 @@ def try_looks(page: BenchPage, trials: Trials) -> None:
             found = page.js(PALE)
             trials.want(f"the contrast {what}, {scheme}", not found, found)
             trials.equal(f"letters that don't follow the browser's, {what}", page.js(probed("letters()")), [])
-        trials.want("the help tells the program's own",
+        trials.want("the help shows the program's own",
             page.wait("document.querySelector('#note pre').textContent.includes('--residence <MODE>')", 10))
         page.js("document.getElementById('note').close()")
         page.run(b" MAP\n", low="x")
@@ -351,8 +352,13 @@ def long_script() -> bytes:
     return b"".join(b" STORAGE OBTAIN,LENGTH=4096,SP=%d\n" % (n % 100 + 1) for n in range(4000))
 
 
+def attach(page: BenchPage, is_on: bool) -> None:
+    """Has the browser report workers, or no longer."""
+    page.browser.call("Target.setAutoAttach", autoAttach=is_on, waitForDebuggerOnStart=False, flatten=True)
+
+
 def workers(page: BenchPage) -> int:
-    """How many workers there are, of those that came since the browser was told to attach to them."""
+    """The number of workers, of those that were started since the browser attaches to them."""
     page.js("0")
     kinds = [it["method"] for it in page.browser.events]
     return kinds.count("Target.attachedToTarget") - kinds.count("Target.detachedFromTarget")
@@ -360,13 +366,12 @@ def workers(page: BenchPage) -> int:
 
 def try_stop(page: BenchPage, trials: Trials) -> None:
     page.open()
-    attached = {"waitForDebuggerOnStart": False, "flatten": True}
-    page.browser.call("Target.setAutoAttach", autoAttach=True, **attached)
+    attach(page, True)
     page.put("high", "1048576")
     page.put("low", "16000")
     page.put("script", long_script().decode())
     page.click("run")
-    trials.want("a run tells how far it is", page.wait("/\\d%/.test(document.getElementById('far').textContent)"),
+    trials.want("a run shows its progress", page.wait("/\\d%/.test(document.getElementById('far').textContent)"),
         page.text("far"))
     trials.want("Stop can be pressed while it runs",
         page.js("!document.getElementById('stop').disabled && !document.getElementById('progress').hidden"))
@@ -376,9 +381,9 @@ def try_stop(page: BenchPage, trials: Trials) -> None:
     while workers(page) and time.monotonic() < end:
         time.sleep(0.1)
     trials.equal("workers that are left", workers(page), 0)
-    page.browser.call("Target.setAutoAttach", autoAttach=False, **attached)
+    attach(page, False)
     page.run(b" BACK 0\n")
-    trials.want("behind a stopped run the next one runs", page.output() == b"0000001 KEPT=0\n", page.text("status"))
+    trials.want("after a stopped run the next one runs", page.output() == b"0000001 KEPT=0\n", page.text("status"))
 
 
 def try_link(page: BenchPage, trials: Trials) -> None:
@@ -392,7 +397,7 @@ def try_link(page: BenchPage, trials: Trials) -> None:
     trials.want("a link brings script and options back", held == [script.decode("latin-1"), "8", "", "31", "7"], held)
     packed = zlib.compress(b"\n" * 1_000_000, 9, -zlib.MAX_WBITS)
     page.open("#script=" + base64.urlsafe_b64encode(packed).decode().rstrip("="))
-    trials.want("a link's script of a million lines is refused in words",
+    trials.want("a link's script of a million lines is refused with a message",
         page.js("document.getElementById('note').open") and "1,000,000 lines" in page.text("note"), page.text("note"))
     bomb = zlib.compress(b"\n" * 100_000_000, 9, -zlib.MAX_WBITS)
     start = time.monotonic()
@@ -401,7 +406,7 @@ def try_link(page: BenchPage, trials: Trials) -> None:
         page.js("document.getElementById('note').open") and time.monotonic() - start < 20, time.monotonic() - start)
     page.open("#script="
         + base64.urlsafe_b64encode(zlib.compress(b"\n" * 20_000_000, 9, -zlib.MAX_WBITS)).decode().rstrip("="))
-    trials.want("one that unpacks to too much is refused in words",
+    trials.want("one that unpacks to too much is refused with a message",
         page.js("document.getElementById('note').open") and "lines" in page.text("note"), page.text("note"))
     page.open("#script=" + "A" * 40)
     trials.want("a link that can't be read is said",
@@ -439,7 +444,7 @@ def try_keeping(page: BenchPage, trials: Trials) -> None:
     trials.want("nor does a link", page.js("document.getElementById('script').value").endswith("more"))
     page.js("localStorage.setItem('nilbozad.own', '[{\"script\":7}, null]')")
     page.open()
-    trials.want("where what was kept is no script the first example stands there",
+    trials.want("if what was kept is no script, the first example is shown",
         page.js("document.getElementById('examples').value") == "first-steps.vsm")
 
 
@@ -468,7 +473,7 @@ REFUSED = {"return.vsm": (b" MAP\n BACK\r 0\n", "line 2, column 6"), "last.vsm":
 
 
 def try_files(page: BenchPage, folder: Path, trials: Trials) -> None:
-    """Files that are opened: which text the editor then has, or why it can't."""
+    """Opened files: the text that the editor then has, or why it has none."""
     page.put("script", "* before\n")
     document = page.browser.call("DOM.getDocument")["root"]["nodeId"]
     field = page.browser.call("DOM.querySelector", nodeId=document, selector="#file")["nodeId"]
@@ -488,7 +493,8 @@ def try_files(page: BenchPage, folder: Path, trials: Trials) -> None:
         wanted = data.decode("latin-1").replace("\r\n", "\n")
         trials.want(f"the file {name} is opened",
             page.wait(f"document.getElementById('script').value === {json.dumps(wanted)}", 20))
-        trials.want("and its name told", name in page.js("document.getElementById('examples').selectedOptions[0].text"))
+        trials.want("and its name shown",
+            name in page.js("document.getElementById('examples').selectedOptions[0].text"))
         page.ended()
     trials.equal("options of its first comment are taken", page.js("document.getElementById('low').value"), "32")
     page.put("low", "")
@@ -499,19 +505,19 @@ def shown_step(page: BenchPage) -> str:
 
 
 def try_beside(page: BenchPage, trials: Trials) -> None:
-    """Replies and the present statement beside the editor; the place over a run; what an edit makes old."""
+    """Replies and the present statement next to the editor; the place after a run; what an edit makes old."""
     page.put("examples", "overlay.vsm", "change")
     page.ended()
     page.wait("document.querySelector('#replies').textContent.includes('ABEND S0C4')", 20)
     replies = page.js("[...document.querySelectorAll('#replies > div')].slice(0, 10).map(it => it.textContent)")
     wanted = [line[8:].decode() for line in (TOP / "examples" / "overlay.out").read_bytes().split(b"\n") if line]
-    trials.equal("the replies beside the editor", replies, wanted)
+    trials.equal("the replies next to the editor", replies, wanted)
     wider = "it => it.scrollWidth > it.clientWidth"
     cut = page.js(f"[...document.querySelectorAll('#replies > div')].filter({wider}).length")
     trials.equal("replies that are cut", cut, 0)
     trials.want("72 columns are in sight",
         page.js("document.getElementById('script').scrollWidth <= document.getElementById('script').clientWidth"))
-    trials.want("there's one script", not page.js("document.querySelector('#picture .script').checkVisibility()"))
+    trials.want("only one script is shown", not page.js("document.querySelector('#picture .script').checkVisibility()"))
     page.js("document.querySelectorAll('#replies > div')[3].click()")
     page.browser.settle()
     trials.want("a reply leads to its statement", shown_step(page).startswith("4 of 10"), shown_step(page))
@@ -530,7 +536,7 @@ def try_beside(page: BenchPage, trials: Trials) -> None:
     trials.want("a run keeps the place",
         page.wait("document.querySelector('.where')?.textContent.startsWith('4 of 10')", 10), shown_step(page))
     order = page.js("[...document.querySelectorAll('#examples optgroup[label=Lessons] option')].map(it => it.value)")
-    trials.equal("the lessons come in their order", order, list(bench.lessons()))
+    trials.equal("the lessons are in their order", order, list(bench.lessons()))
 
 
 def try_teacher(page: BenchPage, trials: Trials) -> None:
@@ -540,7 +546,7 @@ def try_teacher(page: BenchPage, trials: Trials) -> None:
     page.wait("document.querySelector('#output .asked')")
     page.wait("document.querySelector('#picture .question')", 20)
     seen = page.js("document.body.innerText + document.getElementById('output').textContent")
-    trials.want("nothing tells an answer: no status, editor, remark or comment",
+    trials.want("nothing shows an answer: no status, editor, remark or comment",
         not any(it in seen for it in ("Exit status", "none is free", "there is none", "handed out")), seen)
     trials.want("the lesson's question is asked", "Which address does a GET give" in seen, seen)
     texts = "['output', 'picture'].map(it => document.getElementById(it).textContent)"
@@ -548,7 +554,7 @@ def try_teacher(page: BenchPage, trials: Trials) -> None:
     trials.want("in the teacher's mode no answer is shown", hidden == 0, hidden)
     count = page.js("document.querySelectorAll('#output .answer button').length")
     page.js("document.querySelector('#output .answer button').click()")
-    trials.want("an answer comes when it's asked for, and no other",
+    trials.want("an answer is shown on request, and no other",
         page.js("document.querySelector('#output .answer').textContent") == "RC=0 A=00006000 L=00000048"
                and page.js("document.querySelectorAll('#output .answer button').length") == count - 1)
     page.put("examples", "first-steps.vsm", "change")
@@ -592,18 +598,20 @@ def try_saving(page: BenchPage, folder: Path, trials: Trials) -> None:
 
 
 def try_lacks(page: BenchPage, trials: Trials) -> None:
-    """A browser without what is needed says so."""
+    """In a browser that lacks something needed, the page says so."""
     for lack in LACKS:
         script = page.browser.call("Page.addScriptToEvaluateOnNewDocument",
             source=f"delete globalThis.{lack}")["identifier"]
         page.open(ready="document.querySelector('#bench .sentence[role=alert]')")
         said = page.text("bench")
-        trials.want(f"without {lack} there's a sentence", lack.lower()[:6] in said.lower() and said.endswith("."), said)
+        trials.want(f"without {lack} a sentence is shown",
+            lack.lower()[:6] in said.lower() and said.endswith("."), said)
         page.browser.call("Page.removeScriptToEvaluateOnNewDocument", identifier=script)
     throwing = "globalThis.Worker = class { constructor() { throw new Error('no workers here'); } }"
     script = page.browser.call("Page.addScriptToEvaluateOnNewDocument", source=throwing)["identifier"]
     page.open()
-    trials.want("a worker that can't be started is said", "no workers here" in page.text("errors"), page.text("errors"))
+    trials.want("a worker that can't be started is reported", "no workers here" in page.text("errors"),
+        page.text("errors"))
     page.browser.call("Page.removeScriptToEvaluateOnNewDocument", identifier=script)
     plain = page.browser.call("Emulation.setScriptExecutionDisabled", value=True)
     page.browser.call("Page.navigate", url=page.address)
@@ -612,12 +620,12 @@ def try_lacks(page: BenchPage, trials: Trials) -> None:
     while "It needs JavaScript" not in told and time.monotonic() < end:
         time.sleep(0.2)
         told = json.dumps(page.browser.call("Accessibility.getFullAXTree"))
-    trials.want("without JavaScript there's a sentence", "It needs JavaScript" in told, plain)
+    trials.want("without JavaScript a sentence is shown", "It needs JavaScript" in told, plain)
     page.browser.call("Emulation.setScriptExecutionDisabled", value=False)
 
 
 def try_no_network(page: BenchPage, trials: Trials) -> None:
-    """The policy refuses what a script of the page would ask for; that is said on the console, so it's tried last."""
+    """The policy refuses what a script of the page would request; the console reports that, so it's tried last."""
     page.open()
     refused = page.js("""new Promise(done => {
       addEventListener('securitypolicyviolation', event => done(event.effectiveDirective));
@@ -647,18 +655,31 @@ def try_page(page: BenchPage, node: Node, folder: Path, trials: Trials) -> None:
         lambda: try_files(page, folder, trials), lambda: try_beside(page, trials), lambda: try_teacher(page, trials),
         lambda: try_saving(page, folder, trials), lambda: try_lacks(page, trials),
         lambda: try_no_network(page, trials)]
+    run_all(parts, trials)
+
+
+def run_all(parts: list[Callable[[], None]], trials: Trials) -> None:
+    """All parts, also after one that doesn't end."""
     for part in parts:
         try:
             part()
-        except (BrowserFault, OSError, ValueError, TypeError, KeyError) as fault:
-            trials.want("a part of the trials comes to its end", False, f"{type(fault).__name__}: {fault}")
+        except (BrowserFault, OSError, ValueError, TypeError, KeyError, subprocess.SubprocessError) as fault:
+            trials.want("a part of the trials ends", False, f"{type(fault).__name__}: {fault}")
+
+
+def try_made(module: Path, program: str, trials: Trials) -> None:
+    """A module in dist/ is of a program, and as page/module made it."""
+    said = json.loads(module.with_suffix(".json").read_text(encoding="utf-8"))
+    for what, file, sum_of in (("of the program", Path(program), "program"),
+                               ("the one that page/module made", module, "module")):
+        trials.equal(f"the module is {what}", said[sum_of], hashlib.sha256(file.read_bytes()).hexdigest())
 
 
 def try_module(module: Path, browser: Browser, trials: Trials) -> None:
     """All trials of one module and of the bench with it."""
     with tempfile.TemporaryDirectory(prefix="bench-trials-") as name:
-        path = Path(name) / "bench.html"
-        path.write_text(bench.bench_page(module), encoding="utf-8")
+        path, explain = Path(name) / "bench.html", module.with_name("vsm-explain.wasm")
+        path.write_text(bench.bench_page(module, explain if explain.is_file() else None), encoding="utf-8")
         node = Node(module, Path(name))
         try:
             trials.subject = module.name
@@ -670,17 +691,13 @@ def try_module(module: Path, browser: Browser, trials: Trials) -> None:
             node.close()
 
 
-def try_all(trials: Trials, browser: Browser, program: str) -> None:
+def try_all(trials: Trials, browser: Browser, programs: Programs) -> None:
     """The module in dist/, which has to be of this program."""
     trials.subject = "dist/vsm.wasm"
     if not MODULE.is_file():
-        trials.want("the module is there: page/module makes it", False)
+        trials.want("the module exists: page/module makes it", False)
         return
-    said = json.loads(MODULE.with_suffix(".json").read_text(encoding="utf-8"))
-    trials.equal("the module is of the program", said["program"],
-        hashlib.sha256(Path(program).read_bytes()).hexdigest())
-    trials.equal("the module is the one that page/module made", hashlib.sha256(MODULE.read_bytes()).hexdigest(),
-        said["module"])
+    try_made(MODULE, programs.vsm, trials)
     try:
         try_module(MODULE, browser, trials)
     except BuildFault as fault:
@@ -696,7 +713,7 @@ def main(words: list[str]) -> int:
         with Browser() as browser:
             try_module(Path(words[0]) if words else MODULE, browser, trials)
     except (BrowserFault, BuildFault, OSError, ValueError, KeyError) as fault:
-        trials.want("the trials come to their end", False, fault)
+        trials.want("the trials end", False, fault)
     print(f"{trials.passed} passed, {trials.failed} failed")
     return trials.failed != 0
 

@@ -1,12 +1,10 @@
-"""Joins a page's files to one: the styles and the script that its template names, and the data that it's
-given.
+"""Joins a page's files to one: the template's styles and script, and the data passed to it.
 
-A template is an ordinary HTML file. A line `<link rel="stylesheet" href="NAME">` becomes that file's text;
-so does `<script type="module" src="NAME"></script>`, with all modules that it imports, each once and before
-the one that needs it. Modules import by one line, `import { a, b } from './NAME.js';`, and the names that
-they declare at the left margin are unlike each other, since one script has them all in the end.
-`./messages.js` is made here: what docs/MESSAGES.md says of each answer. Data go to the element `<script
-type="application/json" id="ID"></script>`.
+A template is an ordinary HTML file. A line `<link rel="stylesheet" href="NAME">` becomes that file's text; so does
+`<script type="module" src="NAME"></script>`, with all modules that it imports, each once and before those that need
+it. Modules import by one line, `import { a, b } from './NAME.js';`, and all names that they declare at the left margin
+differ, since they end up in one script. `./messages.js` is made here: what docs/MESSAGES.md says of each answer. Data
+go to the element `<script type="application/json" id="ID"></script>`.
 """
 import base64
 import hashlib
@@ -33,7 +31,7 @@ class BuildFault(Exception):
 
 
 def plain(cell: str) -> str:
-    """The words of a cell of a table, without marks of code; a link to a part of another document names it."""
+    """The text of a table's cell, without marks of code; a link to a part of another document names it."""
     words = re.sub(r"\[([^].]*)\]\(([\w.-]+)#[^)]*\)", r"\1 in docs/\2", cell)
     return re.sub(r"\[([^\]]*)\]\([^)]*\)", r"\1", words).replace("`", "").strip()
 
@@ -43,12 +41,12 @@ def table(text: str, heading: str) -> list[list[str]]:
     _, found, below = text.partition(f"\n## {heading}\n")
     rows = [line for line in below.partition("\n## ")[0].split("\n") if line.startswith("|")]
     if not found or len(rows) < 3:
-        raise BuildFault(f"{MESSAGES}: there is no table below '{heading}'")
+        raise BuildFault(f"{MESSAGES}: no table follows '{heading}'")
     return [[cell.strip() for cell in row.strip("|").split("|")] for row in rows[2:]]
 
 
 def texts_of(cell: str) -> list[str]:
-    """The answers that a first cell names: of `ABEND SB78`, `SB0A` the second is ABEND SB0A."""
+    """The answers that a first cell names: in `ABEND SB78`, `SB0A` the second is ABEND SB0A."""
     spans = re.findall(r"`([^`]+)`", cell)
     word = spans[0].split(" ")[0]
     return [span if " " in span or span == spans[0] else f"{word} {span}" for span in spans]
@@ -64,7 +62,7 @@ def messages(text: str) -> list[dict[str, object]]:
 
 
 def lessons() -> dict[str, tuple[str, str]]:
-    """The lessons of examples/README.md in their order: by file, of what each is, and its question."""
+    """The lessons of examples/README.md in their order: title and question by file."""
     text = (HERE.parent / "examples" / "README.md").read_text(encoding="utf-8")
     rows = re.findall(r"^\| \[[\w-]+\]\(([\w.-]+)\) \| (.*?) \| (.*?) \|$", text, re.MULTILINE)
     return {file: (plain(what), plain(question)) for file, what, question in rows}
@@ -79,7 +77,7 @@ def source(name: str) -> str:
 
 
 def modules(entry: str) -> dict[str, str]:
-    """The text of a module and of all that it imports, each behind those that it needs."""
+    """The text of a module and of all that it imports, each after those that it needs."""
     done: dict[str, str] = {}
     begun: set[str] = set()
 
@@ -107,7 +105,7 @@ def declared_in(text: str) -> list[str]:
 
 
 def joined_script(entry: str) -> str:
-    """One script in place of a module and all that it imports."""
+    """One script of a module and all that it imports."""
     parts = modules(entry)
     owners: dict[str, str] = {}
     for name, text in parts.items():
@@ -122,7 +120,7 @@ def joined_script(entry: str) -> str:
 
 
 def as_json(value: object) -> str:
-    """JSON that no text in it can end the element of."""
+    """JSON in which no text can end its element."""
     return json.dumps(value, separators=(",", ":")).replace("<", "\\u003c")
 
 
@@ -134,13 +132,13 @@ def build_page(template: Path, title: str, data: Mapping[str, object]) -> str:
     found = SCRIPT.search(page)
     script = "\n" + joined_script(found[1]) if found else ""
     page = SCRIPT.sub(lambda _: f'<script type="module">{script}</script>', page)
-    # The policy names the one script by its sum: no other one runs.
+    # The policy names this script by its sum: no other one runs.
     digest = base64.b64encode(hashlib.sha256(script.encode()).digest()).decode()
     page = page.replace("script-src 'unsafe-inline'", f"script-src 'sha256-{digest}'", 1)
     for name, value in data.items():
         empty = f'<script type="application/json" id="{name}"></script>'
         before, found, behind = page.partition(empty)
         if not found:
-            raise BuildFault(f"{template}: there is no element for the data '{name}'")
+            raise BuildFault(f"{template}: no element is for the data '{name}'")
         page = before + empty.replace("></", f">{as_json(value)}</") + behind
     return page

@@ -1,4 +1,4 @@
-// Which pages differ between two moments; a page is looked at when it's asked for.
+// The pages that differ between two moments; a page is compared when it's asked for.
 import { PAGE, runsOf } from './map.js';
 import { countOf } from './storage.js';
 
@@ -9,7 +9,7 @@ function differing(list, others) {
   return [...found, ...lengths];
 }
 
-/** Areas outside of which two sides don't differ. */
+/** Areas outside which two sides don't differ. */
 function differences(grants, now, before) {
   const holdersOf = ({ subpools, pools }) =>
     new Map([...subpools.map(it => [`${it.number} ${it.owner}`, it]), ...pools.map(it => [it.name, it])]);
@@ -25,7 +25,7 @@ function differences(grants, now, before) {
   return [...found, ...areas.flatMap(it => it ? [[it.from, it.length || 1]] : [])];
 }
 
-/** The pages that differ between two sides: in their parts, or in bytes that were stored. */
+/** The pages that differ between two sides, in their parts or in stored bytes. */
 export class Changes {
   constructor(grants, now, before) {
     const rows = [...new Set([...now.bytes.keys(), ...before.bytes.keys()])];
@@ -51,7 +51,7 @@ export class Changes {
     return undefined;
   }
 
-  /** What was worked out of one side holds of the other too, where they don't differ. */
+  /** Passes on what was computed for one side to the other, for pages that don't differ. */
   share() {
     const [made, others] = [this.now.pages.made, this.before.pages.made];
     for (const [one, other] of [[made, others], [others, made]])

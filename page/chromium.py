@@ -1,6 +1,6 @@
 """A page in headless Chromium, driven by its debugging pipe: open, evaluate, press keys, take pictures.
 
-It's Python's standard library alone. Each wait has a limit, and what was started is ended by close().
+It uses only Python's standard library. Each wait has a limit, and close() ends everything that was started.
 """
 from __future__ import annotations
 
@@ -17,10 +17,10 @@ from pathlib import Path
 from typing import Any, Optional, Sequence
 
 PROGRAMS = ("chromium", "chromium-browser", "google-chrome")
-SECONDS = 60  # the longest that one answer of the browser may take
+SECONDS = 60  # the limit for one answer of the browser
 INSTALL_SECONDS = 600
 LIMIT = 1 << 20  # bytes that are read at once
-# The next frame, in which what was asked for before is drawn, and the end of all transitions.
+# The next frame, in which earlier requests are drawn, and the end of all transitions.
 DRAWN = """new Promise(requestAnimationFrame)
   .then(() => Promise.all(document.getAnimations().map(it => it.finished.catch(() => null))))
   .then(() => true)"""
@@ -31,7 +31,7 @@ class BrowserFault(Exception):
 
 
 def installed(package: str, programs: Sequence[str]) -> str:
-    """The path of the first of these programs; their package is installed where none is there, as root."""
+    """The path of the first of these programs that exists; if none does, root installs their package."""
     found = next(filter(None, map(shutil.which, programs)), None)
     if not found and os.geteuid() == 0:
         for words in (["update", "-qq"], ["install", "-y", "-qq", package]):
@@ -48,12 +48,12 @@ def installed(package: str, programs: Sequence[str]) -> str:
                 break
         found = next(filter(None, map(shutil.which, programs)), None)
     if not found:
-        raise BrowserFault(f"{programs[0]} isn't there: install the package {package}")
+        raise BrowserFault(f"{programs[0]} is missing: install the package {package}")
     return found
 
 
 class Browser:
-    """One tab of a browser that is started for it."""
+    """One tab of a browser started for it."""
 
     def __init__(self, width: int = 1440, height: int = 900) -> None:
         program = installed("chromium", PROGRAMS)
@@ -66,7 +66,7 @@ class Browser:
         self.of, from_write = os.pipe()
 
         def pipes() -> None:
-            # The browser reads at 3 and writes at 4; both are moved away, so that neither closes the other.
+            # The browser reads at 3 and writes at 4; both are first moved away, so that neither closes the other.
             high = [os.dup(it) for it in (to_read, from_write)]
             high = [it if it > 4 else os.dup(it) for it in high]
             os.dup2(high[0], 3)
@@ -124,7 +124,7 @@ class Browser:
         return json.loads(one)
 
     def call(self, method: str, **given: Any) -> dict[str, Any]:
-        """What the browser answers to a command of its protocol."""
+        """The browser's answer to a command of its protocol."""
         self.number += 1
         message: dict[str, Any] = {"id": self.number, "method": method, "params": given}
         if self.session:
@@ -144,7 +144,7 @@ class Browser:
                 return told["result"]
 
     def evaluate(self, text: str) -> Any:
-        """The value of an expression in the page; that of a promise once it's there."""
+        """The value of an expression in the page; a promise is awaited."""
         told = self.call("Runtime.evaluate", expression=text, awaitPromise=True, returnByValue=True)
         if "exceptionDetails" in told:
             thrown = told["exceptionDetails"]
@@ -155,11 +155,11 @@ class Browser:
         return told["result"].get("value")
 
     def settle(self) -> None:
-        """Waits until what was asked for is drawn."""
+        """Waits until everything requested is drawn."""
         self.evaluate(DRAWN)
 
     def open(self, address: str, ready: str) -> float:
-        """Opens a page, and waits until an expression holds in it; how many seconds that took."""
+        """Opens a page, and waits until an expression holds in it; the seconds that took."""
         self.call("Page.navigate", url="about:blank")
         self.events.clear()
         start = time.monotonic()
@@ -180,7 +180,7 @@ class Browser:
         )
 
     def media(self, kind: str = "", **features: str) -> None:
-        """What the page is told of its medium: media(prefers_color_scheme='dark'), media('print')."""
+        """Sets the page's medium: media(prefers_color_scheme='dark'), media('print')."""
         told = [{"name": name.replace("_", "-"), "value": value} for name, value in features.items()]
         self.call("Emulation.setEmulatedMedia", media=kind, features=told)
 
@@ -193,12 +193,12 @@ class Browser:
         path.write_bytes(base64.b64decode(self.call("Page.captureScreenshot", format="png")["data"]))
 
     def messages(self) -> list[str]:
-        """What was said on the console or thrown since the page was opened."""
+        """What was written to the console or thrown since the page was opened."""
         kinds = ("Log.entryAdded", "Runtime.exceptionThrown", "Runtime.consoleAPICalled")
         return [json.dumps(it["params"])[:300] for it in self.events if it["method"] in kinds]
 
     def requests(self) -> list[str]:
-        """What the page asked for since it was opened, itself among it."""
+        """The page's requests since it was opened, its own included."""
         sent = (
             it["params"]["request"]["url"]
             for it in self.events
@@ -207,7 +207,7 @@ class Browser:
         return [it for it in sent if it != "about:blank"]
 
     def controls(self) -> list[tuple[str, str]]:
-        """Role and name of everything in the page that can have the focus, as a screen reader is told it."""
+        """Role and name of everything in the page that can have the focus, as a screen reader gets them."""
         found = []
         for node in self.call("Accessibility.getFullAXTree")["nodes"]:
             if any(
@@ -217,7 +217,7 @@ class Browser:
         return found
 
     def close(self) -> None:
-        """Ends the browser with all that it started."""
+        """Ends the browser and all that it started."""
         for end in (self.to, self.of):
             try:
                 os.close(end)

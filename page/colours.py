@@ -67,7 +67,7 @@ def seen(colour: str, sight: str) -> Triple:
 
 
 def least_distance(colours: list[str], sight: str) -> float:
-    """The least distance in Lab of any two of these."""
+    """The least distance in Lab between any two of these."""
     places = [seen(colour, sight) for colour in colours]
     return min(
         sum((a - b) ** 2 for a, b in zip(one, other)) ** 0.5

@@ -3,9 +3,9 @@ import { make } from './elements.js';
 import { PAGE } from './map.js';
 
 export const UNIT = 8;
-const MARKED = 24; // a cell is parted from the next where it's drawn at least so many units wide
+const MARKED = 24; // a line separates cells that are at least this many units wide
 
-/** One path of boxes, in rows of so many doublewords. */
+/** One path of boxes, in rows of `wide` doublewords. */
 function boxes(parts, begin, wide) {
   let d = '';
   for (const { from, to } of parts) {
@@ -18,19 +18,19 @@ function boxes(parts, begin, wide) {
   return d;
 }
 
-/** One outline round a range of bytes, over all rows that it has. */
+/** One outline around a range of bytes, over all its rows. */
 export function outline({ from, to }, begin, wide) {
   const first = (from - begin) / UNIT, last = (to - begin) / UNIT - 1;
   const [a, b] = [first % wide, last % wide + 1], [top, row] = [first, last].map(it => Math.floor(it / wide));
-  // Of two rows the ends may not touch: that is two boxes.
+  // The parts in two rows may not touch: then there are two boxes.
   if (top === row || row === top + 1 && b <= a) return boxes([{ from, to }], begin, wide);
   return `M${a} ${top}H${wide}V${row}H${b}V${row + 1}H0V${top + 1}H${a}Z`;
 }
 
-/** The taken parts that touch one before them. */
+/** The taken parts that touch the one before. */
 const touching = parts => parts.filter((it, k) => k && it.kind === 'taken' && parts[k - 1].kind === 'taken');
 
-/** Thin lines where parts begin, but at the page's begin. */
+/** Thin lines where parts begin, except at the page's begin. */
 function lines(parts, begin, wide) {
   const places = parts.map(it => (it.from - begin) / UNIT).filter(it => it > 0);
   return places.map(it => `M${it % wide} ${Math.floor(it / wide)}v1`).join('');
@@ -52,7 +52,7 @@ export function drawingOf(page, granted, wide, scale) {
   path('edge ofcells', lines(page.cells.filter(it => it.whole / UNIT * scale >= MARKED), begin, wide));
   if (granted && granted.from < begin + PAGE && granted.to > begin) {
     const round = { from: Math.max(granted.from, begin), to: Math.min(granted.to, begin + PAGE) };
-    // Two tones: on each colour one of them is seen.
+    // Two tones: one of them is visible on any colour.
     for (const kind of ['granted below', 'granted']) path(kind, outline(round, begin, wide));
   }
   return svg;

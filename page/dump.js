@@ -1,4 +1,4 @@
-// Bytes that were stored in the chosen page, in rows of 16; of a row that has changed also what was there before.
+// Bytes stored in the chosen page, in rows of 16; a changed row also shows the earlier ones.
 import { hex, make } from './elements.js';
 import { PAGE } from './map.js';
 
@@ -11,7 +11,7 @@ const EBCDIC = new Map([
 const bytesIn = digits => digits.match(/../g) ?? [];
 const charactersOf = digits => bytesIn(digits).map(it => EBCDIC.get(parseInt(it, 16)) ?? '.').join('');
 
-/** A row of bytes; those that are other than in another row are marked. */
+/** A row of bytes; those that differ from another row are marked. */
 function rowOf(head, digits, other) {
   const others = bytesIn(other);
   const bytes = bytesIn(digits).flatMap((it, k) => [

@@ -5,7 +5,7 @@ export const hex = value => value.toString(16).toUpperCase().padStart(8, '0');
 export const grouped = value => value.toLocaleString('en');
 export const count = (value, one, many = `${one}s`) => `${grouped(value)} ${value === 1 ? one : many}`;
 
-/** An element with attributes; those that begin with `on` are what it does. What is null is left out. */
+/** An element with attributes; those that begin with `on` are its handlers. Null ones are omitted. */
 export function make(name, values = {}, ...inner) {
   const it = SVG_NAMES.has(name) ? document.createElementNS(SVG, name) : document.createElement(name);
   for (const [key, value] of Object.entries(values)) {
@@ -17,7 +17,7 @@ export function make(name, values = {}, ...inner) {
   return it;
 }
 
-/** Puts nodes in an element in place of what's there; those that are there already stay. */
+/** Replaces an element's nodes; those it already has stay in place. */
 export function put(element, nodes) {
   const wanted = new Set(nodes);
   for (const it of [...element.childNodes]) if (!wanted.has(it)) it.remove();
@@ -34,14 +34,14 @@ const COLOURS = 8;
 /** The colour of a subpool's number: by its rank among all numbers of the run. */
 export const colourOf = (run, number) => `--c:var(--c${Math.max(0, run.numbers.indexOf(number)) % COLOURS})`;
 
-/** A subpool by colour, number and owner; the owner is left out beside its own name. */
+/** A subpool by colour, number and owner; the owner is omitted next to its own name. */
 export function tag(run, subpool, { shared = false, own = false } = {}) {
   const title = `subpool ${subpool.number}, owned by task ${subpool.owner}`;
   return make('span', { class: shared ? 'tag shared' : 'tag', style: colourOf(run, subpool.number), title },
     `SP ${subpool.number}${own ? '' : ` T${subpool.owner}`}`);
 }
 
-/** A line drawing of 16 by 16, beside the label that its button has. */
+/** A line drawing of 16 by 16, next to its button's label. */
 export const icon = (d, filled) => make(
   'svg', {class: filled ? 'icon filled' : 'icon', viewBox: '0 0 16 16', 'aria-hidden': 'true'},
   make('path', {d})

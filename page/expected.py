@@ -1,8 +1,7 @@
-"""What a page has to show, worked out from the page's data without the page's own script.
+"""What a page has to show, derived from the page's data without the page's own script.
 
-Where areas that touch are parted is found in another way than the page does: each accepted statement that
-obtains, and then each extent of a cell pool, paints its doublewords, and a line stands where two neighbours
-were painted by two of these.
+Lines between touching areas are found in another way than in the page: each accepted statement that obtains, and then
+each extent of a cell pool, paints its doublewords, and a line separates neighbours painted by two of these.
 """
 from __future__ import annotations
 
@@ -19,14 +18,14 @@ from vsmtools.bench import Answer, answers
 from vsmtools.maps import PAGE, CellPool, Map, parse_map
 
 UNIT = 8
-MARKED = 24  # units from which on a cell is parted from the next
+MARKED = 24  # the least units of a cell that a line separates from the next
 GRANTED = re.compile(r"RC=0 A=([0-9A-F]{8}) L=([0-9A-F]{8})")
 DATA = re.compile(r'<script type="application/json" id="data">(.*?)</script>', re.DOTALL)
 
 
 @dataclass
 class Page:
-    """A page, and what is in it."""
+    """A page and its data."""
 
     path: Path
     data: dict[str, Any]
@@ -40,12 +39,12 @@ class Page:
 
     @property
     def skipped(self) -> int:
-        """How many answers come before the first map."""
+        """The number of answers before the first map."""
         return int(self.data["skipped"])
 
     @property
     def shown(self) -> list[Answer]:
-        """The answers that have maps before them, in turn."""
+        """The answers that have maps before them, in order."""
         return self.answers[self.skipped + 1 :: 2]
 
     @property
@@ -57,7 +56,7 @@ class Page:
         return parse_map(maps[min(step, len(maps) - 1)].rest)
 
     def changes(self, step: int) -> bool:
-        """Whether the statement of a step changes more than how many changes are kept."""
+        """Whether the statement of a step changes more than the number of kept changes."""
         if any(at == step for at, _, _ in self.data.get("bytes", [])):
             return True
         maps = self.answers[self.skipped :: 2]
@@ -66,7 +65,7 @@ class Page:
         return before != after
 
     def changed_tasks(self, step: int) -> list[int]:
-        """The tasks that are new, or make the requests from now on, or see other subpools than before."""
+        """The tasks that are new, have become the current one, or see other subpools than before."""
 
         def seen(state: Map) -> dict[int, set[int]]:
             return {task.number: {it.number for it in state.subpools if task.number in (it.owner, *it.sharers)}
@@ -81,12 +80,12 @@ class Page:
         return self.answers[: self.skipped] + self.shown[:step]
 
     def line_of(self, answer: Answer) -> int:
-        """The line of the script that an answer is of: the maps put in before it have lines of their own."""
+        """The line of the script that an answer belongs to: the inserted maps before it have lines of their own."""
         return answer.line - max(0, (self.answers.index(answer) - self.skipped + 1) // 2)
 
 
 def history(told: Iterable[Answer], limit: int) -> tuple[list[Answer], list[Answer]]:
-    """The kept answers that stand, oldest first, and those that can be made again."""
+    """The kept answers in effect, oldest first, and those that can be redone."""
     kept: list[Answer] = []
     stand = count = 0
     for answer in told:
@@ -99,8 +98,8 @@ def history(told: Iterable[Answer], limit: int) -> tuple[list[Answer], list[Answ
 
 
 def owners(stand: list[Answer], state: Map) -> dict[int, int]:
-    """By doubleword, which of the standing statements obtained it last; an extent of a cell pool, which a GET
-    may have obtained, is one area."""
+    """By doubleword, which of the standing statements obtained it last; an extent of a cell pool, which a GET may have
+    obtained, is one area."""
     granted = [GRANTED.fullmatch(answer.text) for answer in stand]
     areas = [(int(found[1], 16), int(found[2], 16)) for found in granted if found]
     areas += [(extent.start, extent.length) for pool in state.cell_pools for extent in pool.extents]
@@ -111,7 +110,7 @@ def owners(stand: list[Answer], state: Map) -> dict[int, int]:
 
 
 def area_edges(state: Map, painted: dict[int, int]) -> dict[int, set[float]]:
-    """By page, the doublewords before which a line stands: where two areas touch."""
+    """By page, the doublewords that a line precedes: where two areas touch."""
     edges: dict[int, set[float]] = {}
     for subpool in state.subpools:
         free = {unit for area in subpool.free for unit in range(area.start // UNIT, area.end // UNIT)}
@@ -125,20 +124,20 @@ def area_edges(state: Map, painted: dict[int, int]) -> dict[int, set[float]]:
 
 
 def cells_of(pool: CellPool) -> list[int]:
-    """The addresses of a pool's cells: as many as the counts say, since an extent's length is rounded up."""
+    """The addresses of a pool's cells, by its counts, since an extent's length is rounded up."""
     counts = [pool.secondary if number else pool.primary for number in range(len(pool.extents))]
     return [extent.start + k * pool.size for extent, count in zip(pool.extents, counts) for k in range(count)]
 
 
 def cell_edges(state: Map, page: int, scale: int) -> set[float]:
-    """The places in a page where a cell begins that is wide enough to be parted from others."""
+    """The places in a page where a cell begins that is wide enough for a line."""
     pools = [pool for pool in state.cell_pools if pool.size / UNIT * scale >= MARKED]
     places = [cell - page * PAGE for pool in pools for cell in cells_of(pool)]
     return {place / UNIT for place in places if 0 < place < PAGE}
 
 
 def bytes_by_kind(state: Map) -> dict[str, int]:
-    """How many bytes are taken and free, and how many lie in free cells and in those in use."""
+    """The bytes taken and free, and those in free cells and in cells in use."""
     free_cells = sum(len(pool.free_cells) * pool.size for pool in state.cell_pools)
     all_cells = sum(len(cells_of(pool)) * pool.size for pool in state.cell_pools)
     return {"taken": state.taken, "free": state.free, "freecell": free_cells, "cell": all_cells - free_cells}

@@ -1,29 +1,28 @@
-// What the keys do, and how to read the page.
+// The keys, and how to read the page.
 import { make } from './elements.js';
 
 const KEYS = [
   [['←', '→'], 'one statement back, one on; with Shift ten'],
   [['Page up', 'Page down'], 'a hundred back, a hundred on'],
-  [['Home', 'End'], 'before the first statement, behind the last'],
-  [['[', ']'], 'to the statement before, or behind, that was refused or answered 4'],
+  [['Home', 'End'], 'before the first statement, after the last'],
+  [['[', ']'], 'to the previous or next statement that was refused or answered 4'],
   [['↑', '↓'], 'in the script a statement, in the storage a page'],
   [['Space'], 'play or stop'],
-  [['T'], 'teacher’s mode: answers stay hidden until they’re asked for'],
+  [['T'], 'teacher’s mode: answers stay hidden until you ask for them'],
   [['Enter'], 'in the teacher’s mode: show the answer'],
   [['?'], 'this help'],
 ];
 const TEXTS = [
-  'Each row of the storage is a page of 4,096 bytes; its colour and number are those of its subpool, T ' +
-    'is the owner. A strong colour is taken, a faint one free, also of the cells of a cell pool; thin ' +
-    'lines part areas that touch. A frame is round what the statement was granted, and a dot at what it ' +
-    'changed.',
-  'Over the slider are ticks at what was refused (long), answered 4 (low) and a step (high), the bytes that ' +
-    'are taken (filled), and the pages below (line) and above (dashes) the 16 MB line.',
-  'All that is shown is what vsm printed: a map before and after each statement, and PEEKs of what POKEs ' +
-    'store. Which line obtained an area, and which statements are undone, is worked out from the replies.',
+  'Each row of the storage is a page of 4,096 bytes; its colour and number are those of its subpool, and T ' +
+    'is the owner. A strong colour is taken, a faint one free, also for cells; thin lines separate areas that ' +
+    'touch. A frame surrounds what the statement was granted, and a dot marks what it changed.',
+  'Over the slider are ticks at what was refused (long), answered 4 (low) and a step (high), and curves of the ' +
+    'bytes taken (filled) and of the pages below (line) and above (dashes) the 16 MB line.',
+  'All of it is what vsm printed: a map before and after each statement, and PEEKs of what POKEs store. Only ' +
+    'which line obtained an area, and which statements are undone, is derived from the replies.',
 ];
 
-/** Whether keys of one character act: who speaks to the browser may want none. */
+/** A switch for keys of one character: with speech input they may be in the way. */
 const lettersSwitch = view => make(
   'label', {},
   make('input', { type: 'checkbox', checked: true, onchange: event => { view.hasLetters = event.target.checked; } }),
@@ -43,11 +42,11 @@ export function helpDialog(view) {
   );
 }
 
-/** Asks whether all answers are to be shown. */
+/** Asks whether to show all answers. */
 export function askingDialog(act) {
   return make(
     'dialog', { 'aria-label': 'Show all answers?' }, make('h2', {}, 'Show all answers?'),
-    make('p', {}, 'They show the answers, the remarks and the comments of the whole script.'),
+    make('p', {}, 'That shows the answers, remarks and comments of the whole script.'),
     make(
       'form', { method: 'dialog' }, make('button', { autofocus: true }, 'Keep them hidden'), ' ',
       make('button', { class: 'all', onclick: act }, 'Show all')

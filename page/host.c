@@ -1,6 +1,5 @@
-// What the program calls of the C library, for a WebAssembly module: a heap, and the calls that the host
-// answers. Compiled for wasm64; the module that comes of it is lowered to wasm32, so no address reaches 4
-// GiB.
+// What a program calls of the C library, for a WebAssembly module: a heap, and calls to the host. Compiled for wasm64;
+// the module is then lowered to wasm32, so no address reaches 4 GiB.
 typedef unsigned char byte;
 typedef int i32;
 typedef unsigned int u32;
@@ -13,8 +12,8 @@ FROM_HOST("write") i64 host_write(i32 stream, const byte *from, u64 count);
 FROM_HOST("open") i32 host_open(const char *path, u64 length);
 FROM_HOST("arg") i64 host_argument(u64 index, byte *to, u64 most);
 
-// The heap. A block is a power of two of bytes: 16 bytes before what is handed out hold its power, and, while
-// it's free, the next free block of the same size.
+// The heap. A block's size is a power of two. Its first 16 bytes hold that power and, while it's free, the next free
+// block of the same size; the caller gets the rest.
 enum { LEAST_POWER = 5, GREATEST_POWER = 30, HEAD = 16, WASM_PAGE = 65536, PAGES_AT_ONCE = 64 };
 
 typedef struct Block {
@@ -32,8 +31,7 @@ static u64 heap_end;
 static Block *free_blocks[GREATEST_POWER + 1];
 static byte of_no_bytes[HEAD] __attribute__((aligned(HEAD)));
 
-// Makes the memory reach up to `end`. What memory.grow answers isn't asked: the lowering widens its -1
-// without a sign.
+// Grows the memory up to `end`. The result of memory.grow isn't used: the lowering extends its -1 without a sign.
 static i32 reaches(u64 end) {
   u64 pages = __builtin_wasm_memory_size(0);
   if (end <= pages * WASM_PAGE) return 1;
@@ -81,9 +79,8 @@ Allocated rattle_realloc(byte *old, u64 old_bytes, u64 bytes, u64 alignment) {
   return got;
 }
 
-// The system's calls. The error numbers are Linux's: no such file, and a folder, which is what can't be read
-// here.
-enum { NO_SUCH_FILE = 2, IS_A_FOLDER = 21 };
+// The system's calls. The error numbers are Linux's. A folder is all that can't be read here.
+enum { NO_SUCH_FILE = 2, IS_A_FOLDER = 21, INVALID = 22, RANGE = 34 };
 static i32 error_number;
 
 i32 rattle_errno(void) { return error_number; }
@@ -95,12 +92,19 @@ i64 write(i32 stream, const byte *from, u64 count) { return host_write(stream, f
 i64 __write(i32 stream, const byte *from, u64 count) { return host_write(stream, from, count); }
 i32 close(i32 stream) { return 0; }
 i32 isatty(i32 stream) { return 0; }
-// The text of an error is shown to a terminal, which no stream is here.
 i32 __xpg_strerror_r(i32 number, byte *to, u64 most) {
-  if (most) *to = 0;
-  return 0;
+  const char *text = number == NO_SUCH_FILE ? "No such file or directory"
+                     : number == IS_A_FOLDER ? "Is a directory" : "Invalid argument";
+  for (u64 i = 0; i < most; i++)
+    if (!(to[i] = text[i])) return 0;
+  return RANGE;
 }
 i64 __sysv_signal(i32 number, i64 handler) { return 0; }
+// There is no clock: a program reads one only to show its progress at a terminal.
+i32 clock_gettime(i32 clock, void *to) {
+  error_number = INVALID;
+  return -1;
+}
 
 i64 read(i32 stream, byte *to, u64 most) {
   i64 count = host_read(stream, to, most);
@@ -116,13 +120,13 @@ i32 open(const char *path, i32 flags, ...) {
   return stream;
 }
 
-// A program built for x86-64-v2 asks at its start what the processor has. Here: all.
+// A program built for x86-64-v2 asks at its start which features the processor has. Here: all.
 const byte *__x86_get_cpuid_feature_leaf(u32 leaf) {
   static const u32 all[16] = {-1, -1, -1, -1, -1, -1, -1, -1, -1, -1, -1, -1, -1, -1, -1, -1};
   return (const byte *)all;
 }
 
-// What the compiler itself calls by name.
+// Functions that the compiler itself calls by name.
 i32 memcmp(const void *left, const void *right, u64 count) {
   const byte *a = left, *b = right;
   for (u64 i = 0; i < count; i++)

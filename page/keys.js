@@ -4,12 +4,12 @@ const isOther = target => target.closest?.('textarea, select, [contenteditable],
 
 const SCROLLING = ['PageUp', 'PageDown', 'Home', 'End', ' '];
 
-/** Whether the page, or what the view is in, is scrolled: then the keys that scroll are the browser's. */
+/** Whether the page or the view's container scrolls: then the scrolling keys are the browser's. */
 const isScrolled = container =>
   [document.documentElement, container].some(it => it.scrollHeight > it.clientHeight + 1 &&
     (it === document.documentElement || getComputedStyle(it).overflowY !== 'visible'));
 
-/** What to do at a key: the view's own where the focus is in it, or nowhere. */
+/** Handles a key if the focus is in the view, or nowhere. */
 export function keysOf(view) {
   const inScript = event => event.target === view.script.element;
   function upDown(event, by) {
@@ -39,7 +39,7 @@ export function keysOf(view) {
     const { target } = event;
     const here =
       target === document.body || target === document.documentElement || view.container.contains(target);
-    // Some keyboards have [ and ] behind AltGr, which is told as Ctrl and Alt too.
+    // Some keyboards need AltGr for [ and ], and it's reported as Ctrl and Alt too.
     const isPlain = event.getModifierState('AltGraph') || !(event.ctrlKey || event.altKey || event.metaKey);
     if (!here || !isPlain || view.dialog.open || view.asking.open || isOther(target)) return;
     if (SCROLLING.includes(event.key) && isScrolled(view.container) && target.type !== 'range') return;

@@ -1,4 +1,4 @@
-// The chosen page, near by: 8 rows of 64 doublewords, and its parts as a list.
+// The chosen page, enlarged: 8 rows of 64 doublewords, and its parts as a list.
 import { colourOf, hex, make, put, tag } from './elements.js';
 import { drawingOf, UNIT } from './drawing.js';
 import { dumpOf } from './dump.js';
@@ -7,7 +7,7 @@ import { PAGE } from './map.js';
 const WIDE = 64, ROWS = PAGE / UNIT / WIDE, SCALE = 8;
 const KINDS = { taken: 'taken', free: 'free', cell: 'cell', freecell: 'free cell' };
 
-/** The parts of a page with its cells in place of the extents that hold them, in order. */
+/** The parts of a page in order, with cells in place of their extents. */
 function listOf(page) {
   const covered = part =>
     part.kind === 'taken' && page.cells.some(cell => cell.from < part.to && cell.to > part.from);
@@ -18,7 +18,7 @@ export function lensPart(view) {
   const element = make('section', { class: 'lens', 'aria-label': 'The chosen page', hidden: true });
 
   const list = make('ol', { tabindex: 0, 'aria-label': 'Parts of the page' });
-  let names = new Map(), items = new Map(); // by address; by all that they show
+  let names = new Map(), items = new Map(); // by address; by everything they show
 
   function named(part) {
     return {
@@ -26,7 +26,7 @@ export function lensPart(view) {
       names: names.get(hex(part.from)) ?? ''
     };
   }
-  /** By which line a part was obtained, and a way there. */
+  /** The line that obtained a part, as a link. */
   function byLine({ k }) {
     if (k === undefined) return null;
     const text = `by line ${view.run.statements[k].line}`, step = k - view.run.skipped + 1;
@@ -40,7 +40,7 @@ export function lensPart(view) {
       here && make('b', {}, ` ${here}`), byLine(part)
     );
   }
-  /** The items of a page's parts; those that look as before are taken again. */
+  /** The items of a page's parts; unchanged ones are reused. */
   function itemsOf(page) {
     const known = items;
     items = new Map();

@@ -1,10 +1,10 @@
-// What vsm printed for a script with maps put in, and the states that these maps show.
+// What vsm printed for a script with inserted maps, and the states that these maps show.
 export const PAGE = 4096;
 
-/** What can't be shown, as a sentence for the page. */
+/** Why something can't be shown, as a sentence for the page. */
 export class Sentence extends Error {}
 
-/** The text that data hold: as it is (`text`), or compressed by gzip and in base64 (`output`). */
+/** The text in the data: plain (`text`), or compressed by gzip and in base64 (`output`). */
 async function textOf(data) {
   if (typeof data?.script !== 'string') throw new Sentence('This page is damaged: it has no data of a run.');
   if (typeof data.text === 'string') return data.text;
@@ -17,9 +17,8 @@ async function textOf(data) {
   }
 }
 
-/** Where each answer begins (a map's lines begin with a blank, and belong to the answer before them), and
-    what comes up in any map: the numbers of subpools, and the pages that are assigned, in runs. It's one pass
-    over the text. */
+/** The places where answers begin (a map's lines begin with a blank, and belong to the answer before them), and what
+    occurs in any map: the numbers of subpools, and the assigned pages, in runs. It's one pass over the text. */
 function survey(text) {
   const answers = [], numbers = new Set(), extents = new Set();
   for (let at = 0; at < text.length; at = text.indexOf('\n', at) + 1 || text.length) {
@@ -31,7 +30,7 @@ function survey(text) {
   return { answers, numbers: [...numbers].map(Number).sort((a, b) => a - b), runs: runsOf(areas) };
 }
 
-/** Areas as runs of pages, from and to, ascending; each page is in one. */
+/** Areas as ascending runs of pages, from and to; each page is in exactly one. */
 export function runsOf(areas) {
   const runs = [];
   for (const [first, length] of areas.toSorted((a, b) => a[0] - b[0])) {
@@ -44,8 +43,7 @@ export function runsOf(areas) {
 
 const areaIn = words => [parseInt(words[1], 16), parseInt(words[2], 16)];
 
-/** What a line of a map adds to a state; extents and free areas belong to the subpool or cell pool before
-    them. */
+/** What a line of a map adds to a state; extents and free areas belong to the subpool or cell pool before them. */
 const LINES = {
   TASK: (state, words) => state.tasks.push({
     number: +words[1],
@@ -84,7 +82,7 @@ const LINES = {
   HISTORY: (state, words) => Object.assign(state, { kept: +words[2], limit: +words[4] }),
 };
 
-/** The state that the map at a place of the text shows. */
+/** The state shown by the map at a place of the text. */
 function parseMap(text, at) {
   const state = { tasks: [], subpools: [], pools: [], names: [], holder: null };
   for (at = text.indexOf('\n', at) + 1; at && text.charCodeAt(at) === 32;) {
@@ -96,11 +94,11 @@ function parseMap(text, at) {
     at = end + 1;
   }
   if (!state.tasks.length || state.limit === undefined)
-    throw new Sentence('What vsm printed lacks a map where one should be.');
+    throw new Sentence('What vsm printed lacks a map.');
   return state;
 }
 
-/** A run: the statements that were answered, and the state before and behind each that has maps. */
+/** A run: the answered statements, and the states before and after each that has maps. */
 export class Run {
   constructor(data, text) {
     const { answers, numbers, runs } = survey(text);
@@ -123,9 +121,8 @@ export class Run {
     return new Run(data, await textOf(data));
   }
 
-  /** Behind the answers before the first map, a map and an answer come by turns. The last map is missing
-      where the script ends within a statement. A map put in takes a line, so that the numbers of those
-      behind it are one higher. */
+  /** After the answers before the first map, a map and an answer alternate. The last map is missing if the script ends
+      inside a statement. An inserted map takes a line, so the numbers of the lines after it are one higher. */
   readAnswers(answers) {
     const reply = at => this.text.slice(at + 8, this.text.indexOf('\n', at));
     const line = at => parseInt(this.text.slice(at, at + 7), 10);
@@ -133,7 +130,7 @@ export class Run {
     this.statements = answers.slice(0, this.skipped).map(at => ({ line: line(at), reply: reply(at) }));
     for (let k = this.skipped; k < answers.length; k += 2) {
       if (reply(answers[k]) !== 'MAP')
-        throw new Sentence(`What vsm printed lacks the map behind ${this.statements.length} statements.`);
+        throw new Sentence(`What vsm printed lacks the map after ${this.statements.length} statements.`);
       this.maps.push(answers[k]);
       if (k + 1 < answers.length)
         this.statements.push({ line: line(answers[k + 1]) - this.maps.length, reply: reply(answers[k + 1]) });
@@ -141,24 +138,24 @@ export class Run {
     this.atLine = new Map(this.statements.map((it, k) => [it.line, k - this.skipped + 1]));
   }
 
-  /** The statement of a step; that of step 1 is the first one with maps. */
+  /** The statement of a step; step 1 is the first one with maps. */
   statement(step) {
     return this.statements[this.skipped + step - 1];
   }
 
-  /** The state behind a step's statement; behind step 0 that before the first. */
+  /** The state after a step's statement; for step 0, that before the first. */
   stateAt(step) {
     return parseMap(this.text, this.maps[Math.min(step, this.maps.length - 1)]);
   }
 
-  /** How many bytes are taken at a step, and how many the pages below and above the 16 MB line have. */
+  /** The bytes taken at a step, and those of the pages below and above the 16 MB line. */
   totalsAt(step) {
     const at = this.text.indexOf('\n PAGES ', this.maps[Math.min(step, this.maps.length - 1)]);
     const words = this.text.slice(at + 2, this.text.indexOf(' FREE ', at)).split(/\s/);
     return { taken: +words[12], low: +words[2] * PAGE, high: +words[6] * PAGE };
   }
 
-  /** The bytes at a step of all rows of 16 in which a POKE of the run stores: digits by address. */
+  /** The bytes at a step in all rows of 16 in which a POKE of the run stores: digits by address. */
   bytesAt(step) {
     const rows = new Map();
     for (const [at, row, digits] of this.bytes) {
@@ -169,8 +166,7 @@ export class Run {
     return rows;
   }
 
-  /** The lines of a step's statement: from where it begins on, as long as there is a character in column
-      72. */
+  /** The lines of a step's statement: from its first one, while there is a character in column 72. */
   linesOf(step) {
     const first = this.statement(step).line;
     let last = first;
@@ -179,7 +175,7 @@ export class Run {
     return [first, last];
   }
 
-  /** The step of whose statement a line is; undefined of a comment and of an empty line. */
+  /** The step whose statement a line belongs to; undefined for a comment or an empty line. */
   stepAt(number) {
     for (let line = number; line > 0; line--) {
       const step = this.atLine.get(line);

@@ -1,4 +1,4 @@
-// What an answer means, in the words of docs/MESSAGES.md.
+// The meaning of an answer, in the words of docs/MESSAGES.md.
 import { MESSAGES } from './messages.js';
 
 /** An answer without its own values: `RC=0 A=00006000` is `RC=0 A=`. */
@@ -13,12 +13,11 @@ const wordsOf = text => text.toUpperCase().split(/[^A-Z0-9]+/).filter(Boolean);
 /** The operation of a statement and the word of its first operand: neither its name nor its remarks. */
 const operationOf = statement => wordsOf(/^\S*\s+(\S+(?:\s+[^\s,=]+)?)/.exec(statement)?.[1] ?? '');
 
-/** The statements that stand before the colon of `STORAGE with COND=YES, CPOOL GET: ..`, each as its
-    words. */
+/** The statements before the colon of `STORAGE with COND=YES, CPOOL GET: ..`, each as its words. */
 const labelsOf = head =>
   head.split(', ').flatMap(it => it.replace(/ with .*/, '').split(/ and | or /)).map(wordsOf);
 
-/** A meaning by the statements that it's of: `RUN, ENDTASK: the task ..` is one part, of RUN or ENDTASK. */
+/** A meaning by its statements: `RUN, ENDTASK: the task ..` is one part, of RUN or ENDTASK. */
 function partsOfMeaning(meaning) {
   const parts = [];
   for (const sentence of meaning.split(/(?<=\.) /)) {
@@ -32,9 +31,9 @@ function partsOfMeaning(meaning) {
 
 const capital = text => text && text[0].toUpperCase() + text.slice(1);
 
-/** What an answer to a statement means, and what it leaves or what to do about it. Where the document
-    tells statements apart, the parts are taken whose words stand in the statement; where none do, those
-    without, else all. */
+/** What an answer to a statement means, and what it leaves or what to do about it. If the document distinguishes
+    statements, these are the parts whose words are in the statement; if there are none, the parts without words; else
+    all. */
 export function meaningOf(reply, statement) {
   const rows = BY_FORM.get(formOf(reply)) ?? [];
   const all = rows.flatMap(row => partsOfMeaning(row.meaning).map(part => ({ ...part, row })));

@@ -1,30 +1,38 @@
-// What the program's module asks of its host; the same in a browser's worker and in node.
+// What a program's module needs of its host; the same in a browser's worker and in node.
 
 /** A text's characters as bytes; each has to be below 256. */
 export const latin = text => Uint8Array.from(text, it => it.charCodeAt(0));
 
-/** Bytes as a text, one character for each. (A TextDecoder has no such encoding: its latin1 is another one.)
-    */
+/** Bytes as a text, one character for each. (A TextDecoder has no such encoding: its latin1 differs.) */
 export function latinText(bytes) {
   let text = '';
   for (let at = 0; at < bytes.length; at += 0x8000) text += String.fromCharCode(...bytes.subarray(at, at + 0x8000));
   return text;
 }
 
-/** Runs the program with words (bytes each) and streams of its caller, and returns the exit status.
-    `read(stream, room)` fills the front of the room and returns how many bytes these are; `write(stream,
-    bytes)` returns how many it took; `open(path)` returns a stream. Each may answer -1, which the program
-    takes for a failure. */
+/** Pieces of bytes, joined. */
+export function joinedBytes(pieces) {
+  const whole = new Uint8Array(pieces.reduce((sum, it) => sum + it.length, 0));
+  let at = 0;
+  for (const piece of pieces) {
+    whole.set(piece, at);
+    at += piece.length;
+  }
+  return whole;
+}
+
+/** Runs the program with arguments (bytes each, its name first) and its caller's streams, and returns the exit
+    status. `read(stream, room)` fills the first bytes of the room and returns their number; `write(stream, bytes)`
+    returns the number of bytes written; `open(path)` returns a stream. Each may return -1 for a failure. */
 export function runProgram(module, words, streams) {
   let memory;
-  const told = [latin('vsm'), ...words];
   const bytesAt = (at, count) => new Uint8Array(memory.buffer, Number(at), Number(count));
   const env = {
     read: (stream, to, most) => BigInt(streams.read(stream, bytesAt(to, most))),
     write: (stream, from, count) => BigInt(streams.write(stream, bytesAt(from, count))),
     open: (path, length) => streams.open(bytesAt(path, length)),
     arg(index, to, most) {
-      const word = told[Number(index)];
+      const word = words[Number(index)];
       if (!word) return -1n;
       bytesAt(to, most).set(word.subarray(0, Number(most)));
       return BigInt(word.length);

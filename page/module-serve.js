@@ -1,12 +1,12 @@
-// Runs the module in node, once for each line of standard input, a job: words, script, files (each in
-// base64), and whether each read gives one byte alone. For each it writes a line: status, output and errors
-// (in base64), and what it has read.
+// Runs a module in node, once for each line of standard input, a job: arguments, script, files (each in base64), and
+// whether each read gives only one byte. For each it writes a line: status, output and errors (in base64), and the
+// number of bytes read of the script. Its own arguments are the module and the program's name.
 import fs from 'node:fs';
 import readline from 'node:readline';
-import { latinText, runProgram } from './module-host.js';
+import { latin, latinText, runProgram } from './module-host.js';
 
 const FOLDER = 100, FIRST_FILE = 101;
-const program = new WebAssembly.Module(fs.readFileSync(process.argv[2]));
+const program = new WebAssembly.Module(fs.readFileSync(process.argv[2])), programName = latin(process.argv[3]);
 
 function done({ words, script, files, slowly }) {
   const written = { 1: [], 2: [] }, names = Object.keys(files);
@@ -29,7 +29,7 @@ function done({ words, script, files, slowly }) {
       return bytes.length;
     },
   };
-  const status = runProgram(program, words.map(it => Buffer.from(it, 'base64')), streams);
+  const status = runProgram(program, [programName, ...words.map(it => Buffer.from(it, 'base64'))], streams);
   return { status, output: Buffer.concat(written[1]).toString('base64'),
     errors: Buffer.concat(written[2]).toString('base64'), read: at[0] };
 }

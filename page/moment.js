@@ -1,12 +1,11 @@
-// What is shown at a step: the states before and behind its statement, and what follows from the replies up
-// to it.
+// What is shown at a step: the states before and after its statement, and what follows from the replies up to it.
 import { Changes } from './changes.js';
 import { areaOf, Grants, isKept, standing, stepsOf } from './replies.js';
 import { Pages } from './storage.js';
 
-const MOST_SIDES = 3; // that are kept of a run: one step on or back works out one more
+const MOST_SIDES = 3; // that are kept of a run: a step back or on computes one more
 
-/** What of a run is worked out once: what its replies do and grant, and its last sides. */
+/** What is computed once for a run: what its replies do and grant, and its last sides. */
 function pastOf(run) {
   const replies = run.past ? [] : run.statements.map(it => it.reply);
   return run.past ??= { changes: stepsOf(replies), grants: new Grants(replies), sides: new Map() };
@@ -16,7 +15,7 @@ function sideOf(run, step) {
   const { sides } = pastOf(run), side = sides.get(step) ?? madeSide(run, step);
   sides.delete(step);
   sides.set(step, side);
-  if (sides.size > MOST_SIDES) sides.delete(sides.keys().next().value); // looked at longest ago
+  if (sides.size > MOST_SIDES) sides.delete(sides.keys().next().value); // the least recently used
   return side;
 }
 
@@ -32,7 +31,7 @@ function madeSide(run, step) {
   return { state, stand, stands, again, kept, pages, bytes: run.bytesAt(step) };
 }
 
-/** The steps whose statements were kept and don't stand: undone, whether they can be made again or not. */
+/** The steps whose statements were kept and aren't in effect: undone, whether they can be redone or not. */
 const undoneOf = (run, { stands }) => ({
   has(step) {
     const k = run.skipped + step - 1;
@@ -50,8 +49,7 @@ function grantedAt(run, step, state) {
   return { from: area.from, to: area.from + (area.length || (pool?.size ?? 8)) };
 }
 
-/** The moment behind a step's statement. Where nothing changed is asked for (`still`), none is granted and
-    none changed. */
+/** The moment after a step's statement. With `still`, nothing is granted and nothing has changed. */
 export function momentOf(run, step, still) {
   const now = sideOf(run, step), before = step && !still ? sideOf(run, step - 1) : now;
   return {

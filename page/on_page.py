@@ -12,14 +12,14 @@ from trials import Trials
 
 HERE = Path(__file__).resolve().parent
 READY = "document.querySelector('.where')?.textContent || document.querySelector('.sentence[role=alert]')"
-STILL = {"prefers_reduced_motion": "reduce"}  # nothing is waited for then
-MOST_STEPS = 200  # of a page whose drawings are summed up
+STILL = {"prefers_reduced_motion": "reduce"}  # so there is nothing to wait for
+MOST_STEPS = 200  # of a page whose drawings are added up
 IN_PAGE = PAGE // UNIT  # doublewords
 WIDE, ROWS = 64, 8  # of the chosen page, in doublewords
 
 
 def probed(call: str) -> str:
-    """An expression that asks page/probe.js."""
+    """An expression that calls page/probe.js."""
     return f"(() => {{ {(HERE / 'probe.js').read_text(encoding='utf-8')}; return probe.{call}; }})()"
 
 
@@ -51,12 +51,12 @@ def step_of(browser: Browser) -> int:
 
 
 def total(boxes: list[list[float]]) -> float:
-    """How many bytes boxes cover."""
+    """The bytes that boxes cover."""
     return sum(end - first for first, _, end in boxes) * UNIT
 
 
 def places(edges: list[list[float]], wide: int) -> set[float]:
-    """Where lines stand, in doublewords, of a drawing in rows of so many."""
+    """The places of lines, in doublewords, of a drawing in rows of `wide`."""
     return {row * wide + at for at, row in edges}
 
 
@@ -65,7 +65,7 @@ def by_page(strips: dict[int, dict[str, Any]], kind: str) -> dict[int, set[float
 
 
 def try_storage(trials: Trials, page: Page, step: int, drawn: dict[str, Any]) -> None:
-    """The pages that are drawn at a step, against the map and the replies."""
+    """The pages drawn at a step, against the map and the replies."""
     state = page.map_at(step)
     strips = {int(number): it for number, it in drawn["pages"].items()}
     wanted = bytes_by_kind(state)
@@ -107,7 +107,7 @@ def try_storage(trials: Trials, page: Page, step: int, drawn: dict[str, Any]) ->
 
 
 def stored_in(page: Page, step: int, number: int) -> list[list[object]]:
-    """The rows of a page that POKEs have stored in, as far as they aren't zero, or weren't a step before."""
+    """The rows of a page in which POKEs have stored, as far as they aren't zero, or weren't a step before."""
     seen: list[dict[int, str]] = []
     for last in (step - 1, step):
         rows = {row: text for at, row, text in page.data["bytes"] if at <= last}
@@ -117,7 +117,7 @@ def stored_in(page: Page, step: int, number: int) -> list[list[object]]:
 
 
 def try_history(trials: Trials, page: Page, step: int, drawn: dict[str, Any]) -> None:
-    """What is struck through, as far as it's in sight, and what is told of the history."""
+    """What is struck through, as far as it's in sight, and what is shown of the history."""
     state, told = page.map_at(step), page.answers_to(step)
     stand, again = history(told, state.history)
     undone = {page.line_of(it) for it in told if it.is_kept} - {page.line_of(it) for it in stand}
@@ -130,7 +130,7 @@ def try_history(trials: Trials, page: Page, step: int, drawn: dict[str, Any]) ->
 
 
 def without_groups(drawn: dict[str, Any]) -> dict[str, Any]:
-    """Its numbers without the commas of thousands."""
+    """A text whose numbers have no commas between thousands."""
     texts = {name: drawn[name].replace(", ", "; ").replace(",", "") for name in ("totals", "history")}
     return {**drawn, **{name: text.replace("; ", ", ") for name, text in texts.items()}}
 
@@ -153,8 +153,8 @@ WINDOWS = (
 
 
 def try_cards(trials: Trials, browser: Browser, page: Page) -> None:
-    """At each step the statement and its reply can be read, in windows from a phone's to a desk's, and what
-    the statement changed has a dot."""
+    """At each step the statement and its reply can be read, in windows from a phone's to a desktop's, and what the
+    statement changed has a dot."""
     steps = list(range(1, page.steps + 1))
     for width, height in WINDOWS:
         browser.size(width, height)
@@ -210,7 +210,7 @@ def try_keys(trials: Trials, browser: Browser, page: Page) -> None:
 
 
 def try_play_and_help(trials: Trials, browser: Browser, page: Page) -> None:
-    if page.steps > 1:  # it stops by itself after the last one
+    if page.steps > 1:  # it stops by itself after the last step
         browser.key("Home")
         browser.key(" ")
         trials.equal("space plays", attribute_of(browser, ".play", "aria-pressed"), "true")
@@ -265,29 +265,29 @@ def try_focus(trials: Trials, browser: Browser, page: Page) -> None:
 
 
 def try_question(trials: Trials, browser: Browser, page: Page, step: int) -> None:
-    """The answer of a step is hidden, and shown once it's asked for."""
+    """The answer of a step is hidden, and shown on request."""
     reply, before, behind = page.shown[step - 1].text, page.map_at(step - 1), page.map_at(step)
     told = browser.evaluate(probed("told()"))
     hidden = all(reply not in told[place] for place in ("said", "live", "value"))
-    # A reply of two letters may well stand in the statement's own text.
+    # The statement's own text may well contain a reply of two letters.
     trials.want(f"the answer {step} is hidden", hidden or len(reply) < 4, told)
     trials.want(
-        f"no answer from {step} on is told", len(told["replies"]) < page.skipped + step, told["replies"]
+        f"no answer from {step} on is shown", len(told["replies"]) < page.skipped + step, told["replies"]
     )
     totals = told["totals"].replace(",", "")
     trials.want(f"the storage before {step} is shown", totals.startswith(f"{before.taken} byte"), totals)
     assigned = before.low_assigned + before.high_assigned
-    trials.want(f"no page is told that comes by {step}", told["rows"] <= assigned, told["rows"])
+    trials.want(f"no page that step {step} assigns is shown", told["rows"] <= assigned, told["rows"])
     browser.key("]")
     trials.equal("no hidden refusal is looked up", step_of(browser), step)
     browser.key("Enter")
     trials.equal(f"Enter shows the answer {step}", text_of(browser, ".said strong"), reply)
     totals = text_of(browser, ".bytes").replace(",", "")
-    trials.want(f"the storage behind {step} is shown", totals.startswith(f"{behind.taken} byte"), totals)
+    trials.want(f"the storage after {step} is shown", totals.startswith(f"{behind.taken} byte"), totals)
 
 
 def try_teacher(trials: Trials, browser: Browser, page: Page) -> None:
-    """Answers are hidden until they're asked for, statement by statement."""
+    """Answers are hidden until you ask for them, statement by statement."""
     browser.key("Home")
     browser.key("t")
     trials.equal("the switch", attribute_of(browser, ".teacher", "aria-checked"), "true")
@@ -299,7 +299,7 @@ def try_teacher(trials: Trials, browser: Browser, page: Page) -> None:
         browser.key("End")
         told = browser.evaluate(probed("told()"))
         trials.want(
-            "far ahead nothing is told", len(told["replies"]) <= page.skipped + asked, told["replies"]
+            "far ahead nothing is shown", len(told["replies"]) <= page.skipped + asked, told["replies"]
         )
         press(browser, ".ask")
         trials.equal("the button shows the answers", text_of(browser, ".said strong"), page.shown[-1].text)
@@ -317,7 +317,7 @@ def try_controls(trials: Trials, browser: Browser) -> None:
 
 
 def try_themes(trials: Trials, browser: Browser) -> None:
-    """Names and contrast, light and dark; nothing moves where that isn't wanted."""
+    """Names and contrast, light and dark; nothing moves if reduced motion is set."""
     for scheme in ("light", "dark"):
         browser.media(prefers_color_scheme=scheme, **STILL)
         for key in ("Home", "End"):
@@ -342,7 +342,7 @@ def try_sizes(trials: Trials, browser: Browser) -> None:
     trials.equal("print: nothing is cut", browser.evaluate(probed("cut()")), [])
     trials.equal("print: nothing is torn", browser.evaluate(probed("torn()")), [])
     printed = browser.call("Page.printToPDF", printBackground=False)["data"]
-    trials.want("print: a document comes", len(printed) > 1000)
+    trials.want("print: a document is made", len(printed) > 1000)
     browser.media(**STILL)
     for width in (420, 800, 1100):
         browser.size(width, 900)
@@ -353,7 +353,7 @@ def try_sizes(trials: Trials, browser: Browser) -> None:
             at = step_of(browser)
             for key in ("Home", "PageDown", " "):
                 browser.key(key)
-                trials.equal(f"{width} wide: where the page is scrolled, the key '{key}' doesn't step",
+                trials.equal(f"{width} wide: if the page scrolls, the key '{key}' doesn't step",
                     step_of(browser), at)
     browser.size(1440, 900)
 
@@ -372,7 +372,7 @@ def try_address(trials: Trials, browser: Browser, page: Page, address: str) -> N
 
 
 def try_page(trials: Trials, browser: Browser, path: Path, keys: bool = True, looks: bool = True) -> None:
-    """What a page shows, and as far as wanted its keys and its looks."""
+    """What a page shows, and, if asked for, its keys and its looks."""
     page, address = Page.of(path), path.resolve().as_uri()
     trials.subject = path.name
     browser.media(**STILL)
@@ -380,7 +380,7 @@ def try_page(trials: Trials, browser: Browser, path: Path, keys: bool = True, lo
     browser.open(address, READY)
     browser.settle()
     trials.equal(
-        "how many statements there are", int(attribute_of(browser, ".time input", "max")), page.steps
+        "the number of statements", int(attribute_of(browser, ".time input", "max")), page.steps
     )
     trials.equal("the foot says which program it was", text_of(browser, "footer"), page.data.get("program"))
     browser.key("End")

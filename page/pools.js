@@ -1,9 +1,9 @@
-// The cell pools: each cell a box in its extent, the one to be handed out next framed.
+// The cell pools: each cell is a box in its extent, and the next one to be handed out is framed.
 import { colourOf, count, hex, make, panel, tag } from './elements.js';
 
 const SIDE = 12, IN_ROW = 22, NEXT = 4;
 
-/** How a cell is drawn, by its place among those that are free. */
+/** How a cell is drawn, by its place among the free ones. */
 function kindOfCell(place) {
   if (place === undefined) return 'cell';
   return place ? 'freecell' : 'freecell next';

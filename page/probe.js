@@ -1,10 +1,10 @@
-// What trials ask of a page: what is drawn there, and how it looks. It's given to the browser as it stands.
+// What trials ask of a page: what is drawn, and how it looks. It's passed to the browser as it is.
 const probe = {
   /** The boxes of a path: from and to, in doublewords, and the row. */
   boxes: path => [...path.getAttribute('d').matchAll(/M([\d.]+) (\d+)H([\d.]+)/g)]
     .map(it => [+it[1], +it[2], +it[3]]),
 
-  /** The lines of a path: the doubleword before which each stands, and the row. */
+  /** The lines of a path: the doubleword before which each is, and the row. */
   edges: path => [...path.getAttribute('d').matchAll(/M([\d.]+) (\d+)v1/g)].map(it => [+it[1], +it[2]]),
 
   drawing: svg => ({
@@ -41,24 +41,24 @@ const probe = {
     };
   },
 
-  /** What is shown at each of some steps; the slider is moved as a hand would. */
+  /** What is shown at each of some steps; the slider is moved as by hand. */
   async at(steps, look = probe.shown) {
     const slider = document.querySelector('.time input'), all = [], frame = window.requestAnimationFrame;
-    window.requestAnimationFrame = act => { // what is asked for is drawn at once, and nothing painted
+    window.requestAnimationFrame = act => { // what is asked for is drawn at once, and nothing is painted
       queueMicrotask(act);
       return null;
     };
     for (const step of steps) {
       slider.value = step;
       slider.dispatchEvent(new Event('input'));
-      await new Promise(requestAnimationFrame); // the view has asked for this frame before, and draws first
+      await new Promise(requestAnimationFrame); // the view asked for this frame earlier, and draws first
       all.push(look());
     }
     window.requestAnimationFrame = frame;
     return all;
   },
 
-  /** How many dots there are at a step, and what of the statement and its reply can't be read in the card. */
+  /** The number of dots at a step, and what of the statement and its reply can't be read in the card. */
   card() {
     const box = document.querySelector('.said').getBoundingClientRect();
     const isCut = it => {
@@ -73,7 +73,7 @@ const probe = {
     };
   },
 
-  /** Of all lines of the script what is cut, and what is other than the line. */
+  /** The lines of the script that are cut, or differ from the script. */
   async script(lines) {
     const box = document.querySelector('.script'), bad = new Set();
     for (let at = 0; ; at += box.clientHeight) {
@@ -100,7 +100,7 @@ const probe = {
     }
   },
 
-  /** All places where an answer could be told. */
+  /** All places where an answer could be shown. */
   told: () => ({
     replies: [...document.querySelectorAll('.line .reply')].map(it => it.textContent)
       .filter(it => it && it !== '?'),
@@ -112,7 +112,7 @@ const probe = {
     totals: document.querySelector('.bytes').textContent,
   }),
 
-  /** How far colours, the lowest first, stand out from a ground of such: the ratio of WCAG. */
+  /** The contrast of colours, the lowest first, to a ground of such: the ratio of WCAG. */
   contrast(over, ground) {
     const canvas = document.createElement('canvas').getContext('2d', { willReadFrequently: true });
     const light = layers => {
@@ -129,14 +129,14 @@ const probe = {
     return (high + .05) / (low + .05);
   },
 
-  /** The colours that stand behind what is in an element, the lowest first. */
+  /** The background colours of an element, the lowest first. */
   ground(element) {
     const layers = [];
     for (let at = element; at; at = at.parentElement) layers.unshift(getComputedStyle(at).backgroundColor);
     return layers;
   },
 
-  /** Texts and icons in an element, and the frames of some controls, that stand out too little. */
+  /** Texts and icons in an element, and the frames of some controls, whose contrast is too low. */
   pale(root, framed) {
     const pale = [], known = new Map();
     const seen = it => it.getClientRects().length && it.checkVisibility() && !it.closest('.unseen');
@@ -161,7 +161,7 @@ const probe = {
     return pale;
   },
 
-  /** In forced colours: how the parts of a page are filled, and whether what is chosen is framed. */
+  /** In forced colours: how the parts of a page are filled, and whether chosen things are framed. */
   forced() {
     const of = (part, what) => {
       const it = document.querySelector(part);
@@ -178,10 +178,10 @@ const probe = {
   moving: () => [...document.querySelectorAll('.run *')]
     .filter(it => parseFloat(getComputedStyle(it).transitionDuration) > 0).length,
 
-  /** Which of these can be seen. */
+  /** Which of these are visible. */
   visible: parts => parts.filter(it => document.querySelector(it).checkVisibility()),
 
-  /** What has letters that stay as large as they are where the browser's own become twice as large. */
+  /** The elements whose letters don't grow when the browser's own become twice as large. */
   letters() {
     const shown = [...document.body.querySelectorAll('*')]
       .filter(it => it.checkVisibility() && (it.textContent.trim() || it.matches('textarea, input[inputmode]')));
@@ -192,12 +192,12 @@ const probe = {
     return [...new Set(shown.filter((_, k) => after[k] < 1.9 * before[k]).map(it => it.className || it.localName))];
   },
 
-  /** What has more than it shows, upright. */
+  /** The elements with more than they show, vertically. */
   cut: () => [...document.querySelectorAll('.columns, .storage, .side, .said, .regions')]
     .filter(it => it.scrollHeight > it.clientHeight + 2 && getComputedStyle(it).overflowY !== 'visible')
     .map(it => it.className),
 
-  /** What may be torn by the end of a printed page. */
+  /** The elements that the end of a printed page may cut. */
   torn: () => [...document.querySelectorAll('.panel, .said, .lens, .region .page')]
     .filter(it => it.checkVisibility() && getComputedStyle(it).breakInside !== 'avoid').map(it => it.className),
 
@@ -205,7 +205,7 @@ const probe = {
   wide: () => [document.documentElement.scrollWidth, ...[...document.querySelectorAll('.storage, .side')]
     .filter(it => it.scrollWidth > it.clientWidth).map(it => it.className)],
 
-  /** The number of the script's line that a screen reader is told of. */
+  /** The number of the script's line that a screen reader reads out. */
   active() {
     const id = document.querySelector('.script').getAttribute('aria-activedescendant');
     return +document.getElementById(id).querySelector('.number').textContent;

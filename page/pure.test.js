@@ -1,7 +1,8 @@
-// Trials of what needs no browser: replies, meanings, and the parts of pages. tools/tests/test_view.py runs
-// them in node, joined with what they import.
+// Trials of what needs no browser: replies, meanings, questions, and the parts of pages. tools/tests/test_view.py runs
+// them in node, joined with their imports.
 import assert from 'node:assert';
 import test from 'node:test';
+import { placesIn, shell, whoAsked } from './explain-questions.js';
 import { meaningOf } from './meanings.js';
 import { withoutRemarks } from './remarks.js';
 import { runsOf } from './map.js';
@@ -15,19 +16,19 @@ const partsAt = (pages, page) => pages.get(page).parts.map(it => [it.from, it.to
 const stands = (replies, limit) => standing(stepsOf(replies), limit);
 const piecesAt = (replies, page, extents = []) => new Grants(replies).piecesAt(page, () => true, extents);
 
-test('a step back takes the last ones, a step on gives them back', () => {
+test('a step back takes the last ones, a step forward returns them', () => {
   const replies = ['RC=0 A=00006000 L=00000008', 'RC=4', 'KEPT=0', 'KEPT=2'];
   assert.deepEqual(stands(replies.slice(0, 3), 9), { stand: [], again: [1, 0], kept: 0 });
   assert.deepEqual(stands(replies, 1024), { stand: [0, 1], again: [], kept: 2 });
   assert.deepEqual(stands(replies.slice(0, 2), 1), { stand: [0, 1], again: [], kept: 1 });
 });
 
-test('a statement that is kept ends what was undone, and one that is refused does not', () => {
+test('a kept statement drops what was undone, and a refused one does not', () => {
   assert.deepEqual(stands(['OK', 'KEPT=0', 'ABEND S0C4'], 9).again, [0]);
   assert.deepEqual(stands(['OK', 'KEPT=0', 'T=2'], 9), { stand: [2], again: [], kept: 1 });
 });
 
-test('a kept answer that is not known makes another count than the map has', () => {
+test('an unknown kept answer makes the count differ from the map', () => {
   assert.equal(stands(['RC=0', 'STORED'], 9).kept, 1);
 });
 
@@ -36,7 +37,7 @@ test('the kinds of replies', () => {
   for (const [reply, kind] of Object.entries(kinds)) assert.equal(kindOf(reply), kind);
 });
 
-test('areas that touch are parted, and each has its statement', () => {
+test('areas that touch are separated, and each has its statement', () => {
   const replies = ['RC=0 A=00006000 L=00000010', 'RC=0 A=00006010 L=00000008'];
   const state = { subpools: [subpool([[0x6000, 0x1000]], [[0x6018, 0xFE8]])], pools: [] };
   const pages = new Pages(state, page => piecesAt(replies, page), () => new Map());
@@ -45,7 +46,7 @@ test('areas that touch are parted, and each has its statement', () => {
   ]);
 });
 
-test('what is left of an area keeps its statement, on both sides of what came into it', () => {
+test('what is left of an area keeps its statement, on both sides of a later area', () => {
   const replies = ['RC=0 A=00006000 L=00000018', 'RC=0', 'RC=0 A=00006008 L=00000008'];
   const areas = piecesAt(replies, 6).map(it => [it.from, it.to, it.k]);
   assert.deepEqual(areas, [[0x6008, 0x6010, 2], [0x6000, 0x6008, 0], [0x6010, 0x6018, 0]]);
@@ -68,8 +69,7 @@ test('areas are runs of pages, each page once', () => {
   assert.deepEqual(runsOf([[0x9000, 0x1000], [0x6000, 0x2000]]), [[6, 8], [9, 10]]);
 });
 
-/** A run of states and replies by chance, each state perhaps that before it: what is shown of a page follows from
-    both. */
+/** A random run of states and replies; a state may equal the one before. What is shown of a page follows from both. */
 function runByChance(seed) {
   const chance = most => (seed = (seed * 1103515245 + 12345) % 2147483648, Math.floor(seed / 65536) % most);
   const some = (count, act) => Array.from({ length: count }, (_, k) => act(k)).filter(() => chance(2));
@@ -96,7 +96,7 @@ function runByChance(seed) {
   };
 }
 
-test('a page differs just if its parts do, and what is taken over from the step before is so', () => {
+test('a page differs exactly if its parts do, and what is reused from the step before is right', () => {
   const seen = it => it && [it.key, it.parts, it.cells.map(({ pool, ...cell }) => cell)];
   for (let seed = 1; seed <= 40; seed++) {
     const run = runByChance(seed), fresh = step => momentOf({ ...run, past: null }, step, true).pages;
@@ -122,12 +122,12 @@ test('a meaning is of the operation, and not of remarks, operands or a name', ()
   assert.match(meaningOf('RC=4', ' CPOOL GET,C,CPID=CP').meaning, /no cell is free/i);
 });
 
-test('what is advised can be followed', () => {
+test('advice can be followed', () => {
   assert.equal(meaningOf('FAULT VALUE', ' RUN X').more.text, 'See Values in docs/STATEMENTS.md.');
   assert.deepEqual(meaningOf('NEW', ' RUN X'), { meaning: '', more: null });
 });
 
-test('remarks go, and operands stay', () => {
+test('remarks are dropped, and operands stay', () => {
   const shown = {
     ' CPOOL GET,C,CPID=CP   none is free: 4': ' CPOOL GET,C,CPID=CP', ' MAP   half of it': ' MAP',
       ' ENDTASK  and ends': ' ENDTASK',
@@ -143,4 +143,36 @@ test('lines wrap after blanks, and nothing is lost', () => {
   assert.deepEqual(wrapped('* one two three', 8), ['* one ', 'two ', 'three']);
   assert.deepEqual(wrapped('   LONGWORD', 5), ['   LO', 'NGWOR', 'D']);
   assert.deepEqual(wrapped('', 5), ['']);
+});
+
+test('who is asked about the bytes or the area of a statement, or about all changes', () => {
+  const granted = "line 1: 16 bytes (X'10'), subpool 1, below the line\n  answered: RC=0 A=00006000 L=00000010\n";
+  const released = "line 5: release of 32 bytes (X'20') at 00006100 from subpool 7\n  answered: RC=0\n";
+  const asked = {
+    [granted]: '--taken 00006000', [released]: '--taken 00006100',
+    'line 3: 4 bytes stored at 00006010\n  answered: OK\n': '00006010 4',
+    'line 3: 1 byte at 00006010\n  answered: D=C1\n': '00006010 1',
+    'line 9: cell 00006000 back to cell pool CP\n  answered: RC=0\n': '--taken 00006000',
+    'line 2: steps back: 1\n  the page of 00006000\n  answered: KEPT=1\n': '--log', '': '--log'
+  };
+  for (const [why, question] of Object.entries(asked)) assert.equal(whoAsked(why), question);
+});
+
+test('places of faults mark an operand, a word, or a dropped line', () => {
+  const script = ' STORAGE OBTAIN,LENGHT=8,SP=1\n REST\n';
+  const long = placesIn('a:1:2: VALUE: x\na:1:10: VALUE: x\na:1:22: OPERAND: x', " X'A, B',LOC=(E,24),(8,9");
+  assert.deepEqual(long.map(it => it.length), [7, 10, 1]);
+  const output = 'standard input:1:17: OPERAND: no operand of STORAGE OBTAIN; LENGTH?\n' +
+    'a:b 1:2:1: NOT CARRIED OUT: line 1 has 2:1: in column 72\nx:3:1: WARNING: a tab\n';
+  assert.deepEqual(placesIn(output, script), [
+    { line: 1, column: 17, text: 'OPERAND: no operand of STORAGE OBTAIN; LENGTH?', length: 8 },
+    { line: 2, column: 1, text: 'NOT CARRIED OUT: line 1 has 2:1: in column 72', length: 5 },
+    { line: 3, column: 1, text: 'WARNING: a tab', length: 1 }
+  ]);
+  assert.deepEqual(placesIn('', script), []);
+});
+
+test('arguments are quoted for a shell', () => {
+  const words = ['who', "X'6000'", 'a b.vsm', '--low', '16', ''];
+  assert.equal(shell(words), "who 'X'\\''6000'\\''' 'a b.vsm' --low 16 ''");
 });

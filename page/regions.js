@@ -1,12 +1,12 @@
-// The two regions: a row for each page that is assigned at any time of the run, so that rows keep their
-// places. In the teacher's mode that would tell what comes: there only the pages of the moment have rows.
+// The two regions: a row for each page that is assigned at any time of the run, so that rows keep their places. In the
+// teacher's mode that would reveal later answers: there only the pages of the moment have rows.
 import { colourOf, count, grouped, hex, make, put, tag } from './elements.js';
 import { drawingOf } from './drawing.js';
 import { PAGE, runsOf } from './map.js';
 
 const LOW = 0x6000, HIGH = 0x8000000;
-const MOST_ROWS = 400, STRIDE = 100; // of a region with more, rows round the chosen page are shown, moved by strides
-const MANY_ROWS = 100; // they fill the height that is left, so that no layout has to ask how high they are
+const MOST_ROWS = 400, STRIDE = 100; // of a region with more, rows around the chosen page are shown, moved by strides
+const MANY_ROWS = 100; // they fill the remaining height, so that no layout has to measure them
 const LEGEND = [
   ['taken', 'taken'], ['free', 'free'], ['cell', 'cell in use'], ['freecell', 'free cell'],
   ['unassigned', 'not assigned']
@@ -28,7 +28,7 @@ const clipped = (runs, first, end) =>
   runs.map(it => [Math.max(it[0], first), Math.min(it[1], end)]).filter(it => it[0] < it[1]);
 const countIn = runs => runs.reduce((sum, it) => sum + it[1] - it[0], 0);
 
-/** The numbers of pages, from one place among those of runs up to another. */
+/** The numbers of pages, from one place in the runs up to another. */
 function pagesIn(runs, from, to) {
   const found = [];
   let at = 0;
@@ -42,7 +42,7 @@ function pagesIn(runs, from, to) {
 export function regionsPart(view) {
   const { run } = view, element = make('div', { class: 'regions' }), rows = new Map();
 
-  /** The row of a page; one that looks as before is taken again. */
+  /** The row of a page; an unchanged one is reused. */
   function rowOf(number) {
     const { pages, granted } = view.moment;
     const page = pages.get(number), changed = view.moment.changed.has(number);
@@ -75,7 +75,7 @@ export function regionsPart(view) {
     const { state, before } = view.moment;
     return runsOf([...state.subpools, ...before.subpools].flatMap(it => it.extents));
   }
-  /** From which to which of a region's pages have rows: all, or as many as can be drawn round the chosen one. */
+  /** The range of a region's pages that have rows: all, or as many as can be drawn around the chosen one. */
   function windowOf(pages) {
     const most = countIn(pages);
     if (most <= MOST_ROWS) return [0, most];
@@ -105,12 +105,12 @@ export function regionsPart(view) {
     else gap(end - next, unassigned);
     return list;
   }
-  /** Draws a region in its section: rows that look as before stay where they are. */
+  /** Draws a region in its section: unchanged rows stay in place. */
   function drawRegion(section, first, size, assigned) {
     section.firstChild.lastChild.textContent = `${grouped(assigned)} of ${count(size, 'page')} assigned`;
     put(section, [section.firstChild, ...listOf(first, first + size)]);
   }
-  /** Scrolls to the chosen row, where the regions are scrolled by themselves and it's out of sight. */
+  /** Scrolls to the chosen row, if the regions scroll by themselves and it's out of sight. */
   function reveal() {
     const row = element.querySelector(`[data-page="${view.chosen}"]`);
     if (!row || element.scrollHeight <= element.clientHeight) return;
@@ -129,7 +129,7 @@ export function regionsPart(view) {
     element.parentElement.classList.toggle('full', element.querySelectorAll('.page').length > MANY_ROWS);
     reveal();
   }
-  /** To the page so many rows further, where a row has the focus. */
+  /** To the page this many rows further, if a row has the focus. */
   function move(row, by) {
     const all = [...element.querySelectorAll('.page')], next = all[all.indexOf(row) + by];
     if (next) view.choose(+next.dataset.page);

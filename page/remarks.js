@@ -1,4 +1,4 @@
-// What of a statement's lines is the statement, and what is remarks: those may tell the answer.
+// Which part of a statement's lines is the statement, and which is remarks: these may reveal the answer.
 const BARE = /^\S*\s+(?:MAP|ENDTASK)(?=\s|$)/i, FIRST = /^\S*\s+\S+\s*/;
 const LAST = 71, CONTINUED_FROM = 15;
 

@@ -1,13 +1,12 @@
-// What follows from the replies: which statements stand, and what each of them obtained.
+// What follows from the replies: which statements are in effect, and what each of them obtained.
 import { PAGE } from './map.js';
 
 const KEPT = -2, NOTHING = -1;
-const NEAR = 16, CHUNK = 256; // pages: longer areas than these are looked up by as many
+const NEAR = 16, CHUNK = 256; // pages: areas longer than NEAR are looked up by CHUNK
 
 export const isKept = reply => /^(RC=|T=|OK)/.test(reply);
 
-/** How a reply is shown: as kept, as a step back or forward, as answered 4, as refused, or as nothing of
-    these. */
+/** How a reply is shown: as kept, a step back or forward, return code 4, refused, or none of these. */
 export function kindOf(reply) {
   if (/^(ABEND|REFUSED|FAULT)/.test(reply)) return 'refused';
   if (reply === 'RC=4') return 'four';
@@ -15,13 +14,13 @@ export function kindOf(reply) {
   return isKept(reply) ? 'kept' : 'shown';
 }
 
-/** What each reply does to the history: one change more is kept, so many are kept then, or nothing. */
+/** What each reply does to the history: it keeps one more change, or sets the number of kept ones, or does nothing. */
 export const stepsOf = replies => Int32Array.from(
   replies, it => isKept(it) ? KEPT : it.startsWith('KEPT=') ? +it.slice(5) : NOTHING
 );
 
-/** Which of the first `count` statements stand then, and which can be made again. A kept one pushes; a step
-    tells how many changes are kept then, and pops or pushes back as many. */
+/** Which of the first `count` statements are then in effect, and which can be redone. A kept one is pushed; a step says
+    how many changes are kept after it, and that number are popped or pushed back. */
 export function standing(steps, limit, count = steps.length) {
   const stand = [], again = [];
   let kept = 0;
@@ -39,7 +38,7 @@ export function standing(steps, limit, count = steps.length) {
   return { stand, again, kept };
 }
 
-/** The address of what a reply grants, and its length; a cell has none in its reply. */
+/** The address and length of what a reply grants; a cell's reply has no length. */
 export function areaOf(reply) {
   const found = /^RC=0 A=(\w{8})(?: L=(\w{8}))?$/.exec(reply);
   return found && { from: parseInt(found[1], 16), length: found[2] ? parseInt(found[2], 16) : 0 };
@@ -65,9 +64,9 @@ export class Grants {
     return new Map(stand.flatMap(k => this.areas[k]?.length === 0 ? [[this.areas[k].from, k]] : []));
   }
 
-  /** The areas in a page that standing statements obtained, and extents of cell pools, in pieces: from, to, and
-      the statement (none for an extent). An area comes where all was free, so nothing that was there before is
-      left of it: the last one is looked at first. */
+  /** The areas in a page that standing statements obtained, and extents of cell pools, in pieces: from, to, and the
+      statement (none for an extent). An area is granted only in free storage, so earlier areas there are gone: the
+      last one is looked at first. */
   piecesAt(page, isStanding, extents) {
     const pieces = [];
     let open = [[page * PAGE, (page + 1) * PAGE]];

@@ -1,10 +1,9 @@
-// The statement, its reply, and what that means; in the teacher's mode a question in place of an answer not
-// yet asked for.
+// The statement, its reply, and what that means; in the teacher's mode a question in place of a hidden answer.
 import { count, make } from './elements.js';
 import { meaningOf } from './meanings.js';
 import { kindOf } from './replies.js';
 
-/** What a step says, in one line for those who listen. */
+/** A step in one line, for screen readers. */
 export function spoken(view) {
   if (!view.step) return 'Before the first statement.';
   const statement = view.textOfStatement(view.step), { reply } = view.run.statement(view.step);
@@ -15,7 +14,7 @@ export function spoken(view) {
 
 const muted = text => make('p', { class: 'muted' }, text);
 
-/** What an answer leaves, or what to do about it: folded, until it's once asked for. */
+/** What an answer leaves, or what to do about it: folded until it's first opened. */
 function moreOf(view, { head, text }) {
   const ontoggle = event => { view.isMoreOpen = event.target.open; };
   return make(
@@ -51,7 +50,7 @@ export function saidPart(view) {
       make('strong', { class: kindOf(reply) }, reply), make('p', {}, meaning), ...more ? [moreOf(view, more)] : []
     ];
   }
-  /** Where the map's history isn't what the replies come to, the page doesn't know all of vsm's answers. */
+  /** If the map's history isn't what the replies add up to, the page doesn't know all of vsm's answers. */
   function warning() {
     const { kept, state } = view.moment;
     return kept === state.kept ? [] : [make(

@@ -5,7 +5,7 @@ import { kindOf } from './replies.js';
 
 const BEYOND = 8, GAP = 2; // lines beyond those in sight; characters between a statement and its reply
 
-/** A text in rows of so many characters, broken after a blank where there is one. */
+/** A text in rows of at most `most` characters, broken after a blank if there is one. */
 export function wrapped(text, most) {
   const rows = [];
   for (let from = 0; from < text.length || !rows.length;) {
@@ -31,21 +31,21 @@ export function scriptPart(view) {
     onscroll: () => drawLines()
   });
 
-  /** The reply at the step of a line, and how it looks. */
+  /** The reply at the step of a line, and its kind. */
   function replyOf(step) {
     if (step === undefined) return ['', ''];
     if (step > view.told) return ['?', 'asked'];
     const { reply } = run.statement(step);
     return [reply, kindOf(reply)];
   }
-  /** A line in rows, and its reply in rows; the first of these may stand beside the line's last one. */
+  /** A line in rows, and its reply in rows; a reply may be next to the line's last row. */
   function rowsOf(number, most) {
     const [reply] = replyOf(run.atLine.get(number)), text = wrapped(view.textOfLine(number).trimEnd(), most);
     const replies = reply ? wrapped(reply, most) : [];
     const isBeside = replies.length === 1 && text.at(-1).length + GAP + reply.length <= most;
     return { text, replies, isBeside, count: text.length + (isBeside ? 0 : replies.length) };
   }
-  /** Where each line begins, in pixels; worked out anew where the width or what is told is other. */
+  /** The tops of the lines, in pixels; computed again if the width or the shown answers have changed. */
   function lay() {
     const style = getComputedStyle(box), row = Math.round(1.6 * parseFloat(style.fontSize));
     const key = [box.clientWidth, style.font, view.told, view.teaching].join();
@@ -99,7 +99,7 @@ export function scriptPart(view) {
     const end = Math.min(run.lines.length, lineAt(box.scrollTop + box.clientHeight) + BEYOND);
     const [from, to] = view.step ? run.linesOf(view.step) : [0, 0];
     const numbers = new Set(Array.from({ length: end - first + 1 }, (_, k) => first + k));
-    if (from) numbers.add(from); // it's what is active, in sight or not
+    if (from) numbers.add(from); // it's the active one, in sight or not
     box.replaceChildren(
       make('div', { class: 'whole', role: 'presentation', style: `height:${layout.tops.at(-1)}px` }),
       ...[...numbers].map(it => lineOf(it, from, to))

@@ -1,4 +1,4 @@
-// The page that tools/vsm-view makes: one run, whose data stand in the page.
+// The page that tools/vsm-view makes: one run, with its data in the page.
 import { showRun } from './view.js';
 
 function dataOfPage() {

@@ -1,11 +1,11 @@
-// The assigned pages of a state: whose each is, its parts from byte to byte, and its cells. Each is worked out
-// when it's asked for: a region may have 262,144.
+// The assigned pages of a state: whose each is, its parts from byte to byte, and its cells. Each is computed when it's
+// asked for: a region may have 262,144.
 import { PAGE } from './map.js';
 
 const byAddress = (a, b) => a.first - b.first;
 const endOf = ([first, length]) => first + length;
 
-/** How many of ascending things hold in front. */
+/** How many of the first of ascending items satisfy a condition. */
 export function countOf(list, holds) {
   let low = 0, high = list.length;
   while (low < high) {
@@ -16,8 +16,8 @@ export function countOf(list, holds) {
   return low;
 }
 
-/** The parts of a page, in order: free ones as the subpool's free areas say, the others taken, cut where
-    areas are parted, each with the statement that obtained it. */
+/** The parts of a page, in order: the subpool's free areas are free, the rest is taken, cut where areas meet, each with
+    the statement that obtained it. */
 function partsOf(begin, free, pieces) {
   const parts = [], edges = pieces.flatMap(it => [it.from, it.to]).sort((a, b) => a - b);
   const push = (from, to) =>
@@ -41,8 +41,8 @@ function partsOf(begin, free, pieces) {
   return parts;
 }
 
-/** The cells of a pool's extent that reach a page, cut there, each with whether it's free, and the statement that
-    got it. */
+/** The cells of a pool's extent that reach into a page, cut at its ends, each with whether it's free, and the statement
+    that got it. */
 function cellsOf({ first, pool, count, free }, begin, gets) {
   const from = Math.max(0, Math.floor((begin - first) / pool.size));
   const to = Math.min(count, Math.ceil((begin + PAGE - first) / pool.size));
@@ -58,8 +58,8 @@ function cellsOf({ first, pool, count, free }, begin, gets) {
   });
 }
 
-/** `piecesAt(page, extents)` answers which statement obtained which piece of a page, and `gets()` which one handed
-    out the cell at an address. */
+/** `piecesAt(page, extents)` returns which statement obtained which piece of a page, and `gets()` which one handed out
+    the cell at an address. */
 export class Pages {
   constructor(state, piecesAt, gets) {
     Object.assign(this, { piecesAt, gets, made: new Map() });
@@ -88,7 +88,7 @@ export class Pages {
     return this.subpoolAt(page) !== undefined;
   }
 
-  /** A page, or nothing where it isn't assigned; `key` is other where anything in it is. */
+  /** A page, or nothing if it isn't assigned; `key` differs if anything in it does. */
   get(page) {
     if (!this.made.has(page)) this.made.set(page, this.pageOf(page));
     return this.made.get(page);

@@ -2,10 +2,10 @@
 import { count, grouped, make, panel, tag } from './elements.js';
 import { PAGE } from './map.js';
 
-export const MOST_SUBPOOLS = 400; // of more, those of one task are shown
+export const MOST_SUBPOOLS = 400; // of more, only those of one task are shown
 const sum = areas => areas.reduce((total, [, length]) => total + length, 0);
 
-/** Pages, taken and free bytes of a subpool; or nothing where there's none. */
+/** Pages, taken and free bytes of a subpool; or nothing if there is none. */
 const sizesOf = subpool =>
   subpool ? [sum(subpool.extents) / PAGE, sum(subpool.extents) - sum(subpool.free), sum(subpool.free)] : [];
 
@@ -15,7 +15,7 @@ function subpoolRow(view, subpool, was, shared) {
     shared ? make('td', { class: 'text sharers' }, subpool.sharers.map(it => `T${it}`).join(' ')) : null);
 }
 
-/** The rows of the subpools: of very many only those that the shown task sees, and those that changed. */
+/** The rows of the subpools: of very many, only those that the shown task sees and those that changed. */
 function subpoolRows(view, shared) {
   const { state, before } = view.moment, { number } = view.task;
   const known = new Map(before.subpools.map(it => [`${it.number} ${it.owner}`, it]));
@@ -55,7 +55,7 @@ export function namesPart(view) {
   return { element, draw };
 }
 
-/** A bar in proportion: its parts in turn, of a whole. */
+/** A bar divided in proportion to its parts. */
 const barOf = (whole, ...parts) => make(
   'div', { class: 'share', 'aria-hidden': 'true' },
   ...parts.map(it => make('i', { style: `width:${whole ? 100 * it / whole : 0}%` }))

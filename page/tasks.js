@@ -20,14 +20,14 @@ function branchOf(view, parent, seen) {
     : null;
 }
 
-/** Whether a task is new, or has begun or ceased to share or own a subpool, or makes the requests now. */
+/** Whether a task is new, has begun or ceased to share or own a subpool, or has become the current one. */
 function isChanged({ before }, task, { now, earlier }) {
   const was = before.tasks.find(it => it.number === task.number);
   const numbers = ({ owned, shared }) => [...owned, ...shared].map(it => it.number).sort((a, b) => a - b).join();
   return !was || task.current && !was.current || numbers(now(task.number)) !== numbers(earlier(task.number));
 }
 
-/** Tasks that the statement ended, which the tree has no more. */
+/** Tasks that the statement ended, which are no longer in the tree. */
 function endedOf({ state, before }) {
   const ended = before.tasks.filter(was => !state.tasks.some(it => it.number === was.number));
   return ended.length
@@ -35,7 +35,7 @@ function endedOf({ state, before }) {
     : null;
 }
 
-/** The subpools of a task; of very many only how many they are, but of the shown one. */
+/** The subpools of a task; of very many only their number, except for the shown task. */
 function tagsOf(view, task, { owned, shared }) {
   if (view.moment.state.subpools.length > MOST_SUBPOOLS && task.number !== view.task.number)
     return [make('span', { class: 'muted' }, `${count(owned.length, 'subpool')}, ${shared.length} shared`)];

@@ -1,4 +1,4 @@
-// The head of the page: what is run, where it stands, and how to move: ticks, slider and buttons.
+// The head of the page: the run, the present statement, and how to move: ticks, slider and buttons.
 import { grouped, icon, make } from './elements.js';
 import { kindOf } from './replies.js';
 
@@ -13,8 +13,8 @@ const ICONS = {
   last: 'M12 3v10M3.5 3l5 5-5 5',
 };
 
-/** Marks over the slider: what was refused, answered 4, or is a step. In a long script a mark stands for
-    several statements, and is the paler the fewer of them are of its kind. */
+/** Marks over the slider: refused, return code 4, and steps. In a long script a mark is for several statements, and is
+    the paler the fewer of them are of its kind. */
 function ticksOf(run, told) {
   const svg = make('svg', {
     class: 'ticks',
@@ -40,8 +40,8 @@ function ticksOf(run, told) {
   return svg;
 }
 
-/** Curves over the slider, as far as answers are told: bytes taken (filled), and the bytes of pages below and
-    above the 16 MB line. */
+/** Curves over the slider, as far as answers are shown: bytes taken (filled), and the bytes of pages below and above
+    the 16 MB line. */
 function curvesOf(run, told) {
   const svg = make('svg', {
     class: 'ticks curves', preserveAspectRatio: 'none', viewBox: `0 0 ${Math.max(1, run.steps)} 1`,

@@ -1,5 +1,13 @@
-"""Counts what was tried, and tells what failed."""
+"""Counts trials, and prints those that fail."""
 from __future__ import annotations
+
+from typing import NamedTuple
+
+
+class Programs(NamedTuple):
+    """The paths of the programs that pages are compared with."""
+    vsm: str
+    explain: str
 
 
 class Trials:
@@ -9,7 +17,7 @@ class Trials:
         self.subject = ""
 
     def want(self, what: str, holds: object, found: object = "") -> None:
-        """One trial: what should be so, whether it is, and where it isn't what was found."""
+        """One trial: what should hold, whether it does, and what was found if it doesn't."""
         if holds:
             self.passed += 1
             return
@@ -17,4 +25,4 @@ class Trials:
         print(f"FAIL {self.subject}: {what}{f' ({str(found)[:300]})' if str(found) else ''}", flush=True)
 
     def equal(self, what: str, found: object, wanted: object) -> None:
-        self.want(what, found == wanted, f"found {found!r}, wanted {wanted!r}")
+        self.want(what, found == wanted, f"found {found!r}, expected {wanted!r}")

@@ -1,4 +1,4 @@
-// A run, statement by statement. showRun is all that other pages need.
+// A run, statement by statement. Other pages need only showRun.
 import { make } from './elements.js';
 import { askingDialog, helpDialog } from './help.js';
 import { keysOf } from './keys.js';
@@ -39,7 +39,7 @@ function apologise(container, fault) {
   ));
 }
 
-/** The view of one run: where it stands, and its parts. */
+/** The view of one run: its present step, and its parts. */
 class View {
   constructor(container, run, options) {
     Object.assign(this, { container, run, options, id: `run-${++made}` });
@@ -56,7 +56,7 @@ class View {
     this.listen();
   }
 
-  /** Puts the parts in place: the head, and below it the script, the storage, and what else there is. */
+  /** Puts the parts in place: the head, and below it the script, the storage, and the rest. */
   build() {
     const head = transportPart(this), said = saidPart(this), lens = lensPart(this);
     const tables = [registersPart, subpoolsPart, poolsPart, namesPart, totalsPart].map(it => it(this));
@@ -81,7 +81,7 @@ class View {
     return withoutRemarks(this.run.lines.slice(first - 1, last)).map(it => it.trimEnd()).join('\n');
   }
 
-  /** A line as it's shown: remarks and comments are hidden with the answers that they may tell. */
+  /** A line as it's shown: remarks and comments are hidden with the answers that they may reveal. */
   textOfLine(number) {
     const text = this.run.lines[number - 1];
     if (this.told === this.run.steps) return text;
@@ -99,7 +99,7 @@ class View {
     if (this.options.address) addEventListener('hashchange', () => this.followAddress(), { signal });
   }
 
-  /** Ends it: no keys and no clock any more. The container is left as it is. */
+  /** Ends it: keys and clock no longer act. The container is left as it is. */
   close() {
     this.ending.abort();
     this.resizing.disconnect();
@@ -108,7 +108,7 @@ class View {
     cancelAnimationFrame(this.drawing);
   }
 
-  /** To a statement; what comes faster than frames are shown is drawn once. */
+  /** To a statement; moves that are faster than frames are drawn once. */
   go(to) {
     this.step = Math.max(0, Math.min(this.run.steps, to));
     this.picked = null;
@@ -142,8 +142,8 @@ class View {
     this.note();
   }
 
-  /** The page that is looked at near by: where something was granted; else the one before, unless another
-      has changed and it hasn't, or it has left. */
+  /** Chooses the enlarged page: where something was granted; else it stays, unless only others have changed or it's no
+      longer assigned. */
   turn() {
     const { granted, pages, changed } = this.moment;
     if (granted) this.chosen = Math.floor(granted.from / PAGE);
@@ -181,7 +181,7 @@ class View {
     this.dialog.showModal();
   }
 
-  /** Teacher's mode on or off; switched on, the answers behind the statement that is shown are hidden. */
+  /** Teacher's mode on or off; switched on, it hides the answers after the present statement. */
   teach(asked = this.step) {
     this.teaching = !this.teaching;
     this.asked = asked;
@@ -194,7 +194,7 @@ class View {
     else this.teach();
   }
 
-  /** Shows the answers up to the statement that is shown. */
+  /** Shows the answers up to the present statement. */
   ask() {
     if (!this.teaching || this.step <= this.asked) return false;
     this.asked = this.step;
@@ -203,15 +203,14 @@ class View {
     return true;
   }
 
-  /** To the next statement, back or on, that was refused or answered 4; an answer that is hidden isn't
-      looked at. */
+  /** To the next statement, back or on, that was refused or got return code 4; hidden answers aren't looked at. */
   seek(by) {
     for (let step = this.step + by; step > 0 && step <= this.told; step += by) {
       if (['refused', 'four'].includes(kindOf(this.run.statement(step).reply))) return this.go(step);
     }
   }
 
-  /** `#12` in the address is statement 12; `#teacher` is the teacher's mode, from the start. */
+  /** `#12` in the address is statement 12; `#teacher` is the teacher's mode, from the first one. */
   followAddress() {
     if (location.hash === '#teacher') {
       this.step = 0;
@@ -227,12 +226,12 @@ class View {
   }
 }
 
-/** Shows a run in an element, in place of what is there, and answers the view, whose close() ends it; null
-    where there is a sentence in its place. `data` has `name`, `options` (words), `script` (text),
-    `skipped` (how many answers come before the first map), perhaps `question` (the lesson's), `bytes` (see Run)
-    and `program` (which one it was), and what vsm printed for the script with maps put in: `text`, or `output`,
-    gzip'd and in base64. Options: `address` keeps the statement in the page's address; `teacher` begins in the
-    teacher's mode; `moved` is called with the view whenever it's drawn. */
+/** Shows a run in an element, replacing its contents, and returns the view, whose close() ends it; null if a sentence
+    is shown instead. `data` has `name`, `options` (arguments), `script` (text), `skipped` (the number of answers before
+    the first map), perhaps `question` (the lesson's), `bytes` (see Run) and `program` (its identity), and what vsm
+    printed for the script with inserted maps: `text`, or `output`, gzip'd and in base64. Options: `address` keeps the
+    statement in the page's address; `teacher` begins in the teacher's mode; `moved` is called with the view whenever
+    it's drawn. */
 export async function showRun(container, data, options = {}) {
   try {
     const lack = lackOf();

@@ -18,7 +18,7 @@ from bench import option_words
 from chromium import Browser
 from expected import Page
 from on_page import READY, try_drawings, try_page
-from trials import Trials
+from trials import Programs, Trials
 from vsmtools.lines import split_lines
 
 HERE = Path(__file__).resolve().parent
@@ -28,7 +28,7 @@ SENTENCE = "document.querySelector('.sentence')?.innerText ?? ''"
 OUTPUT = re.compile(r'"output":"[^"]*"')
 MADE_SECONDS = 300
 LONG_BYTES = 2_000_000
-LONG_SECONDS = 20  # to open the long page, beside other work
+LONG_SECONDS = 20  # to open the long page, next to other work
 
 AGAIN = b"""\
  STORAGE OBTAIN,LENGTH=16,SP=1,ADDR=A
@@ -68,7 +68,7 @@ ODD: dict[str, bytes] = {
     "bytes above 127": b"* \xc4\xe9\xff\x00\x07\x1b\r\n STORAGE OBTAIN,LENGTH=8,ADDR=P \xe4\r\n PEEK P,8\r\n",
     "ends within a statement": b" STORAGE OBTAIN,LENGTH=8\n STORAGE OBTAIN,".ljust(96) + b"X",
     "ends within remarks": b" STORAGE OBTAIN,LENGTH=8".ljust(71) + b"X\n",
-    "areas that come again": AGAIN,
+    "areas that are granted again": AGAIN,
     "dropped lines": (
         b" STORAGE OBTAIN,".ljust(71) + b"X\nNO BLANKS".ljust(72) + b"X\n AND ONE MORE\n MAP\n"
     ),
@@ -135,7 +135,7 @@ def try_damaged(trials: Trials, browser: Browser, page: Path, folder: Path) -> N
 
 
 def try_lacks(trials: Trials, browser: Browser, page: Path) -> None:
-    """A browser without what is needed is told a sentence."""
+    """In a browser that lacks something needed, a sentence is shown."""
     address = page.resolve().as_uri()
     lacks = {
         "DecompressionStream": "delete window.DecompressionStream",
@@ -166,7 +166,7 @@ def walks() -> ModuleType:
 
 
 def try_long(trials: Trials, browser: Browser, program: str, folder: Path) -> None:
-    """10,000 statements of the walks' kind: small enough, and open soon."""
+    """10,000 statements of the walks' kind: small enough, and opened soon."""
     trials.subject = "10,000 statements"
     source = walks()
     lines = [line for seed in (1, 2) for line in source.statements(random.Random(seed))]
@@ -179,7 +179,7 @@ def try_long(trials: Trials, browser: Browser, program: str, folder: Path) -> No
     print(f"10,000 statements: {size} bytes, opened in {took:.1f} seconds", flush=True)
     trials.want("it opens soon", took < LONG_SECONDS, took)
     found = Page.of(page)
-    trials.equal("how many statements there are", found.steps, len(lines))
+    trials.equal("the number of statements", found.steps, len(lines))
     try_drawings(trials, browser, found)
     trials.equal("no message of the console", browser.messages(), [])
 
@@ -189,7 +189,7 @@ def try_palette(trials: Trials) -> None:
     trials.subject = "view.css"
     style = (HERE / "view.css").read_text(encoding="utf-8")
     pairs = re.findall(r"--c\d: light-dark\((#\w{6}), (#\w{6})\);", style)
-    trials.equal("how many colours there are", len(pairs), 8)
+    trials.equal("the number of colours", len(pairs), 8)
     grounds = re.findall(r"--ground: light-dark\((#\w{6}), (#\w{6})\);", style)
     tones = [re.findall(rf"--{name}: light-dark\((#\w{{6}}), (#\w{{6}})\);", style)[0] for name in ("ink", "panel")]
     for scheme, own, *frame in zip(("light", "dark"), zip(*pairs), *tones):
@@ -202,8 +202,9 @@ def try_palette(trials: Trials) -> None:
         trials.want(f"{scheme}: contrast to the ground", min(colours.contrast(it, ground) for it in own) >= 3)
 
 
-def try_all(trials: Trials, browser: Browser, program: str) -> None:
+def try_all(trials: Trials, browser: Browser, programs: Programs) -> None:
     """The pages of all examples, of odd scripts, and of a long one."""
+    program = programs.vsm
     try_palette(trials)
     with tempfile.TemporaryDirectory(prefix="page-check-") as name:
         folder = Path(name)

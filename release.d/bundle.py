@@ -24,7 +24,7 @@ from facts import Commit, Refusal
 # places of its own.
 NOT_INSTALLED = re.compile(r".*/(tests/|\.)|(page|tools)/check|tools/c/|"
                            r"page/(bench|module|host|chromium|colours|expected|on_page|\w*trials)")
-# How the tools begin, and how a package wants them to.
+# How the tools begin, and how they have to in a package.
 FREE_PYTHON, SYSTEM_PYTHON = b"#!/usr/bin/env python3\n", b"#!/usr/bin/python3\n"
 DOCS = ("STATEMENTS.md", "MESSAGES.md", "EXPLAIN.md", "PROTOCOL.md", "ZOS.md", "GLOSSARY.md", "TOOLS.md", "VIEW.md",
         "EDITORS.md", "BENCH-IN-A-BROWSER.md")
@@ -66,7 +66,7 @@ find "$DPKG_ROOT/usr/share/nilbozad" -name __pycache__ -prune -exec rm -rf {} + 
 
 
 OVERRIDES = """\
-# The library goes along with the programs, in one package, which is for one architecture.
+# The library is in one package with the programs, which is for one architecture.
 nilbozad: package-name-doesnt-match-sonames
 nilbozad: link-to-shared-library-in-wrong-package
 nilbozad: pkg-config-unavailable-for-cross-compilation
@@ -107,12 +107,12 @@ def built(top: Path, name: str) -> Path:
 
 
 def help_of(program: Path, *command: str) -> str:
-    """What a program, or a command of it, says to --help."""
+    """What a program, or a command of it, prints for --help."""
     return said(program, *command, "--help")
 
 
 def said(program: Path, *words_behind: str) -> str:
-    """What a program says to these words; at one width, and in one language."""
+    """What a program prints for these arguments, at one width and in one language."""
     environment = {"PATH": os.environ.get("PATH", ""), "COLUMNS": "80", "LC_ALL": "C.UTF-8",
                    "PYTHONDONTWRITEBYTECODE": "1"}
     words = [str(program), *words_behind]
@@ -167,7 +167,7 @@ def put_manual(release: Release, root: Path, helps: dict[str, str], commands: li
     statements, messages = manual.Page("vsm-statements", 5, date), manual.Page("vsm-messages", 7, date)
     others = [f"{it.name}({it.section})" for it in [*pages.values(), statements, messages]]
     texts = {
-        statements: manual.page_of_docs(statements, "what can stand in a script of vsm",
+        statements: manual.page_of_docs(statements, "what a script of vsm can have",
                                         docs["STATEMENTS.md"], others),
         messages: manual.page_of_docs(messages, "what vsm prints, and why", docs["MESSAGES.md"], others),
     }
@@ -208,13 +208,13 @@ def copyright_of(release: Release, licences: dict[str, bytes]) -> str:
     for name in sorted({it.partition("-LICENSE")[0] for it in licences}):
         own = [f"licenses/{it}" for it in sorted(licences) if it.startswith(f"{name}-LICENSE")]
         lines.append(f"  {name}: {', '.join(own)}")
-    lines += ["", "The kit's standard library (core, std and what they stand on) has no licence file there.", "",
+    lines += ["", "The kit's standard library (core, std and what they use) has no licence file there.", "",
               text]
     return "\n".join(lines)
 
 
 def moved(file: str, data: bytes) -> bytes:
-    """A file with its links, where the pages of docs/ stand one folder higher."""
+    """A file with its links, for the pages of docs/ one folder higher."""
     if not file.endswith(".md"):
         return data
     return data.replace(b"](../", b"](") if file.startswith("docs/") else data.replace(b"](../docs/", b"](../")
@@ -287,7 +287,7 @@ def read_me(release: Release, libc: str) -> str:
     share/nilbozad/bench.html                               the bench in a browser, with the lessons
     share/doc/nilbozad/examples/*.html                      each lesson as a page
     man -l share/man/man1/vsm.1.gz                          describes the program
-    man -l share/man/man5/vsm-statements.5.gz               what can stand in a script
+    man -l share/man/man5/vsm-statements.5.gz               what a script can have
     man -l share/man/man7/vsm-messages.7.gz                 what is printed
     cc -Iinclude share/doc/nilbozad/examples/example.c lib/libvsm.a
     PYTHONPATH=lib/python3/dist-packages python3 -c 'import vsm_bench; help(vsm_bench)'

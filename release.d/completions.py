@@ -1,10 +1,10 @@
-"""Completions of the words of a program for bash, zsh and fish, made from what it says to --help."""
+"""Completions of the arguments of a program for bash, zsh and fish, made from what it says to --help."""
 from __future__ import annotations
 
 import re
 from dataclasses import dataclass
 
-# An option's line: flags with a word for the value; behind two blanks what it does, if that isn't below it.
+# An option's line: flags with a word for the value; after two blanks what it does, if that isn't below it.
 OPTION = re.compile(r"^\s{2,}(-\S.*?)(?:\s{2,}(.*))?$")
 CHOICES = re.compile(r"\[possible values: ([^]]*)\]")
 
@@ -18,7 +18,7 @@ class Option:
 
 
 def choices_of(value: str, text: str) -> tuple[str, ...]:
-    """What the value can be, where the help says it: as [possible values: 24, 31], {24,31} or 24|31."""
+    """What the value can be, if the help says it: as [possible values: 24, 31], {24,31} or 24|31."""
     found = CHOICES.search(text)
     if found:
         return tuple(found[1].split(", "))

@@ -1,4 +1,4 @@
-"""What a release says of itself: the commit, the kit, what was proved, and whose work it stands on."""
+"""What a release says of itself: the commit, the kit, what was proved, and whose work it uses."""
 from __future__ import annotations
 
 import hashlib
@@ -55,7 +55,7 @@ def files_of(top: Path) -> list[str]:
 def changes_of(top: Path, version: str) -> list[str]:
     """The lines of CHANGELOG.md under 'Not released yet'."""
     if not VERSION.fullmatch(version):
-        raise Refusal(f"a version is three numbers, as 1.0.0, and not {version!r}")
+        raise Refusal(f"a version is three numbers, such as 1.0.0, and not {version!r}")
     sections = re.split(r"^## ", (top / "CHANGELOG.md").read_text(encoding="utf-8"), flags=re.M)[1:]
     titled = {it.partition("\n")[0].strip(): it.partition("\n")[2] for it in sections}
     if version in {title.split()[0] for title in titled if title}:
@@ -74,7 +74,7 @@ def say_version(text: str, version: str, kit: str) -> bool:
 def gate_line(file: str | None) -> str:
     """The last line of the gate's output."""
     if file is None:
-        return "not told"
+        return "not given"
     try:
         lines = Path(file).read_text(encoding="utf-8", errors="replace").split("\n")
     except OSError as error:
@@ -130,13 +130,13 @@ def proved(top: Path, files: list[str], head: list[str], built: list[str]) -> st
     lessons = sum(bool(re.fullmatch(r"examples/.*\.vsm", it)) for it in files)
     lines = [*head,
              f"Contracts  {sum(a for a, _ in counts)} functions with {sum(b for _, b in counts)} clauses, "
-             f"in {len(crates)} crates: all that vsm, vsm-explain and the library stand on",
+             f"in {len(crates)} crates: all that vsm, vsm-explain and the library use",
              f"Edits      {edits} wrong bodies, each of which the prover has to refuse",
              f"Tests      {tests} test functions, {scripts} scripts of conformance, {rows} rows in tests/rows, {lessons} lessons",
              *built, "",
-             "Gate is the last line of the gate's output, or 'not told' where ./release wasn't given that.",
+             "Gate is the last line of the gate's output, or 'not given' if ./release got none.",
              "'Proved' says no more than the contracts do: README.md of the repository has what can be relied on,",
-             "what was only tested, and what is trusted. The other programs, the pages, and what the library has beside",
+             "what was only tested, and what is trusted. The other programs, the pages, and what the library has outside",
              "the proved code (its calls, and the package for Python) are tested and not proved."]
     return "\n".join(lines) + "\n"
 

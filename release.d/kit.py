@@ -9,9 +9,17 @@ import subprocess
 from pathlib import Path
 
 TOP = Path(__file__).resolve().parent.parent
-PROGRAM = TOP / "crates" / "vsm" / "out" / "vsm"
+VSM, EXPLAIN = PROGRAMS = "vsm", "vsm_explain_program"
 TRIPLE = "x86_64-unknown-linux-gnu"
 MINUTES = 40
+
+
+def built(crate: str) -> Path:
+    """The proved program of a crate."""
+    return TOP / "crates" / crate / "out" / crate
+
+
+PROGRAM = built(VSM)
 
 
 class Fault(Exception):
@@ -55,10 +63,10 @@ class Kit:
         if not named or named[1] != self.identity:
             raise Fault(f"the kit is {self.identity!r}, and README.md names {named[1] if named else 'none'!r}")
 
-    def build_words(self, toolchain: Path, to: Path) -> list[str | Path]:
+    def build_words(self, crate: str, toolchain: Path, to: Path) -> list[str | Path]:
         """How the command rt has the program proved and compiled, over the libraries as they stand."""
         uses = crates()
-        own, below = uses["vsm"], crates_below("vsm", uses)
+        own, below = uses[crate], crates_below(crate, uses)
         kit_library = "{}=" + str(self.folder / "rlibs" / "{}.rlib")
         words: list[str | Path] = ["--extern", kit_library.format("std", "std")]
         words += ["-L", f"dependency={self.folder / 'rlibs'}"]
@@ -68,34 +76,35 @@ class Kit:
             words += ["-L", f"dependency={library(name).parent}"]
         project = self.folder / "rattle" / "logic" / "antt-project.json"
         logic = ["--antt-project", project, "--logic-built", self.folder / "logic_built"]
-        return [self.folder / "bin" / "rattle", "build", "--crate-name", "vsm", "src/main.rt", *words, *logic,
-                "--jobs", "1", "--links", "vsm=", "--toolchain", toolchain, "--backend", "llvm", "-o", to]
+        return [self.folder / "bin" / "rattle", "build", "--crate-name", crate, "src/main.rt", *words, *logic,
+                "--jobs", "1", "--links", f"{crate}=", "--toolchain", toolchain, "--backend", "llvm", "-o", to]
 
-    def gives_program(self, code: Path, folder: Path) -> bool:
+    def gives_program(self, code: Path, folder: Path, crate: str = VSM) -> bool:
         """Whether an object file, linked as the command rt links a program, is the proved one byte for byte."""
         libraries = [self.folder / "c" / name for name in ("libos_c.a", "liblibc_c.a")]
         linked = folder / "linked"
         run([self.folder / "bin" / "rattle-link", "--target", TRIPLE, "--toolchain", self.folder / "toolchain",
              "-o", linked, code, *libraries], "the link of the program")
-        return sum_of(linked) == sum_of(PROGRAM)
+        return sum_of(linked) == sum_of(built(crate))
 
-    def build(self, folder: Path, toolchain: Path | None = None) -> Path:
+    def build(self, folder: Path, toolchain: Path | None = None, crate: str = VSM) -> Path:
         """Proves and builds the program once more, in a folder; the object file, which gives the proved program."""
-        code = folder / "vsm.o"
-        shutil.copytree(TOP / "crates" / "vsm" / "src", folder / "crate" / "src")
-        words = self.build_words(toolchain or self.folder / "toolchain", code)
+        code = folder / f"{crate}.o"
+        shutil.copytree(TOP / "crates" / crate / "src", folder / "crate" / "src")
+        words = self.build_words(crate, toolchain or self.folder / "toolchain", code)
         told = run(words, "the proved build", MINUTES, cwd=folder / "crate", stderr=subprocess.STDOUT)
         said = told.decode(errors="replace")
         if not re.search(r"(?m)^logic=proved ", said):
             raise Fault(f"the kit's compiler doesn't say that the program is proved: {said.strip().splitlines()[-1:]}")
-        if not self.gives_program(code, folder):
-            raise Fault(f"the program that was built once more isn't the one in {PROGRAM}, byte for byte")
+        if not self.gives_program(code, folder, crate):
+            raise Fault(f"the program that was built once more isn't the one in {built(crate)}, byte for byte")
         return code
 
 
-def refuse_unproved() -> None:
-    if subprocess.run([TOP / "prove", "--check"], stdin=subprocess.DEVNULL, check=False).returncode:
-        raise Fault(f"{PROGRAM} isn't proved and built from these sources: ./prove does that, in about 45 minutes, or "
+def refuse_unproved(crate: str = VSM) -> None:
+    words = [TOP / "prove", "--program", crate, "--check"]
+    if subprocess.run(words, stdin=subprocess.DEVNULL, check=False).returncode:
+        raise Fault(f"{built(crate)} isn't proved and built from these sources: ./prove does that, in about 45 minutes, or "
                     ".ci/run")
 
 
@@ -105,14 +114,14 @@ def crates() -> dict[str, list[str]]:
     for line in (TOP / "crates.txt").read_text(encoding="utf-8").splitlines():
         names, colon, used = line.partition("#")[0].partition(":")
         if colon and names.split():
-            if names.split()[1:] and names.split()[0] == "vsm":
-                raise Fault(f"crates.txt has words for vsm that this script doesn't know: {names}")
+            if names.split()[1:] and names.split()[0] in PROGRAMS:
+                raise Fault(f"crates.txt has words for a program that this script doesn't know: {names}")
             uses[names.split()[0]] = used.split()
     return uses
 
 
 def crates_below(crate: str, uses: dict[str, list[str]]) -> list[str]:
-    """The repository's crates that a crate stands on."""
+    """The repository's crates below a crate."""
     found: list[str] = []
     todo = [crate]
     while todo:

@@ -12,15 +12,15 @@ WIDTH = 78
 PAGES = {"STATEMENTS.md": "vsm-statements(5)", "MESSAGES.md": "vsm-messages(7)"}
 # Signs that roff would print as others, or read as its own.
 SIGNS = {"\\": "\\e", "-": "\\-", "'": "\\(aq", "`": "\\(ga", '"': "\\(dq"}
-# Columns of a table whose text needs no label in front.
+# Columns of a table whose text needs no label before it.
 PLAIN = {"Meaning", "It does", "Why it came", "Why"}
-# A title that mandoc takes for a misspelt one of its own, and the one that stands in its place.
+# A title that mandoc takes for a misspelt one of its own, and the one that replaces it.
 RENAMED = {"Lines": "Lines of a script"}
 
 
 @dataclass(frozen=True)
 class Page:
-    """Where a page stands, and when the sources are from."""
+    """The place of a page, and the date of its sources."""
     name: str
     section: int
     date: str
@@ -31,12 +31,12 @@ class Page:
 
 
 def escape(text: str) -> str:
-    """Text that roff prints as it stands."""
+    """Text that roff prints as it is."""
     return "".join(SIGNS.get(character, character) for character in text)
 
 
 def shown_link(match: re.Match[str]) -> str:
-    """A link's text, or where that is a page's name, how it's called here."""
+    """A link's text, or, if that is a page's name, what the page is called here."""
     file = os.path.basename(match[2].partition("#")[0])
     return PAGES.get(file, match[1]) if match[1].endswith(".md") else match[1]
 
@@ -84,7 +84,7 @@ def literal(lines: tuple[str, ...] | list[str]) -> list[str]:
 
 
 def quoted(text: str) -> str:
-    """The argument of a macro that is taken as it stands."""
+    """The argument of a macro that is taken as it is."""
     return '"' + inline(text) + '"'
 
 
@@ -116,7 +116,7 @@ def tabled(table: Table) -> list[str]:
 
 
 def body(blocks: list[Block]) -> list[str]:
-    """The text of a section, without a paragraph macro where none may stand."""
+    """The text of a section, without a paragraph macro where none is allowed."""
     lines: list[str] = []
     for block in blocks:
         if isinstance(block, Heading):
@@ -134,7 +134,7 @@ def body(blocks: list[Block]) -> list[str]:
             lines += listed(block)
         else:
             lines += tabled(block)
-    # A list and a display have the distance in front of them already.
+    # A list and a display already have the distance before them.
     return [line for i, line in enumerate(lines)
             if line != ".Pp" or not lines[i + 1].startswith(".Bl")]
 
@@ -146,7 +146,7 @@ def head(page: Page, what: str) -> list[str]:
 
 
 def see_also(page: Page, others: list[str]) -> list[str]:
-    """The other pages. As text, since mandoc looks for what is referred to in the system's manual alone."""
+    """The other pages. As text, since mandoc looks for references only in the system's manual."""
     found = sorted((it for it in others if it != f"{page.name}({page.section})"), key=lambda it: (it[-2], it))
     return [".Sh SEE ALSO", *filled(", ".join(f"**{it[:-3]}**{it[-3:]}" for it in found))] if found else []
 
@@ -161,7 +161,7 @@ def joined(*parts: list[str]) -> str:
 
 
 def page_of_docs(page: Page, what: str, text: str, others: list[str]) -> str:
-    """A whole page of docs/: what stands before the first section is its description."""
+    """A whole page of docs/: the text before the first section is its description."""
     blocks = [it for it in markdown.parse(text) if not (isinstance(it, Heading) and it.level == 1)]
     return joined(head(page, what), [".Sh DESCRIPTION"], body(blocks), files(), see_also(page, others))
 
@@ -186,7 +186,7 @@ def page_of_vsm(page: Page, help_text: str, messages: str, others: list[str]) ->
     status = markdown.section(blocks, "Standard error and exit status")
     if not options or not isinstance(options[0], Code):
         raise LookupError("the section 'Options' doesn't begin with the usage")
-    # The last paragraph tells of the script in a clone.
+    # The last paragraph is about the script in a clone.
     usage, options = options[0], options[1:-1]
     # The last paragraph has the version.
     parts = split_help(help_text)[:-1]

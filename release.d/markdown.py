@@ -40,7 +40,7 @@ NESTED = re.compile(r"\s+- ")
 
 
 def cells(line: str) -> tuple[str, ...]:
-    """The cells of a table's line; a bar behind a backslash or between backticks is text."""
+    """The cells of a table's line; a bar after a backslash or between backticks is text."""
     found, cell, in_code = [], "", False
     for character in line.strip().strip("|").replace(r"\|", "\0"):
         in_code ^= character == "`"
@@ -62,7 +62,7 @@ def kind_of(line: str) -> str:
 
 
 def groups(lines: list[str]) -> Iterator[tuple[str, list[str]]]:
-    """Lines of one kind that touch; code goes on over empty lines."""
+    """Lines of one kind that touch; code continues over empty lines."""
     kind, group = "", []
     for line in [*lines, ""]:
         new = kind_of(line) if line.strip() else ""
@@ -98,7 +98,7 @@ def parse(text: str) -> list[Block]:
 
 
 def section(blocks: list[Block], title: str) -> list[Block]:
-    """What stands behind the heading of this title, up to the next one of its level."""
+    """What follows the heading of this title, up to the next one of its level."""
     at = next((i for i, it in enumerate(blocks) if isinstance(it, Heading) and it.text == title), None)
     if at is None:
         raise LookupError(f"a page of docs/ has no section {title!r}")

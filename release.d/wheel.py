@@ -7,7 +7,7 @@ import time
 import zipfile
 from pathlib import Path
 
-# What is installed beside the Python that pip belongs to, in a folder nilbozad but for the two programs.
+# What is installed next to the Python that pip belongs to, in a folder nilbozad except for the two programs.
 PLACES = {"share/nilbozad/": "nilbozad/", "lib/libvsm.so.1": "nilbozad/tools/libvsm.so.1",
           "share/doc/nilbozad/PROVED": "nilbozad/PROVED",
           "share/doc/nilbozad/copyright": "{info}/licenses/copyright",

@@ -31,7 +31,7 @@ def arguments(text: str | None) -> list[str]:
 
 
 def named(given: list[str], at: int = 0, built: str = bench.BUILT) -> str:
-    """The program that this argument names, by default the built one, which it has to be: no script in its place."""
+    """The program that this argument names, by default the built one, which has to exist: ./vsm isn't used for it."""
     program = os.path.abspath(given[at]) if len(given) > at else built
     if not bench.is_program(program):
         refuse(f"no program {program}; ./prove builds one, in about 45 minutes")

@@ -27,17 +27,16 @@ NOT_RUN = {
     r"tests/edits-refused LOG": "takes the output of rt ci; the gate runs it",
     r"bench/growth": "takes a proved program and minutes; the gate runs it",
 }
-# What a reader puts in, and the files that these commands find.
+# What a reader fills in, and the files that these commands find. PROGRAM isn't ./vsm, which looks over all sources at
+# each of a thousand runs of tests/rows/check: on a busy machine that takes ten minutes.
 VALUES = {"FILE": "examples/first-steps.vsm", "SCRIPT": "examples/first-steps.vsm", "LINE": "1",
-          "ADDRESS": "\"X'6000'\"", "N": "16", "K": "64", "24|31": "31", "COMMAND": "list", "CODE": "S878", "PROGRAM": "./vsm",
-          "PROGRAM.asm": "tools/tests/sources/reentrant.asm"}
+          "ADDRESS": "\"X'6000'\"", "N": "16", "K": "64", "24|31": "31", "COMMAND": "list", "CODE": "S878",
+          "PROGRAM": "./mybench", "PROGRAM.asm": "tools/tests/sources/reentrant.asm"}
 LESSON = b" STORAGE OBTAIN,LENGTH=8\n"
 FILES = {"script": LESSON, "script.vsm": LESSON + b" MAP\n", "lesson.vsm": LESSON, "exercise.vsm": LESSON + b"*> ?\n",
-         "mybench": b"#!/bin/sh\nASAN_OPTIONS=detect_leaks=0 exec crates/vsm/out/vsm-unproved \"$@\"\n"}
-# Statuses that are right beside 0, and for the programs of this repository beside 0 and 4, which counts refusals.
-STATUSES = {"tools/vsm-test exercise.vsm": 1, "./vsm --low 6 nowhere": 8, "./vsm --low 4294967296 nowhere": 16,
-            # As MESSAGES has it, without a script: standard input is empty.
-            "./vsm-explain who --taken \"X'6000'\"": 8}
+         "mybench": b"#!/bin/sh\nASAN_OPTIONS=detect_leaks=0 exec \"${0%/*}/crates/vsm/out/vsm-unproved\" \"$@\"\n"}
+# Right statuses other than 0, and for the programs of this repository other than 0 and 4, which reports refusals.
+STATUSES = {"tools/vsm-test exercise.vsm": 1, "./vsm --low 6 nowhere": 8, "./vsm --low 4294967296 nowhere": 16}
 
 
 @dataclass
@@ -54,7 +53,7 @@ class Command:
 
 
 def completed(text: str) -> str:
-    """A command as it's typed in a clone: with values, optional words too, and its program's path."""
+    """A command as it's typed in a clone: with values, optional arguments too, and its program's path."""
     text = re.sub(r" {4,}.*", "", text).replace("[", "").replace("]", "")
     text = re.sub(r"(?:^|(?<=\| ))(vsm(?:-explain)?)(?= |$)", r"./\1", text)
     text = re.sub(r"^(vsm-\w+)(?= )", r"tools/\1", text)

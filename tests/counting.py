@@ -59,7 +59,7 @@ class Counted:
 
 
 def build(folder: str) -> str:
-    """Builds the library in a folder with the system's C compiler, and answers its path."""
+    """Builds the library in a folder with the system's C compiler, and returns its path."""
     source, library = os.path.join(folder, "counting.c"), os.path.join(folder, "counting.so")
     compiler = os.environ.get("CC", "cc")
     if not shutil.which(compiler):
@@ -72,7 +72,7 @@ def build(folder: str) -> str:
 
 
 def run(library: str, words: Sequence[str], given: bytes = b"", refused_growth: int = 0) -> Counted:
-    """Runs a program with this standard input and the growth of this number refused, none where it's 0."""
+    """Runs a program with this standard input and the growth of this number refused, none if it's 0."""
     reading, writing = os.pipe()
     env = dict(os.environ, LD_PRELOAD=library, REFUSED_GROWTH=str(refused_growth), COUNTS_TO=str(writing))
     try:

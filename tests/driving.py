@@ -1,4 +1,4 @@
-"""For the tests beside this module: programs that are driven while they run, copies of the repository, the library."""
+"""For the tests in this folder: programs that are driven while they run, copies of the repository, the library."""
 import os
 import pty
 import select
@@ -31,7 +31,7 @@ class Driven:
         os.write(self.to, data)
 
     def read(self, size: int) -> bytes:
-        """So many bytes, or fewer where the answers end."""
+        """This many bytes, or fewer if the answers end."""
         found, end = b"", time.monotonic() + SECONDS
         while len(found) < size:
             if not select.select([self.answers], [], [], max(0.0, end - time.monotonic()))[0]:
@@ -49,7 +49,7 @@ class Driven:
         got = self.child.wait(timeout=SECONDS)
         said = self.child.stderr.read() if self.child.stderr else b""
         if (got, said) != (status, errors):
-            raise Failure(f"status {got} and {said!r} on standard error, wanted {status} and {errors!r}")
+            raise Failure(f"status {got} and {said!r} on standard error, expected {status} and {errors!r}")
 
 
 def by_pipes(words: list[str]) -> Driven:
@@ -72,7 +72,7 @@ def by_terminal(words: list[str]) -> Driven:
 
 
 def using(driven: Driven, call: Callable[[Driven], int]) -> int:
-    """Calls with what is driven, and leaves no process behind."""
+    """Calls with what is driven, and leaves no process."""
     try:
         return call(driven)
     finally:
@@ -92,7 +92,7 @@ def ended(child: subprocess.Popen, given: bytes, seconds: float) -> tuple[bytes,
 
 def compare(what: str, got: object, wanted: object) -> None:
     if got != wanted:
-        raise Failure(f"{what}: wanted {wanted!r}, got {got!r}")
+        raise Failure(f"{what}: expected {wanted!r}, got {got!r}")
 
 
 def make_library(top: str) -> None:

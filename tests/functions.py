@@ -41,7 +41,7 @@ class Function:
 
 @functools.lru_cache(maxsize=None)
 def kit() -> tuple[ModuleType, ModuleType]:
-    """The kit's rt and rtlib, as modules: they have the words of a check."""
+    """The kit's rt and rtlib, as modules: they have the arguments of a check."""
     try:
         ran = subprocess.run([os.environ.get("RT", "rt"), "doc"], capture_output=True, text=True, check=False)
     except OSError as error:
@@ -130,7 +130,7 @@ class Scan:
         return self.found
 
     def open(self, at: int) -> int:
-        """Takes the brace at this place: a clause is passed, and of all else the inside is read."""
+        """Takes the brace at this place: a clause is skipped, and the inside of anything else is read."""
         head = self.text[self.head_from:at]
         clause = CLAUSE_HEAD.search(head)
         if clause and (re.search(r"\bfn\s+\w+", head) or re.match(r"\s*ghost\b", head)):

@@ -23,7 +23,7 @@ KINDS = {
 
 @dataclass
 class Known:
-    """What an operation takes: its forms, where its first operand is one, and its keywords."""
+    """What an operation takes: its forms, if its first operand is one, and its keywords."""
     forms: set[str] = field(default_factory=set)
     keywords: set[str] = field(default_factory=set)
 
@@ -43,9 +43,9 @@ class Words:
     operations: dict[str, Known]
     # Of each operation with its forms that take the same.
     forms: dict[tuple[str, str], Form]
-    # Keywords of which one stands in a statement.
+    # Keywords of which a statement has one.
     apart: set[tuple[str, str]]
-    # Keywords without an effect, which may stand in each of several macros.
+    # Keywords without an effect, which are allowed in each of several macros.
     idle: set[str] = field(default_factory=set)
 
 
@@ -78,8 +78,8 @@ def words_in(sentence: str) -> list[str]:
 
 
 def on_page(text: str) -> Words:
-    """As the page has them: by the lines below its headings that show how a statement is written, and the sentence on what
-    may stand in each of several macros."""
+    """As the page has them: by the lines below its headings that show how a statement is written, and the sentence on
+    what is allowed in each of several macros."""
     forms: dict[tuple[str, str], Form] = {}
     apart = set()
     for line in re.findall(r"(?m)^    ([A-Z].*)$", text):

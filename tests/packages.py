@@ -1,4 +1,4 @@
-"""What a check needs beside the kit, from Debian's packages, installed where that can be done."""
+"""What a check needs in addition to the kit, from Debian's packages, installed if that is possible."""
 import os
 import shutil
 import subprocess
@@ -7,11 +7,11 @@ SECONDS = 900
 
 
 class Missing(Exception):
-    """A program that isn't there and can't be installed; its text names the package."""
+    """A program that is missing and can't be installed; its text names the package."""
 
 
 def apt_get(*words: str) -> str:
-    """Why apt-get didn't do it, as it says itself, or nothing where it did. It waits for another one that is at work."""
+    """Why apt-get failed, as it says itself, or nothing if it didn't. It waits for another one that is running."""
     environment = {**os.environ, "DEBIAN_FRONTEND": "noninteractive"}
     command = ["apt-get", "-o", "DPkg::Lock::Timeout=300", *words]
     try:
@@ -26,8 +26,8 @@ def apt_get(*words: str) -> str:
 
 
 def install(packages: list[str]) -> str:
-    """Installs packages, where this is root's process, and says why that can't be, or nothing. The lists are fetched where
-    they don't have them."""
+    """Installs packages, if this is root's process, and returns why that can't be done, or nothing. The lists are
+    fetched if they don't have them."""
     if os.geteuid() != 0 or not shutil.which("apt-get"):
         return "only root installs packages, by apt-get"
     words = ["install", "-y", "--no-install-recommends", *packages]
@@ -35,10 +35,10 @@ def install(packages: list[str]) -> str:
 
 
 def need(program: str, package: str) -> str:
-    """The path of a program, which is installed where it isn't there."""
+    """The path of a program, which is installed if it's missing."""
     why = "" if shutil.which(program) else install([package])
     path = shutil.which(program)
     if not path:
-        raise Missing(f"the program {program} isn't there, and can't be installed by apt-get install {package}: "
+        raise Missing(f"the program {program} is missing, and can't be installed by apt-get install {package}: "
                       f"{why or 'the package has no such program'}")
     return path

@@ -35,7 +35,7 @@ class Row:
 
 
 class Stored(NamedTuple):
-    """A script under its name, with the words that vsm is given for it."""
+    """A script under its name, with the arguments that vsm is given for it."""
     name: str
     options: list[str]
     data: bytes
@@ -52,7 +52,7 @@ def read_row(path: Path) -> Row:
         elif kind == "status" and said.isdecimal():
             row.status = int(said)
         else:
-            sys.exit(f"{path}: '{line}' has neither words nor a status")
+            sys.exit(f"{path}: '{line}' has neither arguments nor a status")
     for piece in rest:
         found = HEAD.match(piece)
         if not found or found[1].decode() in row.parts:

@@ -26,7 +26,7 @@ OPTIONS = ("--low", "--high", "--residence", "--history")
 
 
 class Answer(NamedTuple):
-    """One answer: the number of its statement's first line, its text, and the lines of a map behind it.
+    """One answer: the number of its statement's first line, its text, and the lines of a map after it.
 
     What the text doesn't have is None."""
     line: int
@@ -43,12 +43,12 @@ class Answer(NamedTuple):
 
     @property
     def is_kept(self) -> bool:
-        """Whether the statement is one more change that can be undone."""
+        """Whether the statement is another change that can be undone."""
         return self.text.startswith(("RC=", "T=")) or self.text == "OK"
 
     @property
     def kept(self) -> Optional[int]:
-        """How many changes are kept behind a step."""
+        """How many changes are kept after a step."""
         return int(self.text[5:]) if self.text.startswith("KEPT=") else None
 
     def _value(self, key: str) -> Optional[str]:
@@ -66,7 +66,7 @@ class Answer(NamedTuple):
 
     @property
     def code(self) -> Optional[str]:
-        """What stands behind ABEND, FAULT or REFUSED, as S878 or OPERAND."""
+        """What follows ABEND, FAULT or REFUSED, such as S878 or OPERAND."""
         return self.text.partition(" ")[2] if self.is_refused else None
 
     @property
@@ -127,7 +127,7 @@ RESULTS = {"vsm_close": None, "vsm_lines": c_uint32, "vsm_strerror": c_char_p, "
 
 
 def find() -> Optional[str]:
-    """The path of the library: the environment's VSM_LIBRARY, the one beside the tools, the one that tools/c/build
+    """The path of the library: the environment's VSM_LIBRARY, the one next to the tools, the one that tools/c/build
     made, or a release's; its name if the system finds it; else None."""
     named = os.environ.get("VSM_LIBRARY")
     if named:
@@ -162,7 +162,7 @@ def data_of(text: Union[str, bytes]) -> bytes:
 class Bench:
     """A bench that takes statements, or a script in any pieces; threads that share it wait for each other.
 
-    A number is as vsm's option has it; 0 stands for its default. Each call that is refused is a BenchError."""
+    A number is as vsm's option has it; 0 means its default. Each call that is refused is a BenchError."""
 
     def __init__(self, low: int = 0, high: int = 0, residence: int = 0, history: int = 0,
                  path: Optional[str] = None) -> None:

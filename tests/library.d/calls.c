@@ -269,7 +269,7 @@ static void interruptions(void) {
   pthread_sigmask(SIG_SETMASK, &was, &now);
   IS(sigismember(&now, SIGALRM) && sigismember(&now, SIGTERM), 1);
   IS(came > 0, 1);
-  setitimer(ITIMER_REAL, &never, NULL); /* one more may still come */
+  setitimer(ITIMER_REAL, &never, NULL); /* another may still follow */
   IS(vsm_ask(bench, " BACK 0", &answer), VSM_OK);
   pthread_sigmask(SIG_SETMASK, NULL, &now);
   IS(sigismember(&now, SIGALRM), 0);

@@ -12,13 +12,13 @@ static int passed, failed;
 #define IS(call, wanted) is(__LINE__, #call, (long)(call), (long)(wanted))
 static inline void is(int line, const char *call, long got, long wanted) {
   if (got == wanted) passed++;
-  else failed++, printf("line %d: %s: %ld (%s), wanted %ld\n", line, call, got, vsm_strerror((int)got), wanted);
+  else failed++, printf("line %d: %s: %ld (%s), expected %ld\n", line, call, got, vsm_strerror((int)got), wanted);
 }
 
 #define SAYS(text, wanted) says(__LINE__, (text), (wanted))
 static inline void says(int line, const char *got, const char *wanted) {
   if (!strcmp(got, wanted)) passed++;
-  else failed++, printf("line %d: '%s', wanted '%s'\n", line, got, wanted);
+  else failed++, printf("line %d: '%s', expected '%s'\n", line, got, wanted);
 }
 
 static inline int done(void) {

@@ -2,10 +2,10 @@
    as input
    A script is a line 'LOW HIGH RESIDENCE HISTORY SEED LENGTH' and that many bytes; its output is a line of numbers, the
    code, the status and the length first, and that many bytes.
-   pieces: asked statement by statement where that can be, and else written in pieces that end anywhere; by seed 0 line
+   pieces: asked statement by statement if that can be, and else written in pieces that end anywhere; by seed 0 line
    by line.
-   growths: line by line, and again and again with another growth refused each time: each one, or of more than MOST so
-   many, at equal distances. The line goes on with how many growths there are and how many were refused, how often no
+   growths: line by line, and again and again with another growth refused each time: each one, or if there are more than
+   MOST, that many at equal distances. The line continues with the numbers of growths and of refused ones, how often no
    bench was opened, an answer was REFUSED MEMORY, an answer had no memory, all was as before, and anything was wrong;
    then the deepest stack in KiB. vsm.c is included, with its growths counted. */
 #define _GNU_SOURCE
@@ -64,7 +64,7 @@ static void put(struct text *text, const char *from, size_t length) {
   text->length += length;
 }
 
-/* Reads up to so many bytes at once, until nothing is left. */
+/* Reads up to this many bytes at once, until nothing is left. */
 static int drain(vsm *bench, struct text *told, uint32_t most) {
   char room[4096];
   size_t length;
@@ -150,7 +150,7 @@ static int by_lines(const vsm_settings *settings, const struct text *script, str
   return code;
 }
 
-/* Whether what was told is as it should be, up to an answer for which a growth was refused. */
+/* Whether what was answered is as it should be, up to an answer for which a growth was refused. */
 static int is_front(const struct text *told, const struct text *right, const char *answer) {
   size_t i = 0;
   while (i < told->length && i < right->length && told->at[i] == right->at[i]) i++;

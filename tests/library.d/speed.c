@@ -1,5 +1,5 @@
-/* How much processor time the statements of a file take, each of one line, asked one by one: for each part of so many
-   of them, in microseconds. Usage: speed FILE STATEMENTS */
+/* How much processor time the statements of a file take, each of one line, asked one by one: for each part of
+   STATEMENTS of them, in microseconds. Usage: speed FILE STATEMENTS */
 #include "check.h"
 
 #include <time.h>

@@ -1,5 +1,7 @@
 /* Threads with benches of their own, one that forks meanwhile, and benches that go from thread to thread and to a
-   child.
+   child. With the address or the thread sanitizer the forks come first, while no other thread runs: the allocator of
+   either takes locks in each process, and doesn't hold them over a fork, at least in gcc 12. A child that is forked
+   while another thread has one waits for it for ever. vsm.c has no lock, and the C library holds its own over a fork.
    Usage: threads THREADS BENCHES STATEMENTS */
 #define _GNU_SOURCE
 #include "check.h"
@@ -7,6 +9,17 @@
 #include <pthread.h>
 #include <sys/wait.h>
 #include <unistd.h>
+
+#ifndef __has_feature /* which clang has, in place of the names of gcc */
+#define __has_feature(name) 0
+#endif
+#if defined __SANITIZE_ADDRESS__ || defined __SANITIZE_THREAD__ || __has_feature(address_sanitizer) \
+    || __has_feature(thread_sanitizer)
+enum { FORKS_FIRST = 1 };
+#else
+enum { FORKS_FIRST = 0 };
+#endif
+enum { SECONDS = 120 /* that a child has: then it's ended, which counts as wrong */ };
 
 static int benches, statements;
 static _Atomic int is_over;
@@ -41,11 +54,13 @@ static int wrong_in_child(vsm *bench, const char *wanted) {
   int status;
   pid_t child = fork();
   if (!child) {
+    alarm(SECONDS);
     status = vsm_ask(bench, " BACK 1", &answer) != VSM_OK || strcmp(answer, wanted);
     vsm_close(&bench);
     _exit(status);
   }
   while (waitpid(child, &status, 0) < 0) {}
+  if (WIFSIGNALED(status)) printf("a child was ended by signal %d\n", WTERMSIG(status));
   return status;
 }
 
@@ -54,7 +69,7 @@ static void *fork_often(void *given) {
   vsm *bench;
   long wrong = vsm_open(NULL, &bench) != VSM_OK || vsm_ask(bench, " STORAGE OBTAIN,LENGTH=8", &answer) != VSM_OK;
   (void)given;
-  for (int i = 0; i < 4 || (!is_over && i < 50); i++) wrong += wrong_in_child(bench, "KEPT=0");
+  for (int i = 0; !wrong && (i < 4 || (!is_over && i < 50)); i++) wrong += wrong_in_child(bench, "KEPT=0");
   wrong += vsm_ask(bench, " BACK 0", &answer) != VSM_OK || strcmp(answer, "KEPT=1");
   vsm_close(&bench);
   return (void *)wrong;
@@ -94,13 +109,15 @@ int main(int count, char **words) {
   if (count < 4) return 2;
   many = atol(words[1]), benches = atoi(words[2]), statements = atoi(words[3]);
   wander();
-  pthread_create(&forker, NULL, fork_often, NULL);
+  if (FORKS_FIRST) IS((long)fork_often(NULL), 0);
+  else pthread_create(&forker, NULL, fork_often, NULL);
   for (long i = 0; i < many; i++) IS(pthread_create(&threads[i], NULL, work, (void *)i), 0);
   for (long i = 0; i < many; i++) {
     pthread_join(threads[i], &wrong);
     IS((long)wrong, 0);
   }
   is_over = 1;
+  if (FORKS_FIRST) return done();
   pthread_join(forker, &wrong);
   IS((long)wrong, 0);
   return done();

@@ -1,4 +1,4 @@
-"""Rows whose scripts are too long, or too many, to lie here as files."""
+"""Rows whose scripts are too long, or too many, to be files here."""
 import itertools
 
 FIRST = b" STORAGE OBTAIN,LENGTH=1\n"
@@ -12,9 +12,10 @@ OTHER_BYTES = [byte for byte in range(256) if byte != ord("\n")]
 
 
 class Row:
-    """A script in pieces, what the program is given besides, and what it must print.
+    """A script in pieces, what else the program is given, and what it must print.
 
-    `pieces`, where there are some, stand for the whole output, which must have each of them. An endless script has no last piece.
+    `pieces`, if there are some, replace the whole output, which must have each of them. An endless script has no last
+    piece.
     """
 
     def __init__(self, name, script, output, status=0, options=(), errors=b"", file=None, pieces=None, is_endless=False):
@@ -48,7 +49,7 @@ def length_rows():
         too_long("open-statement-before-a-line-too-long", [FIRST, OPEN, b" " * (LINE_BYTES + 1)], FIRST_ANSWER),
         Row("last-line-of-1048576", [b"\n" * (LINES - 1), b" BACK 0"], b"1048576 KEPT=0\n"),
         Row("as-many-empty-lines", [b"\n" * LINES], b""),
-        too_long("line-feed-behind-the-last-line", [b"\n" * (LINES + 1)]),
+        too_long("line-feed-after-the-last-line", [b"\n" * (LINES + 1)]),
     ]
 
 
@@ -66,7 +67,7 @@ def endless_rows():
 
 
 def answer_in_column_1(byte):
-    """A name may stand in column 1, and an asterisk makes a comment."""
+    """A name may be in column 1, and an asterisk makes a comment."""
     if byte == ord("*"):
         return None
     return "KEPT=0" if byte in b" #$@_" or chr(byte).isascii() and chr(byte).isalpha() else "FAULT COLUMN"
@@ -83,18 +84,19 @@ def ends_line_at_column_72(byte):
 
 
 def lines_of(answers):
-    """The output with these answers, by line number; None where a line has none."""
+    """The output with these answers, by line number; None if a line has none."""
     return "".join("%07d %s\n" % (number, answer) for number, answer in answers if answer).encode()
 
 
 def column_row(name, front, behind, answer):
-    """A script of one line for each byte but the line feed, and what is answered to it."""
+    """A script of one line for each byte except the line feed, and what is answered to it."""
     script = [front + bytes([byte]) + behind for byte in OTHER_BYTES]
     return Row(name, script, lines_of((at + 1, answer(byte)) for at, byte in enumerate(OTHER_BYTES)), 4)
 
 
 def column_72_row(name, next_line, continued, alone):
-    """A script of two lines for each byte but the line feed: the answers to a statement that goes on, and to two."""
+    """A script of two lines for each byte except the line feed: the answers to a statement of both lines, and to
+    two."""
     script, answers = [], []
     for at, byte in enumerate(OTHER_BYTES):
         script += [b" BACK 0".ljust(71) + bytes([byte]) + b"\n", next_line]
@@ -103,7 +105,8 @@ def column_72_row(name, next_line, continued, alone):
 
 
 def byte_rows():
-    """Each byte in the columns where a byte decides, and behind them, where none does. A line feed there ends the line."""
+    """Each byte in the columns where a byte decides, and after them, where none does. A line feed there ends the
+    line."""
     front = b" BACK 0".ljust(71)
     behind = [front + b" " + bytes([byte]) * 18 + b"\n" for byte in OTHER_BYTES]
     remark = b"               R\n"
@@ -112,7 +115,7 @@ def byte_rows():
         column_row("any-byte-in-column-2", b" ", b"BACK 0\n", answer_in_column_2),
         column_72_row("any-byte-in-column-72", b" BACK 0\n", "FAULT CONTINUATION", ("KEPT=0", "KEPT=0")),
         column_72_row("any-byte-in-column-72-before-a-remark", remark, "KEPT=0", ("KEPT=0", "FAULT OPERATION")),
-        Row("any-byte-behind-column-72", behind, lines_of((at + 1, "KEPT=0") for at in range(len(behind)))),
+        Row("any-byte-after-column-72", behind, lines_of((at + 1, "KEPT=0") for at in range(len(behind)))),
         Row("line-feed-in-column-1", [b"\n BACK 0\n"], b"0000002 KEPT=0\n"),
         Row("line-feed-in-column-2", [b" \nBACK 0\n"], b"0000002 FAULT OPERATION\n", 4),
         Row("line-feed-in-column-72", [front, b"\n\n BACK 0\n"], b"0000001 KEPT=0\n0000003 KEPT=0\n"),
@@ -121,9 +124,9 @@ def byte_rows():
     ]
 
 
-# Statements behind those that define 1,024 names, of which N1023 was the last, in the first two pages, each with its answer.
-# A 1,025th is refused, whatever the storage would answer, but not before a length of zero. A name that is undone, and one
-# that is defined again, don't count. The history keeps the last 1,024 changes.
+# Statements after those that define 1,024 names, of which N1023 was the last, in the first two pages, each with its
+# answer. A 1,025th is refused, whatever the storage would answer, but not before a length of zero. A name that is
+# undone, and one that is defined again, don't count. The history keeps the last 1,024 changes.
 BEHIND_1024_NAMES = [
     (" STORAGE OBTAIN,LENGTH=8,ADDR=ONEMORE", "ABEND U3013"),
     (" STORAGE OBTAIN,LENGTH=8,ADDR=ONEMORE,COND=YES", "ABEND U3013"),
@@ -164,8 +167,9 @@ def defined_names():
 def names_row():
     return statements_row("no-1025th-name", defined_names() + BEHIND_1024_NAMES)
 
-# Statements behind those that build 256 cell pools of a cell, each with its answer. A 257th is refused, whatever the storage
-# would answer, but not before a bad size and a name that has a cell pool. One that is deleted, or undone, doesn't count.
+# Statements after those that build 256 cell pools of a cell, each with its answer. A 257th is refused, whatever the
+# storage would answer, but not before a bad size and a name that has a cell pool. One that is deleted, or undone,
+# doesn't count.
 BEHIND_256_CELL_POOLS = [
     (" CPOOL BUILD,PCELLCT=1,CSIZE=8,CPID=P256", "ABEND U3013"),
     (" CPOOL BUILD,PCELLCT=4096,CSIZE=4096,CPID=P256", "ABEND U3013"),
@@ -188,8 +192,8 @@ def cell_pools_row():
     return statements_row("no-257th-cell-pool", built + BEHIND_256_CELL_POOLS)
 
 
-# Statements behind those that define 1,024 names, the last of them N1023: a GET whose name would be the 1,025th is refused
-# before it's found that no cell is free, but not before the cell pool is looked for.
+# Statements after those that define 1,024 names, the last of them N1023: a GET whose name would be the 1,025th is
+# refused before it's found that no cell is free, but not before the cell pool is looked for.
 CELLS_BEHIND_1024_NAMES = [
     (" CPOOL GET,CPID=CP,CELL=ONEMORE", "ABEND U3010"),
     (" CPOOL BUILD,PCELLCT=1,CSIZE=8,SP=2,CPID=CP", "RC=0 A=00008000 L=00000008"),
@@ -217,7 +221,7 @@ def cell_names_row():
 
 
 def map_with(subpool, pages, taken, free, kept):
-    """The map where register 1 has the first address, subpool 1 has these lines, and 64 pages are below the line."""
+    """The map when register 1 has the first address, subpool 1 has these lines, and 64 pages are below the line."""
     zeros = " 00000000" * 7
     return "\n".join(["MAP", " TASK 1 PARENT 0 CURRENT", "  R0 00000000 00006000" + zeros[9:], "  R8 00000000" + zeros,
                       " SUBPOOL 0 OWNER 1 SHARERS NONE", " SUBPOOL 1 OWNER 1 SHARERS NONE", *subpool,
@@ -238,7 +242,7 @@ def free_areas_row():
     statements += [(" MAP", before), (" STORAGE RELEASE,SP=1", "RC=0"), (" PEEK X'6000',1", "ABEND S0C4"), (" MAP", behind),
                    (" BACK 1", "KEPT=%d" % (count + 1)), (" MAP", before)]
     statements += [(" GETMAIN RU,LV=8,SP=1", "RC=0 A=%08X L=00000008" % (0x6000 + 16 * at)) for at in range(count)]
-    # All of the area is taken again; the last page has free storage behind it.
+    # All of the area is taken again; the last page has free storage after it.
     statements += [(" GETMAIN RU,LV=8,SP=1", "RC=0 A=%08X L=00000008" % (0x6000 + 16 * count)),
                    (" BACK %d" % (count + 1), "KEPT=%d" % (count + 1)), (" STORAGE RELEASE,LENGTH=8,ADDR=X'6000',SP=1", "ABEND SA78"),
                    (" FREEMAIN RU,SP=1", "RC=0"), (" MAP", behind), (" BACK 1", "KEPT=%d" % (count + 1)), (" MAP", before),

@@ -1,5 +1,5 @@
 /* Does what vsm does without options: reads a script from standard input line by line, writes each line to a bench, and
-   prints the answers. The four settings can be given, as 64 64 24 1024.
+   prints the answers. The four settings can be given, such as 64 64 24 1024.
 
    cc -o example example.c -lvsm */
 #include <stdio.h>

@@ -1,7 +1,7 @@
 /* The bench in the process: each bench is the main of the proved program, on a stack of its own. The build gives the
    outer calls of the program's object file the names vsm_host_.. below; it has no writable data, so benches share
    nothing. If the program reads and nothing is left, it has written all its answers: then the call returns, and the
-   next one goes on from there. */
+   next one continues from there. */
 #define _GNU_SOURCE
 #include "vsm.h"
 
@@ -24,7 +24,7 @@ enum { NUMBER = 8 /* of an answer's line, with the blank after it */ };
 struct place {
   uint32_t lines, column; /* whole lines, and bytes of the next one */
   uint32_t begun;         /* statements */
-  int is_open;            /* the last of these goes on in the next line */
+  int is_open;            /* the last of these continues in the next line */
   int star, marked, goes_on, feed; /* of the next line; `feed`: a carriage return that may belong to its end */
 };
 
@@ -174,7 +174,7 @@ SWITCHES static void run(void) {
   setcontext(&bench->caller);
 }
 
-/* Lets the program go on until it has read this text and asks for more. */
+/* Lets the program continue until it has read this text and asks for more. */
 __attribute__((noinline)) static void resume(vsm *bench, const char *text, size_t length) {
   if (bench->taken == bench->length) bench->taken = bench->length = 0;
   bench->in = text;
@@ -205,7 +205,7 @@ static void end_line(struct place *place) {
   place->star = place->marked = place->goes_on = place->feed = 0;
 }
 
-/* Whether the text goes on from this place within the bounds of a script; then the place is the one after it. */
+/* Whether the text continues from this place within the bounds of a script; then the place is the one after it. */
 static int take_text(struct place *place, const char *text, size_t length) {
   for (size_t i = 0; i < length; i++) {
     if (place->lines == MOST_LINES) return 0;
@@ -274,7 +274,7 @@ int vsm_open(const vsm_settings *settings, vsm **bench) {
 /* Whether the program ended before its script did: a write failed, since there was no memory for an answer. */
 static int is_lost(const vsm *bench) { return bench->is_over && bench->status != 0 && bench->status != 4; }
 
-/* Why the script can't go on, or VSM_OK. */
+/* Why the script can't continue, or VSM_OK. */
 static int refusal(const vsm *bench) {
   return !bench ? VSM_NULL : is_lost(bench) ? VSM_LOST : bench->is_ending ? VSM_ENDED : VSM_OK;
 }

@@ -10,8 +10,8 @@
 
    Threads: the library has no state of its own, and a bench belongs to no thread. Calls on different benches can run at
    the same time; calls on one bench must follow each other. A call runs the program on a stack of 8 MiB that the bench
-   brings along, of which memory is taken only for what is used.
-   Fork: the child has a copy of each bench, and both go on by themselves. A bench on which another thread was within a
+   has, of which memory is taken only for what is used.
+   Fork: the child has a copy of each bench, and both continue by themselves. A bench on which another thread was within a
    call is of no use in the child.
    Signals: none is caught, blocked or raised, and the caller's mask holds during a call. A handler must make no call,
    and must not leave one by longjmp.
@@ -55,7 +55,7 @@ const char *vsm_strerror(int code);
 
 typedef struct vsm vsm;
 
-/* As the options of the program. 0 stands for its default: 64, 64, 24, 1024. Later versions add settings at the end;
+/* As the options of the program. 0 means its default: 64, 64, 24, 1024. Later versions add settings at the end;
    `size` says which ones exist. */
 typedef struct vsm_settings {
   size_t size;

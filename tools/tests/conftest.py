@@ -29,13 +29,13 @@ def vsm(request: pytest.FixtureRequest) -> str:
     """The path of vsm."""
     path = os.path.abspath(request.config.getoption("--vsm") or TOP / "crates" / "vsm" / "out" / "vsm")
     if not os.access(path, os.X_OK):
-        pytest.fail("%s isn't there or can't be started: ./prove builds it" % path, pytrace=False)
+        pytest.fail("%s is missing or can't be started: ./prove builds it" % path, pytrace=False)
     return path
 
 
 @pytest.fixture
 def run() -> Callable[..., Done]:
-    """Runs a tool with words, and bytes on standard input."""
+    """Runs a tool with arguments, and bytes on standard input."""
     def call(tool: str, *words: object, given: bytes = b"", **more: Any) -> Done:
         command = [sys.executable, str(TOOLS / tool), *map(str, words)]
         if "stdout" not in more:

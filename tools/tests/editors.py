@@ -4,9 +4,11 @@ from __future__ import annotations
 import json
 import os
 import queue
+import random
 import subprocess
 import sys
 import threading
+import time
 from pathlib import Path
 from typing import Any, Optional
 
@@ -21,6 +23,24 @@ BAD = [b"Content-Length: x\r\n\r\n{}", b"Content-Length: 99999999999\r\n\r\n", b
        b"Content-Length: 0\r\n\r\n", b"Content-Length: 3\r\n\r\n{\"seq\":1}", b"x" * 100_000 + b"\r\n\r\n",
        b"Content-Length: -5\r\n\r\n", b"Content-Length: 8\r\n\r\n" + b"[" * 8, b"Content-Length: 9\r\n\r\n{\"a\":NaN}",
        b"Content-Length: 100000\r\n\r\n" + b"[" * 100_000]
+LIES = (-20, -1, 1, 5, 40)    # how much longer a header says that a body is
+
+
+def framed(body: bytes, lie: int = 0) -> bytes:
+    return b"Content-Length: %d\r\n\r\n" % (len(body) + lie) + body
+
+
+def damaged_value(chance: random.Random, value: Any) -> Any:
+    """A value of JSON with a part of it that's another one, or is missing."""
+    if isinstance(value, (dict, list)) and value and chance.randrange(8):
+        found = dict(value) if isinstance(value, dict) else list(value)
+        key = chance.choice(list(found) if isinstance(found, dict) else range(len(found)))
+        if chance.randrange(6):
+            found[key] = damaged_value(chance, found[key])
+        else:
+            del found[key]
+        return found
+    return chance.choice((None, -1, 0, 7, 1 << 70, 0.5, "", "x", "0", [], {}, True, [1], {"a": 1}, "file:///[x"))
 
 
 class Wire:
@@ -47,8 +67,7 @@ class Wire:
         self.came.put(None)
 
     def write(self, message: Message) -> None:
-        body = json.dumps(message).encode()
-        self.raw(b"Content-Length: %d\r\n\r\n" % len(body) + body)
+        self.raw(framed(json.dumps(message).encode()))
 
     def raw(self, data: bytes) -> None:
         while data:
@@ -62,6 +81,14 @@ class Wire:
     def children(self) -> list[int]:
         found = Path("/proc/%d/task/%d/children" % (self.child.pid, self.child.pid)).read_text()
         return [int(it) for it in found.split()]
+
+    def started(self) -> list[int]:
+        """Its children, once it has any."""
+        end = time.monotonic() + SECONDS
+        while not (found := self.children()):
+            assert time.monotonic() < end, "the server starts no process"
+            time.sleep(0.02)
+        return found
 
     def close(self) -> int:
         """The exit status. No process is left, and nothing was said that's no message."""
@@ -90,11 +117,14 @@ class Debugged(Wire):
         self.answered: dict[int, Message] = {}
         self.settings: list[tuple[str, Message]] = []    # requests that go between launch and configurationDone
 
-    def send(self, command: str, **arguments: Any) -> int:
+    def post(self, command: str, arguments: Any) -> int:
         self.sent += 1
         self.open[self.sent] = command
         self.write({"seq": self.sent, "type": "request", "command": command, "arguments": arguments})
         return self.sent
+
+    def send(self, command: str, **arguments: Any) -> int:
+        return self.post(command, arguments)
 
     def hear(self) -> Message:
         message = self.next()
@@ -134,9 +164,9 @@ class Debugged(Wire):
                     return it
             self.hear()
 
-    def initialize(self) -> None:
+    def initialize(self, **more: Any) -> None:
         self.ask("initialize", adapterID="vsm", supportsVariablePaging=True, supportsInvalidatedEvent=True,
-                 supportsMemoryEvent=True)
+                 supportsMemoryEvent=True, **more)
 
     def launch(self, script: Path, **more: Any) -> None:
         self.initialize()
@@ -153,7 +183,7 @@ class Debugged(Wire):
         assert self.until("stopped")["body"]["reason"] == "entry"
 
     def go(self, command: str, **arguments: Any) -> Message:
-        """What is said where a run stops."""
+        """What the adapter says when a run stops."""
         self.events.clear()
         self.ask(command, threadId=1, **arguments)
         return self.until("stopped", "terminated").get("body", {})

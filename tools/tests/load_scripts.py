@@ -11,7 +11,7 @@ from vsmtools.judge import MOST_POOLS
 WIDE = ["--low", "640", "--high", "256", "--history", "16"]
 SMALL = ["--low", "16", "--high", "8", "--history", "16"]
 WIDER = ["--low", "2048", "--high", "1024", "--history", "16"]
-OTHERS = (0, 1, 15)     # registers that don't come back
+OTHERS = (0, 1, 15)     # registers that aren't brought back
 
 
 class Plain:
@@ -116,7 +116,7 @@ def family_script(seed: int) -> str:
 
 
 def pools_script(seed: int) -> str:
-    """Cell pools of task 1 that come and go, and then as many as there can be, or nearly."""
+    """Cell pools of task 1 that are built and deleted, and then as many as there can be, or nearly."""
     chance, there, lines = random.Random(seed), [], []
     sizes = chance.choice(((1000, 4096), (8, 16, 400, 1000, 3000), (40, 48, 2000, 4088), (4000, 4096, 24)))
     most, goes = chance.choice((256, 256, 256, 255, 254)), chance.choice((0.1, 0.3, 0.45))
@@ -170,7 +170,7 @@ KINDS: dict[str, tuple[Callable[[int], str], list[str]]] = {
 
 
 def without_others(lines: list[str]) -> list[str]:
-    """The lines of a map but HISTORY, with registers 0, 1 and 15 as 0."""
+    """The lines of a map except HISTORY, with registers 0, 1 and 15 as 0."""
     found = []
     for line in lines[:-1]:
         words = line.split(" ")

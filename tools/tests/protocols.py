@@ -1,8 +1,9 @@
 """The messages of the two protocols of editors as tables, and whether a message is as its table says.
 
 A row has the section of the specification, then what a message is known by or the name of a type, then its fields:
-name:type, or name?:type if it may be missing. A type is int, str, bool, any, null, a 'text', a type of the tables, a
-list in brackets, or several of these with bars between. Other fields are known only in a message with a field `..`.
+name:type, or name?:type if it may be missing. A type is int, str, bool, any, null, a 'text', a number, a type of the
+tables, a list in brackets, or several of these with bars between. Other fields are allowed only by a field `..`. A
+message without a row is refused, from either side.
 """
 from __future__ import annotations
 
@@ -52,7 +53,7 @@ Requests: BreakpointLocations Request | response breakpointLocations | breakpoin
 Requests: DataBreakpointInfo Request | response dataBreakpointInfo | dataId:str|null description:str
     accessTypes?:['read'|'write'|'readWrite'] canPersist?:bool
 Requests: Continue Request | response continue | allThreadsContinued?:bool
-Requests: ReverseContinue Request | response reverseContinue | ..
+Requests: ReverseContinue Request | response reverseContinue |
 Requests: Threads Request | response threads | threads:[Thread]
 Requests: StackTrace Request | response stackTrace | stackFrames:[StackFrame] totalFrames?:int
 Requests: Scopes Request | response scopes | scopes:[Scope]
@@ -63,22 +64,50 @@ Requests: ReadMemory Request | response readMemory | address:str unreadableBytes
 Requests: WriteMemory Request | response writeMemory | offset?:int bytesWritten?:int
 Requests: ExceptionInfo Request | response exceptionInfo | exceptionId:str description?:str
     breakMode:'never'|'always'|'unhandled'|'userUnhandled'
+Requests: Launch Request | response launch |
+Requests: ConfigurationDone Request | response configurationDone |
+Requests: Restart Request | response restart |
+Requests: Disconnect Request | response disconnect |
+Requests: Terminate Request | response terminate |
+Requests: Next Request | response next |
+Requests: StepIn Request | response stepIn |
+Requests: StepOut Request | response stepOut |
+Requests: StepBack Request | response stepBack |
+Requests: Pause Request | response pause |
+Requests: SetVariable Request | response setVariable | value:str ..
 Requests: Initialize Request | request initialize | adapterID:str clientID?:str clientName?:str pathFormat?:str
     linesStartAt1?:bool columnsStartAt1?:bool ..
 Requests: Launch Request | request launch | noDebug?:bool ..
+Requests: ConfigurationDone Request | request configurationDone | ..
+Requests: Restart Request | request restart | arguments?:any
+Requests: Disconnect Request | request disconnect | restart?:bool terminateDebuggee?:bool suspendDebuggee?:bool
+Requests: Terminate Request | request terminate | restart?:bool
+Requests: BreakpointLocations Request | request breakpointLocations | source:Source line:int column?:int endLine?:int
+    endColumn?:int
 Requests: SetBreakpoints Request | request setBreakpoints | source:Source breakpoints?:[SourceBreakpoint] lines?:[int]
     sourceModified?:bool
 Requests: SetExceptionBreakpoints Request | request setExceptionBreakpoints | filters:[str] filterOptions?:[any]
+Requests: DataBreakpointInfo Request | request dataBreakpointInfo | variablesReference?:int name:str frameId?:int
+    bytes?:int asAddress?:bool mode?:str
 Requests: SetDataBreakpoints Request | request setDataBreakpoints | breakpoints:[DataBreakpoint]
-Requests: Next Request | request next | threadId:int ..
-Requests: StepBack Request | request stepBack | threadId:int ..
-Requests: ReverseContinue Request | request reverseContinue | threadId:int ..
-Requests: Continue Request | request continue | threadId:int ..
+Requests: Continue Request | request continue | threadId:int singleThread?:bool
+Requests: Next Request | request next | threadId:int singleThread?:bool granularity?:str
+Requests: StepIn Request | request stepIn | threadId:int singleThread?:bool targetId?:int granularity?:str
+Requests: StepOut Request | request stepOut | threadId:int singleThread?:bool granularity?:str
+Requests: StepBack Request | request stepBack | threadId:int singleThread?:bool granularity?:str
+Requests: ReverseContinue Request | request reverseContinue | threadId:int singleThread?:bool
+Requests: Pause Request | request pause | threadId:int
+Requests: Threads Request | request threads |
 Requests: StackTrace Request | request stackTrace | threadId:int startFrame?:int levels?:int format?:any
 Requests: Scopes Request | request scopes | frameId:int
 Requests: Variables Request | request variables | variablesReference:int filter?:'indexed'|'named' start?:int
-    count?:int
-Requests: Evaluate Request | request evaluate | expression:str frameId?:int context?:str
+    count?:int format?:any
+Requests: SetVariable Request | request setVariable | variablesReference:int name:str value:str format?:any
+Requests: Evaluate Request | request evaluate | expression:str frameId?:int line?:int column?:int source?:Source
+    context?:str format?:any
+Requests: ReadMemory Request | request readMemory | memoryReference:str offset?:int count:int
+Requests: WriteMemory Request | request writeMemory | memoryReference:str offset?:int allowPartial?:bool data:str
+Requests: ExceptionInfo Request | request exceptionInfo | threadId:int
 """
 
 LSP = """
@@ -86,7 +115,8 @@ Base Protocol: Request Message | Request | jsonrpc:'2.0' id:int|str method:str p
 Base Protocol: Notification Message | Notification | jsonrpc:'2.0' method:str params?:any
 Base Protocol: Response Message | Response | jsonrpc:'2.0' id:int|str|null result:any
 Base Protocol: Response Message | ErrorResponse | jsonrpc:'2.0' id:int|str|null error:ResponseError
-Base Protocol: Response Message | ResponseError | code:int message:str data?:any
+Base Protocol: Response Message | ResponseError | code:Code message:str data?:any
+Base Protocol: Response Message | Code | -32700|-32600|-32601|-32602|-32603|-32002|-32803|-32801|-32800
 Basic JSON Structures: Position | Position | line:int character:int
 Basic JSON Structures: Range | Range | start:Position end:Position
 Basic JSON Structures: Location | Location | uri:str range:Range
@@ -95,8 +125,8 @@ Basic JSON Structures: Workspace Edit | WorkspaceEdit | changes?:Changes
 Basic JSON Structures: Workspace Edit | Changes | ..
 Basic JSON Structures: Command | Command | title:str command:str
 Basic JSON Structures: MarkupContent | Markup | kind:'plaintext'|'markdown' value:str
-Basic JSON Structures: Diagnostic | Diagnostic | range:Range severity?:int code?:int|str source?:str message:str
-    tags?:[int]
+Basic JSON Structures: Diagnostic | Diagnostic | range:Range severity?:1|2|3|4 code?:int|str source?:str message:str
+    tags?:[1|2]
 Basic JSON Structures: Text Document Identifier | Identifier | uri:str version?:int|null
 Basic JSON Structures: Text Document Item | Item | uri:str languageId:str version:int text:str
 Lifecycle Messages: Initialize Request | response initialize | capabilities:Capabilities serverInfo?:ServerInfo
@@ -122,7 +152,7 @@ Language Features: Completion Request | CompletionItem | label:str kind?:int det
 Language Features: Goto Definition Request | response textDocument/definition | Location|null
 Language Features: Find References Request | response textDocument/references | [Location]
 Language Features: Document Highlights Request | response textDocument/documentHighlight | [Highlight]
-Language Features: Document Highlights Request | Highlight | range:Range kind?:int
+Language Features: Document Highlights Request | Highlight | range:Range kind?:1|2|3
 Language Features: Document Symbols Request | response textDocument/documentSymbol | [DocumentSymbol]
 Language Features: Document Symbols Request | DocumentSymbol | name:str detail?:str kind:int range:Range
     selectionRange:Range
@@ -142,21 +172,48 @@ Language Features: Code Lens Refresh Request | request workspace/codeLens/refres
 Language Features: Inlay Hint Refresh Request | request workspace/inlayHint/refresh |
 Workspace Features: Configuration Request | request workspace/configuration | items:[Asked]
 Workspace Features: Configuration Request | Asked | scopeUri?:str section?:str
-Window Features: ShowMessage Notification | notification window/showMessage | type:int message:str
+Window Features: ShowMessage Notification | notification window/showMessage | type:1|2|3|4 message:str
 Lifecycle Messages: Initialize Request | request initialize | processId:int|null capabilities:any rootUri?:str|null ..
+Lifecycle Messages: Initialized Notification | notification initialized |
+Lifecycle Messages: SetTrace Notification | notification $/setTrace | value:'off'|'messages'|'verbose'
+Lifecycle Messages: Shutdown Request | request shutdown |
+Lifecycle Messages: Exit Notification | notification exit |
+Base Protocol: Cancellation Support | notification $/cancelRequest | id:int|str
+Workspace Features: DidChangeConfiguration Notification | notification workspace/didChangeConfiguration | settings:any
 Text Document Synchronization: DidOpenTextDocument Notification | notification textDocument/didOpen |
     textDocument:Item
 Text Document Synchronization: DidChangeTextDocument Notification | notification textDocument/didChange |
     textDocument:Identifier contentChanges:[Change]
 Text Document Synchronization: DidChangeTextDocument Notification | Change | range?:Range rangeLength?:int text:str
+Text Document Synchronization: DidSaveTextDocument Notification | notification textDocument/didSave |
+    textDocument:Identifier text?:str
 Text Document Synchronization: DidCloseTextDocument Notification | notification textDocument/didClose |
     textDocument:Identifier
 Language Features: Hover Request | request textDocument/hover | textDocument:Identifier position:Position
 Language Features: Goto Definition Request | request textDocument/definition | textDocument:Identifier
     position:Position
+Language Features: Find References Request | request textDocument/references | textDocument:Identifier
+    position:Position context:ReferenceContext
+Language Features: Find References Request | ReferenceContext | includeDeclaration:bool
+Language Features: Document Highlights Request | request textDocument/documentHighlight | textDocument:Identifier
+    position:Position
 Language Features: Completion Request | request textDocument/completion | textDocument:Identifier position:Position
     context?:any
+Language Features: Document Symbols Request | request textDocument/documentSymbol | textDocument:Identifier
+Language Features: Folding Range Request | request textDocument/foldingRange | textDocument:Identifier
+Language Features: Code Action Request | request textDocument/codeAction | textDocument:Identifier range:Range
+    context:ActionContext
+Language Features: Code Action Request | ActionContext | diagnostics:[Diagnostic] only?:[str] triggerKind?:1|2
+Language Features: Code Lens Request | request textDocument/codeLens | textDocument:Identifier
+Language Features: Inlay Hint Request | request textDocument/inlayHint | textDocument:Identifier range:Range
+Language Features: Rename Request | request textDocument/rename | textDocument:Identifier position:Position newName:str
+Language Features: Prepare Rename Request | request textDocument/prepareRename | textDocument:Identifier
+    position:Position
 """
+
+
+NUMBER = re.compile("-?[0-9]+")
+PROGRESS = ("workDoneToken", "partialResultToken")    # "Base Protocol: Work Done Progress" allows them in each request
 
 
 class Tables:
@@ -170,6 +227,7 @@ class Tables:
 
     def check(self, key: str, value: Any) -> None:
         """An assertion that names the section of the specification, if a value isn't what a row says."""
+        assert key in self.rows, "%s: no table has it: %s" % (key, value)
         section, fields = self.rows[key]
         if fields and ":" not in fields and fields != "..":
             assert self.fits(fields, value), "%s: %s isn't %s" % (section, value, fields)
@@ -193,6 +251,8 @@ class Tables:
             return any(self.fits(it, value) for it in kind.split("|"))
         if kind.startswith("'"):
             return value == kind[1:-1]
+        if NUMBER.fullmatch(kind):
+            return type(value) is int and value == int(kind)
         plain = {"str": str, "bool": bool, "any": object, "null": type(None)}
         if kind == "int":
             return type(value) is int
@@ -214,12 +274,9 @@ def check_dap(message: dict[str, Any]) -> None:
         assert message["message"] and "\n" not in message["message"]
         DAP_TABLES.check("error", message["body"])
         return
-    key = "%s %s" % (kind, message["event"] if kind == "event" else message["command"])
     body = message.get("arguments" if kind == "request" else "body")
-    if key in DAP_TABLES.rows:
-        DAP_TABLES.check(key, {} if body is None else body)
-    else:
-        assert kind == "request" or kind == "response" and body is None, "no table has %s" % message
+    DAP_TABLES.check("%s %s" % (kind, message["event"] if kind == "event" else message["command"]),
+                     {} if body is None else body)
 
 
 def check_lsp(message: dict[str, Any], method: str = "") -> None:
@@ -227,9 +284,9 @@ def check_lsp(message: dict[str, Any], method: str = "") -> None:
     if "method" in message:
         kind = "Request" if "id" in message else "Notification"
         LSP_TABLES.check(kind, message)
-        key = "%s %s" % (kind.lower(), message["method"])
-        if key in LSP_TABLES.rows:
-            LSP_TABLES.check(key, message.get("params") or {})
+        params = message.get("params")
+        LSP_TABLES.check("%s %s" % (kind.lower(), message["method"]), {} if params is None else
+                         {name: it for name, it in params.items() if name not in PROGRESS})
         return
     LSP_TABLES.check("ErrorResponse" if "error" in message else "Response", message)
     if "error" not in message:

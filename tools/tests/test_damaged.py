@@ -1,4 +1,5 @@
-"""Each tool over damaged files: it ends in time and in words, and what it writes is so. `--damaged N`: N of each."""
+"""Each tool over damaged files: it ends in time and with a message, and what it writes is right. `--damaged N`: N of
+each."""
 from __future__ import annotations
 
 import contextlib
@@ -20,7 +21,7 @@ SOURCES = [path.read_bytes() for path in sorted(TOP.glob("tools/tests/sources/*.
 MAPS = [it for path in sorted(TOP.glob("examples/*.out")) for it in re.findall(rb"(?m)(?:^ .*\n)+", path.read_bytes())]
 PUT = b"0 1 8 9 A F X - ' ( ) = , + * / & . L' X' *> *! ? \0 \t \r \xff \xc3\xa4 4294967296 MAP SP= \n".split(b" ")
 TYPED = [b"", b"", b"", b".back until ", b".until ", b".step ", b".read ", b".log ", b".?", b".restart ", b". "]
-# Of each tool one that it once took wrongly.
+# For each tool, one that it once took wrongly.
 FOUND = {"vsm-load": next(re.sub(rb"HDR '.*'", b"HDR '\xc8'", it) for it in MAPS if b"HDR '" in it),
          "vsm-prompt": b" BACK 0\r\r\n MAP\r\n", "vsm-view": b" BACK 0\r\r\n"}
 
@@ -63,7 +64,7 @@ class Tool:
 
 
 def check_load(tool: Tool, data: bytes) -> None:
-    """A script that is written makes that map, but for registers."""
+    """A script that is written makes that map, except for registers."""
     status, text = tool(tool.path)
     if status == 0:
         made = bench.run(tool.vsm, [], text.encode() + b" MAP\n").answers[-1].rest
@@ -93,7 +94,7 @@ def check_test(tool: Tool, data: bytes) -> None:
 
 
 def check_prompt(tool: Tool, data: bytes) -> None:
-    """A file is answered as by vsm, and saved as it was; its lines as commands and statements end in words."""
+    """A file is answered as by vsm, and saved as it was; its lines as commands and statements end with messages."""
     saved, chance = tool.path.parent / "saved", random.Random(data)
     status, text = tool(tool.path, typed=b".save --over %s\n" % str(saved).encode())
     if status == 0 and "  the file ends where line " not in text:

@@ -11,7 +11,7 @@ from typing import Any, Iterator
 
 import pytest
 from conftest import TOP
-from editors import BAD, Debugged, Message, tree
+from editors import BAD, LIES, Debugged, Message, damaged_value, framed, tree
 from load_scripts import small_script
 from protocols import check_dap
 
@@ -139,9 +139,13 @@ def variables(shown: Map, undone: int, task: int) -> dict[str, Any]:
             "undone changes": str(undone)}}
 
 
-def walk_both_ways(client: Any, expected: Expected, stops: list[int]) -> None:
-    """To the end and back by single steps; then to the end at once, and back by breakpoints at some places."""
+def walk_both_ways(client: Any, expected: Expected, *stops: list[int]) -> None:
+    """To the end and back by single steps; then to the end at once, and back by breakpoints at these places."""
     count = len(expected.script.extents)
+
+    def set_breaks(places: list[int]) -> None:
+        client.ask("setBreakpoints", source={"path": client.path},
+                   breakpoints=[{"line": expected.line(k)} for k in places])
     expected.judge(client, 0)
     for place in range(1, count + 1):
         client.go("next")
@@ -151,11 +155,13 @@ def walk_both_ways(client: Any, expected: Expected, stops: list[int]) -> None:
         expected.judge(client, place)
     assert client.go("stepBack")["reason"] == "entry"
     client.ask("setExceptionBreakpoints", filters=[])
-    assert client.go("continue")["reason"] == "end" or not count
-    client.ask("setBreakpoints", source={"path": client.path}, breakpoints=[{"line": expected.line(k)} for k in stops])
-    for place in sorted({*stops, 0} - {count}, reverse=True):
-        assert client.go("reverseContinue")["reason"] == ("breakpoint" if place else "entry")
-        expected.judge(client, place)
+    for places in stops:
+        set_breaks([])
+        assert client.go("continue")["reason"] == "end" or not count
+        set_breaks(places)
+        for place in sorted({*places, 0}, reverse=True):
+            assert client.go("reverseContinue")["reason"] == ("breakpoint" if place else "entry")
+            expected.judge(client, place)
 
 
 @pytest.mark.parametrize("path", EXAMPLES, ids=lambda it: it.stem)
@@ -163,7 +169,8 @@ def test_lessons_both_ways(vsm: str, client: Debugged, path: Path) -> None:
     client.begin(path)
     client.path = str(path)    # type: ignore[attr-defined]
     expected = Expected(vsm, path)
-    walk_both_ways(client, expected, [len(expected.script.extents) // 2])
+    count = len(expected.script.extents)
+    walk_both_ways(client, expected, [count // 2], list(range(count)))
 
 
 def generated(seed: int) -> str:
@@ -188,7 +195,8 @@ def test_generated_scripts_both_ways(vsm: str, tmp_path: Path) -> None:
         client.begin(path)
         print("script", seed, path.read_bytes())
         count = len(expected.script.extents)
-        walk_both_ways(client, expected, random.Random(seed).sample(range(count), min(count, 3)))
+        walk_both_ways(client, expected, random.Random(seed).sample(range(count), min(count, 3)),
+                       list(range(count)) if seed % 2 else [])
         client.close()
 
 
@@ -245,17 +253,51 @@ def test_breakpoints(client: Debugged, tmp_path: Path) -> None:
     assert not other[0]["verified"]
 
 
+def test_lines_that_start_at_0(vsm: str) -> None:
+    client = Debugged(vsm)
+    client.initialize(linesStartAt1=False, columnsStartAt1=False)
+    client.send("launch", program=str(FIRST))
+    client.until("initialized")
+    found = client.ask("setBreakpoints", source={"path": str(FIRST)}, breakpoints=[{"line": 4}])
+    client.ask("configurationDone")
+    assert client.until("stopped")["body"]["reason"] == "breakpoint"
+    frame = client.ask("stackTrace", threadId=1)["stackFrames"][0]
+    assert found["breakpoints"][0]["line"] == frame["line"] == frame["endLine"] == 4 and frame["column"] == 0
+    assert client.ask("breakpointLocations", source={"path": str(FIRST)}, line=0)["breakpoints"] \
+        == [{"line": 0, "endLine": 0}]
+    assert client.close() == 0
+
+
 def test_answers_stop_at_their_statement(client: Debugged, tmp_path: Path) -> None:
+    script = " STORAGE OBTAIN,LENGHT=8\n STORAGE OBTAIN,LENGTH=0\n BACK 9\n MAP\n PEEK Q,1\n"
     client.settings = [("setExceptionBreakpoints", {"filters": ["FAULT", "ABEND"]})]
-    client.launch(written(tmp_path, " STORAGE OBTAIN,LENGHT=8\n STORAGE OBTAIN,LENGTH=0\n BACK 9\n MAP\n"))
+    client.launch(written(tmp_path, script))
     assert client.until("stopped")["body"]["text"] == "FAULT OPERAND" and client.line() == 1
     assert client.go("continue")["text"] == "ABEND U3001" and client.line() == 2
     found = client.ask("exceptionInfo", threadId=1)
     assert found["exceptionId"] == "ABEND U3001" and "length is zero" in found["description"]
-    client.go("next")
+    client.go("stepIn")
     assert client.line() == 4
+    assert client.go("stepOut")["reason"] == "end"
     client.go("reverseContinue")
     assert client.line() == 2
+    client.ask("setExceptionBreakpoints", filters=["REFUSED"])
+    assert [client.go("continue").get("text") for _ in range(3)] == ["REFUSED KEPT=0", "REFUSED NAME",
+                                                                     "the script's end"]
+
+
+def test_lists_of_more_than_a_hundred_are_paged(client: Debugged, tmp_path: Path) -> None:
+    """And Names comes first, before the registers."""
+    client.begin(written(tmp_path, "".join(" STORAGE OBTAIN,LENGTH=8,ADDR=A%03d\n" % k for k in range(120))
+                         + " CPOOL BUILD,PCELLCT=101,CSIZE=8,CPID=C\n"))
+    client.go("continue")
+    scopes = client.ask("scopes", frameId=1)["scopes"]
+    assert [it["name"].split()[0] for it in scopes] == ["Names", "Subpools", "Cell", "Registers", "Pages", "Last"]
+    assert [it.get("indexedVariables") for it in scopes] == [120, None, None, None, None, None]
+    found = client.ask("variables", variablesReference=scopes[0]["variablesReference"], filter="indexed", start=110,
+                       count=50)["variables"]
+    assert [it["name"] for it in found] == ["A%03d" % k for k in range(110, 120)]
+    assert len(tree(client.ask, 1)["Cell pools"]["C"]["free cells"]) == 101
 
 
 def test_data_breakpoints_both_ways(client: Debugged, tmp_path: Path) -> None:
@@ -283,6 +325,17 @@ def test_data_breakpoints_both_ways(client: Debugged, tmp_path: Path) -> None:
     assert [stops(it) for it in ids] == [
         ([2, 7], [6, 1]), ([2, 3, 7], [6, 2, 1]), ([2, 4, 6], [5, 3, 1]), ([2, 6], [5, 1]), ([3, 8], [8, 2])]
     assert not client.ask("setDataBreakpoints", breakpoints=[{"dataId": "rubbish"}])["breakpoints"][0]["verified"]
+
+
+def test_a_data_breakpoint_on_a_cell_pool(client: Debugged, tmp_path: Path) -> None:
+    client.begin(written(tmp_path, " MAP\n CPOOL BUILD,PCELLCT=1,CSIZE=8,CPID=C\n CPOOL GET,CPID=C,CELL=P\n "
+                                   "POKE P,X'C1'\n CPOOL FREE,CPID=C,CELL=P\n CPOOL DELETE,CPID=C\n"))
+    assert client.ask("setDataBreakpoints", breakpoints=[{"dataId": "cellpool:C"}])["breakpoints"][0]["verified"]
+    for command, wanted in (("continue", [3, 4, 6, 6]), ("reverseContinue", [6, 5, 3, 2])):
+        found = []
+        while client.go(command)["reason"] == "data breakpoint":
+            found.append(client.line())
+        assert found == wanted
 
 
 def test_tasks_come_and_go(client: Debugged) -> None:
@@ -398,6 +451,14 @@ def test_pause_in_a_long_script(client: Debugged, tmp_path: Path) -> None:
 
 # Wrong clients, wrong scripts.
 
+@pytest.mark.parametrize("lie", LIES)
+def test_a_length_that_lies_costs_two_messages_at_most(client: Debugged, lie: int) -> None:
+    client.raw(framed(b'{"seq":1,"type":"request","command":"threads"}', lie))
+    client.write({"seq": 2, "type": "event", "event": "none"})
+    client.initialize()
+    assert client.events[0]["body"]["category"] == "stderr"
+
+
 @pytest.mark.parametrize("data", BAD, ids=range(len(BAD)))
 def test_a_bad_message_is_said_and_passed_over(client: Debugged, data: bytes) -> None:
     client.raw(data)
@@ -417,6 +478,9 @@ def test_wrong_requests_are_refused_and_it_lives(client: Debugged, tmp_path: Pat
              ("initialize", {"adapterID": "vsm"})]
     for command, arguments in wrong:
         assert client.refused(command, **arguments)
+    found = client.response(client.send("launch", program="/nowhere"))
+    assert found["message"] == found["body"]["error"]["format"] == "/nowhere: can't be read: No such file or directory"
+    assert found["body"]["error"]["showUser"]
     client.send("launch", program=str(binary), stopOnEntry=True)
     client.until("initialized")
     client.ask("configurationDone")
@@ -430,6 +494,36 @@ def test_wrong_requests_are_refused_and_it_lives(client: Debugged, tmp_path: Pat
         assert client.refused(command, **arguments), command
     client.raw(b"Content-Length: 46\r\n\r\n{\"type\":\"request\",\"command\":5,\"arguments\":[7]}")
     assert client.go("continue")["reason"] == "end" and client.go("reverseContinue")["reason"] == "entry"
+
+
+def test_wrong_values_in_all_requests(vsm: str, tmp_path: Path) -> None:
+    """Each request has its answer, and its adapter lives."""
+    path = written(tmp_path, " STORAGE OBTAIN,LENGTH=8,ADDR=P\n POKE P,A(P)\n STORAGE OBTAIN,LENGHT=8\n BACK 1\n")
+    source, launch = {"path": str(path)}, {"program": str(path), "stopOnEntry": True, "low": 16, "history": 5}
+    thread = {"threadId": 1}
+    requests: list[tuple[str, Message]] = [
+        *((it, thread) for it in ("next", "stepIn", "stepOut", "stepBack", "continue", "reverseContinue", "pause",
+                                  "exceptionInfo", "stackTrace", "threads", "terminate")),
+        ("setBreakpoints", {"source": source, "breakpoints": [
+            {"line": 2, "condition": "answer contains OK"}, {"line": 3, "logMessage": "{P}"}]}),
+        ("setExceptionBreakpoints", {"filters": ["FAULT"], "filterOptions": [{"filterId": "ABEND"}]}),
+        ("dataBreakpointInfo", {"name": "0x6000", "bytes": 4, "asAddress": True}), ("scopes", {"frameId": 1}),
+        ("setDataBreakpoints", {"breakpoints": [{"dataId": "name:P"}, {"dataId": "bytes:6000,8"}]}),
+        ("variables", {"variablesReference": 1, "filter": "indexed", "start": 0, "count": 5}),
+        ("evaluate", {"expression": "storage obtain,length=8", "context": "repl", "frameId": 1}),
+        ("readMemory", {"memoryReference": "0x6000", "offset": 0, "count": 16}),
+        ("writeMemory", {"memoryReference": "0x6000", "offset": 0, "allowPartial": True, "data": "AAAA"}),
+        ("breakpointLocations", {"source": source, "line": 1, "endLine": 4}), ("restart", {"arguments": launch})]
+    for seed in range(10):
+        chance, client = random.Random(seed), Debugged(vsm)
+        client.initialize()
+        for arguments in (damaged_value(chance, launch), launch):
+            client.post("launch", arguments)
+        client.ask("configurationDone")
+        for name, given in chance.choices(requests, k=60):
+            print("seed", seed, name, arguments := damaged_value(chance, given))
+            client.response(client.post(name, arguments))
+        assert client.close() == 0
 
 
 def test_half_a_message_and_a_byte_at_a_time(vsm: str) -> None:
@@ -459,7 +553,7 @@ def test_a_client_that_goes_away_ends_it_and_its_vsm(vsm: str, tmp_path: Path) -
         else:
             client.child.send_signal(how)
         client.child.wait(30)
-        for _ in range(100):    # vsm hears that nobody asks any more
+        for _ in range(100):    # vsm hears that nobody asks
             if os.path.exists("/proc/%d" % child):
                 time.sleep(0.05)
         assert not os.path.exists("/proc/%d" % child) and b"Traceback" not in client.child.stderr.read()

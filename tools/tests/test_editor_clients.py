@@ -12,9 +12,12 @@ from typing import Any, Callable
 
 import pytest
 from conftest import TOOLS, TOP
-from protocols import check_dap, check_lsp
+from protocols import DAP_TABLES, LSP_TABLES, check_dap, check_lsp
 
 from vsmtools import bench
+from vsmtools.debugging import REQUESTS
+from vsmtools.features import FEATURES
+from vsmtools.language import METHODS
 from vsmtools.lines import options_for
 from vsmtools.rpc import Stream
 from vsmtools.walking import Script
@@ -61,7 +64,7 @@ def trial(vsm: str, tmp_path: Path) -> Callable[..., None]:
 
     def run(words: list[object], judge: Callable[[list[dict], list[dict]], None], kept: str = "", **more: str) -> None:
         if not shutil.which(str(words[0])):
-            pytest.fail("%s isn't there: tests/machine installs it" % words[0], pytrace=False)
+            pytest.fail("%s is missing: tests/machine installs it" % words[0], pytrace=False)
         path = "%s:%s" % (tmp_path / "bin", os.environ["PATH"])
         done = subprocess.run([str(it) for it in words], capture_output=True, timeout=SECONDS, cwd=CLIENTS,
                               stdin=subprocess.DEVNULL, env=dict(os.environ, HOME=str(tmp_path), PATH=path, **more))
@@ -154,7 +157,25 @@ def test_messages_that_were_kept(name: str) -> None:
     (check_dap, {"seq": 1, "type": "response", "request_seq": 1, "success": True, "command": "threads", "body": {}}),
     (check_lsp, {"jsonrpc": "2.0", "method": "textDocument/publishDiagnostics", "params": {"diagnostics": []}}),
     (check_lsp, {"jsonrpc": "2.0", "method": "window/showMessage", "params": {"type": 1, "message": "", "more": 1}}),
-    (check_lsp, {"jsonrpc": "2.0", "id": 1, "result": None, "error": {"code": 1, "message": ""}})])
+    (check_lsp, {"jsonrpc": "2.0", "id": 1, "error": {"code": 1, "message": ""}}),
+    (check_lsp, {"jsonrpc": "2.0", "id": 1, "result": None, "error": {"code": -32603, "message": ""}})])
 def test_the_tables_refuse_what_is_wrong(check: Callable[[dict], None], wrong: dict) -> None:
     with pytest.raises(AssertionError, match="^(Events|Requests|Language|Window|Base|Basic)[^:]*: "):
         check(wrong)
+
+
+@pytest.mark.parametrize("check, unknown", [
+    (check_dap, {"seq": 1, "type": "request", "command": "nothing"}),
+    (check_dap, {"seq": 1, "type": "response", "request_seq": 1, "success": True, "command": "nothing"}),
+    (check_lsp, {"jsonrpc": "2.0", "method": "nothing"}), (check_lsp, {"jsonrpc": "2.0", "id": 1, "method": "exit"})])
+def test_the_tables_refuse_what_they_lack(check: Callable[[dict], None], unknown: dict) -> None:
+    with pytest.raises(AssertionError, match="no table has it"):
+        check(unknown)
+
+
+def test_the_tables_have_each_request_of_both_servers() -> None:
+    for name in REQUESTS:
+        assert {"request " + name, "response " + name} <= set(DAP_TABLES.rows), name
+    for name in [*METHODS, *FEATURES]:
+        rows = ({"request " + name, "response " + name}, {"notification " + name})
+        assert any(it <= set(LSP_TABLES.rows) for it in rows), name

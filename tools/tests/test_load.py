@@ -31,7 +31,7 @@ def map_behind(vsm: str, options: list[str], script: str) -> list[str]:
 
 
 def storage_of(lines: Iterable[str]) -> list[str]:
-    """The lines of a map but those of registers."""
+    """The lines of a map except those of registers."""
     return [line for line in lines if not line.startswith(("  R0", "  R8"))]
 
 
@@ -81,7 +81,7 @@ def test_maps_of_generated_scripts_come_back(vsm: str, kind: str, first: int, la
 
 
 def test_words_that_only_cells_have(run: Callable, vsm: str) -> None:
-    """Names and registers 2 to 12 come back; registers 0, 1 and 15 are told in one line together."""
+    """Names and registers 2 to 12 are brought back; registers 0, 1 and 15 are listed in one line together."""
     script = (" CPOOL BUILD,PCELLCT=3,CSIZE=4,CPID=C,LOC=31,SP=5\n CPOOL GET,CPID=C\n CPOOL GET,CPID=C,CELL=ODD\n"
               " CPOOL GET,CPID=C,CELL=(12)\n GETMAIN VRU,LV=(40000,8),SP=9,LOC=31\n STORAGE RELEASE,SP=9\n"
               " STORAGE OBTAIN,LENGTH=8,ADDR=EVEN\n CPOOL FREE,CPID=C,CELL=ODD\n GETMAIN RC,LV=1000000\n")
@@ -164,9 +164,9 @@ NO_SCRIPT = {
     "a parent that shares its child's": (hand_map(tasks(0, 1), [subpool(0, 1, 2), subpool(5, 2, 1)]),
                                          " SUBPOOL 5 OWNER 2", "no task can have shared the subpool"),
     "each before the other": (hand_map(tasks(0, 1, 1), [subpool(0, 1, 2, 3), subpool(5, 2, 3), subpool(6, 3, 2)]),
-                              " TASK 2", "each order of ATTACHes breaks who sees what"),
+                              " TASK 2", "no order of ATTACHes lets each task see its subpools"),
     "shared and given": (hand_map(tasks(0, 1, 2), [subpool(0, 1, 2, 3), subpool(5, 3, 2)]),
-                         " TASK 2", "each order of ATTACHes breaks who sees what"),
+                         " TASK 2", "no order of ATTACHes lets each task see its subpools"),
     "two at once for a while": (hand_map(tasks(0, 1, 2, 3), [subpool(0, 1, 2, 3, 4), subpool(5, 1, 2),
                                                               subpool(5, 4, 3)]),
                                 " TASK 2", "the task sees two subpools 5 at once"),
@@ -190,7 +190,7 @@ def test_no_script_is_found(run: Callable, vsm: str, kind: str) -> None:
 
 
 @pytest.mark.parametrize("given, line, what", [
-    (hand_map(tasks(0, 3, 2), [subpool(0, 1, 2, 3)]), " TASK 2", "its parents lead round in a circle"),
+    (hand_map(tasks(0, 3, 2), [subpool(0, 1, 2, 3)]), " TASK 2", "its parents form a circle"),
     (hand_map(tasks(0), [subpool(0, 1)], names=[Name("HERE", HIGH_START - 8)]), " NAME HERE", "a name has the address"),
     (hand_map(tasks(0, 1), [subpool(0, 1, 2), subpool(5, 1, 2), subpool(5, 2)]), " SUBPOOL 5 OWNER 2",
      "task 2 sees another subpool 5"),
@@ -221,9 +221,9 @@ def test_maps_by_hand_that_are_wrong(run: Callable, vsm: str, given: bytes, line
     (b"\0\1\2\xff", "standard input:1:1: no line of a map"),
     (b"0000001 RC=0 A=00006000 L=00000010\n", "an output of vsm without one"),
     (b" TASK 1 PARENT 0\n TASK 2 PARENT 1\n",
-     "standard input:2:1: a line TASK can't stand here: expected R0"),
+     "standard input:2:1: a line TASK isn't allowed here: expected R0"),
     (b"0000001 MAP\n TASK 1 PARENT 0 CURRENT\n",
-     "standard input:2:1: the map is cut short: it ends behind TASK"),
+     "standard input:2:1: the map is cut short: it ends after TASK"),
 ])
 def test_what_is_no_map(run: Callable, vsm: str, text: bytes, told: str) -> None:
     done = run(TOOL, "--vsm", vsm, given=text)
@@ -252,10 +252,10 @@ LAST = CELLS.split("0000031 MAP\n")[1]
 
 @pytest.mark.parametrize("old, new, line, told", [
     ("TASK 2 PARENT 1", "TASK 2 PARENT 3", 4, "no task 3 attached it"),
-    (" CURRENT", "", 4, "just one task is CURRENT"),
+    (" CURRENT", "", 4, "exactly one task is CURRENT"),
     ("SUBPOOL 0 OWNER 1 SHARERS 2", "SUBPOOL 0 OWNER 1 SHARERS NONE", 4, "each task sees a subpool 0"),
     ("SUBPOOL 0 OWNER 1 SHARERS 2", "SUBPOOL 0 OWNER 1 SHARERS " + "9" * 5000, 7, "not a whole line SUBPOOL"),
-    ("SUBPOOL 3 OWNER 2", "SUBPOOL 3 OWNER 9", 8, "there is no task 9"),
+    ("SUBPOOL 3 OWNER 2", "SUBPOOL 3 OWNER 9", 8, "task 9 doesn't exist"),
     ("SUBPOOL 3 OWNER 2 SHARERS NONE\n", "SUBPOOL 128 OWNER 2 SHARERS NONE\n", 8, "from 0 to 127"),
     ("EXTENT 00006000 00001000", "EXTENT 00006000 00001008", 9, "a run of pages of one region"),
     ("EXTENT 00006000 00001000", "EXTENT 00005000 00001000", 9, "a run of pages of one region"),

@@ -1,4 +1,4 @@
-"""vsm-paste: sources to scripts, line by line, and what is told of them."""
+"""vsm-paste: sources to scripts, line by line, and what is reported of them."""
 from __future__ import annotations
 
 import re
@@ -15,8 +15,8 @@ from vsmtools.pasting import MACROS, Paste
 
 TOOL = "vsm-paste"
 SOURCES = Path(__file__).parent / "sources"
-# How many macros each source has, how many vsm accepts, and of these how many are no abend. Accepted is what is
-# answered as z/OS would: carried out, or an abend that the source has there; no FAULT, no REFUSED, no comment.
+# How many macros each source has, how many vsm accepts, and of these how many are no abend. A macro is accepted if its
+# answer is that of z/OS: carried out, or an abend that the source has there; no FAULT, no REFUSED, no comment.
 COUNTS = {"reentrant": (15, 15, 15), "cellserver": (23, 22, 22), "subtasks": (21, 20, 20),
           "tblbld": (11, 11, 11),
           # A fragment. Its copybook and what four registers and fields hold have to be given; GETMAIN VRU has no
@@ -33,7 +33,7 @@ def told(done) -> list[str]:
 
 
 def paste(run: Callable, text: str, *words: object) -> tuple[list[str], list[str], int]:
-    """The lines of the script but the last, what is told, and the status."""
+    """The lines of the script except the last, what is reported, and the status."""
     done = run(TOOL, *words, given=text.encode())
     return done.stdout.decode().splitlines()[:-1], told(done)[1:], done.returncode
 
@@ -59,7 +59,7 @@ def test_a_source(run: Callable, vsm: str, name: str) -> None:
     begins = macros_in(path)
     assert len(begins) == macros
     answers = bench.run(vsm, [], done.stdout).answers
-    # Each answer bears its line's number in the source, and nothing is faulty.
+    # Each answer has its line's number in the source, and nothing is faulty.
     assert len(answers) == taken and {answer.line for answer in answers} <= set(begins)
     assert not any(answer.text.startswith(("FAULT", "REFUSED")) for answer in answers)
     assert sum(not answer.is_refused for answer in answers) == carried_out
@@ -78,7 +78,7 @@ def test_nine_macros_in_ten_are_accepted(name: str) -> None:
 
 
 def test_a_fragment_without_what_it_lacks(run: Callable, vsm: str) -> None:
-    """Each macro that isn't taken is told with its line, column and reason."""
+    """Each macro that isn't taken is listed with its line, column and reason."""
     done = run(TOOL, SOURCES / "bufmgr.asm")
     notes = [note.split("bufmgr.asm:")[1] for note in told(done) if "isn't taken" in note]
     assert [note.partition(" isn't taken: ")[::2] for note in notes] == [
@@ -87,7 +87,7 @@ def test_a_fragment_without_what_it_lacks(run: Callable, vsm: str) -> None:
                            "GETMAIN"),
         ("26:21: FREEMAIN", "what register 0 holds here isn't known: line 25 changes it"),
         ("29:26: STORAGE", "BUF isn't defined: --copy or --equ defines it"),
-        ("32:17: DETACH", "TCBADDR isn't known to hold a task that an ATTACH before gave")]
+        ("32:17: DETACH", "TCBADDR isn't known to hold a task that an earlier ATTACH gave")]
     answers = bench.run(vsm, [], done.stdout).answers
     assert done.returncode == 4 and len(answers) == 14
     assert not any(answer.text.startswith(("FAULT", "REFUSED")) for answer in answers)
@@ -130,15 +130,15 @@ def test_what_is_worked_out(run: Callable, vsm: str, source: str, expected: str)
 
 
 @pytest.mark.parametrize("source, line, why", [
-    ("A EQU B\nB EQU A\n GETMAIN R,LV=A", 3, "GETMAIN isn't taken: A stands on itself: A B A"),
-    ("A EQU L'A\n GETMAIN R,LV=A", 1, "A stands on itself: A A"),
-    ("A EQU B,L'B\nB EQU A,L'A\n GETMAIN RU,LV=L'A", 1, "A stands on itself: A B A"),
-    ("A EQU 1,L'B\nB EQU 2,L'A\n", 1, "A stands on itself: A B A"),
-    ("A EQU A\n", 1, "A stands on itself: A A"),
+    ("A EQU B\nB EQU A\n GETMAIN R,LV=A", 3, "GETMAIN isn't taken: A depends on itself: A B A"),
+    ("A EQU L'A\n GETMAIN R,LV=A", 1, "A depends on itself: A A"),
+    ("A EQU B,L'B\nB EQU A,L'A\n GETMAIN RU,LV=L'A", 1, "A depends on itself: A B A"),
+    ("A EQU 1,L'B\nB EQU 2,L'A\n", 1, "A depends on itself: A B A"),
+    ("A EQU A\n", 1, "A depends on itself: A A"),
     (" MACRO\n M &X\n GETMAIN R,LV=&X\n MEND\n M 8\n", 1, "a macro definition isn't taken"),
     (" GETMAIN R,LV=&LEN\n", 1, "it has a variable symbol"),
     (" GETMAIN R,LV=NOWHERE\n", 1, "NOWHERE isn't defined"),
-    (" GETMAIN R,LV=(5)\n", 1, "no line before gives it a number"),
+    (" GETMAIN R,LV=(5)\n", 1, "no earlier line gives it a number"),
     (" LA 5,8\n LM 4,6,X\n GETMAIN RU,LV=(5)\n", 3, "line 2 changes it"),
     (" LA 0,8\n WTO 'X'\n GETMAIN R,LV=(0)\n", 3, "line 2 changes it"),
     ("C CSECT\nA DS F\n LR 1,2\nB DS F\n GETMAIN R,LV=B-A\n", 5, "instructions lie between"),
@@ -171,7 +171,7 @@ def test_what_is_worked_out(run: Callable, vsm: str, source: str, expected: str)
     (" DETACH\n", 1, "it names no task"),
 ])
 def test_what_is_told(run: Callable, vsm: str, source: str, line: int, why: str) -> None:
-    """It's told with its line; and what isn't known isn't in the script."""
+    """It's listed with its line; and what isn't known isn't in the script."""
     script, notes, _ = paste(run, source + "\n")
     found = [note for note in notes if why in note]
     assert found and re.match(r"standard input:%d:\d+: " % line, found[0]), notes
@@ -183,7 +183,7 @@ KEPT = GET + " ST 1,W2\n LR 6,1\n"           # W2 has the area of line 1
 DATA = "C CSECT\nW DS 0XL16\nW1 DS A\nW2 DS A\nW3 DS A\nW4 DS A\nP DS A\n"
 LIST = "D DSECT\nNEXT DS A\nOWN DS A\nC CSECT\n USING D,10\n"
 TRAPS = {
-    # What a conditional form leaves where it's answered 4.
+    # What a conditional form leaves if its answer is 4.
     "RC, and register 1": (" GETMAIN RU,LV=8\n LR 6,1\n GETMAIN RC,LV=1048576\n FREEMAIN RU,LV=8,A=(1)\n"
                            " FREEMAIN RU,LV=8,A=(6)", {4: "FREEMAIN RU,LV=8,A=AREA3"}, "(1) is taken as AREA3"),
     "COND=YES, and a name": (" STORAGE OBTAIN,LENGTH=8,ADDR=P\n L 6,P\n STORAGE OBTAIN,LENGTH=1048576,COND=YES,ADDR=P\n L 5,P\n"
@@ -203,7 +203,7 @@ TRAPS = {
     "MVC": (DATA + KEPT + " MVC W1(8),P\n L 4,W2\n" + FREE, {13: ""}, "what register 4 holds"),
     "STM": (DATA + KEPT + " STM 7,8,W1\n L 4,W2\n" + FREE, {13: ""}, "what register 4 holds"),
     "XC of all": (DATA + KEPT + " XC W,W\n L 4,W2\n" + FREE, {13: ""}, "what register 4 holds"),
-    "XC beside it": (DATA + KEPT + " XC W3(8),W3\n L 4,W2\n" + FREE, {13: "FREEMAIN RU,LV=64,A=(1)"}, ""),
+    "XC next to it": (DATA + KEPT + " XC W3(8),W3\n L 4,W2\n" + FREE, {13: "FREEMAIN RU,LV=64,A=(1)"}, ""),
     "ST with an offset": (DATA + KEPT + " ST 7,W1+4\n L 4,W2\n" + FREE, {13: ""}, "what register 4 holds"),
     "ST by a register": (DATA + KEPT + " ST 7,4(,8)\n L 4,W2\n" + FREE, {13: ""}, "what register 4 holds"),
     "MVCL by a register": (DATA + KEPT + " MVCL 8,2\n L 4,W2\n" + FREE, {13: ""}, "what register 4 holds"),
@@ -218,18 +218,18 @@ TRAPS = {
     "EX": (" LA 3,64\n EX 2,X\n GETMAIN RU,LV=(3)\nX LA 3,0", {3: ""}, "line 2 executes"),
     "CPOOL by its own registers": (" CPOOL BUILD,PCELLCT=1,CSIZE=8,CPID=P\n LA 3,64\n CPOOL GET,CPID=P,REGS=USE\n GETMAIN RU,LV=(3)",
                                    {4: ""}, "line 3 changes it"),
-    # What a branch may bring.
-    "DS 0H": (" LA 3,64\n BNZ X\n LA 3,8\nX DS 0H\n GETMAIN RU,LV=(3)", {5: ""}, "a branch to X in line 4 may bring another"),
-    "EQU *": (" LA 3,64\n BNZ X\n LA 3,8\nX EQU *\n GETMAIN RU,LV=(3)", {5: ""}, "a branch to X in line 4 may bring another"),
-    "a macro's label": (" LA 3,64\n BNZ X\n LA 3,8\nX GETMAIN RU,LV=(3)", {4: ""}, "a branch to X in line 4 may bring another"),
-    "a loop": (" LA 3,64\nX GETMAIN RU,LV=(3)\n LA 3,8\n BCT 5,X", {2: ""}, "a branch to X in line 2 may bring another"),
-    "a loop in a loop": (" LA 3,64\nX LR 2,3\nY GETMAIN RU,LV=(2)\n BCT 5,Y\n LA 3,8\n J X", {3: ""}, "may bring another"),
-    "EQU *+4": (" LA 3,64\n BNZ X\nX EQU *+4\n LA 3,8\n GETMAIN RU,LV=(3)", {5: ""}, "may bring another"),
+    # The values that a branch may give.
+    "DS 0H": (" LA 3,64\n BNZ X\n LA 3,8\nX DS 0H\n GETMAIN RU,LV=(3)", {5: ""}, "a branch to X in line 4 may change it"),
+    "EQU *": (" LA 3,64\n BNZ X\n LA 3,8\nX EQU *\n GETMAIN RU,LV=(3)", {5: ""}, "a branch to X in line 4 may change it"),
+    "a macro's label": (" LA 3,64\n BNZ X\n LA 3,8\nX GETMAIN RU,LV=(3)", {4: ""}, "a branch to X in line 4 may change it"),
+    "a loop": (" LA 3,64\nX GETMAIN RU,LV=(3)\n LA 3,8\n BCT 5,X", {2: ""}, "a branch to X in line 2 may change it"),
+    "a loop in a loop": (" LA 3,64\nX LR 2,3\nY GETMAIN RU,LV=(2)\n BCT 5,Y\n LA 3,8\n J X", {3: ""}, "may change it"),
+    "EQU *+4": (" LA 3,64\n BNZ X\nX EQU *+4\n LA 3,8\n GETMAIN RU,LV=(3)", {5: ""}, "may change it"),
     "a label by AIF": (" LA 3,64\n BNZ X\n AIF (&A).A\nX DS 0H\n.A ANOP\n LA 3,8\nX DS 0H\n GETMAIN RU,LV=(3)", {8: ""}, "defined twice"),
     "*+8": (" LA 3,64\n BNZ *+8\n LA 3,8\n GETMAIN RU,LV=(3)", {4: ""}, "a branch to line 4"),
     "code of one's own": (" LA 3,64\n BAS 14,SUB\n GETMAIN RU,LV=(3)\n B X\nSUB LA 3,8\n BR 14\nX DS 0H", {3: ""}, "line 2 calls SUB"),
     "an exit": (" LA 3,64\n ESTAE X\n B Y\nX GETMAIN RU,LV=(3)\nY DS 0H", {4: ""}, "other code may lead to X"),
-    "all ways bring the same": (" LA 3,64\n BZ X\n WTO 'NO'\n B Y\nX GETMAIN RU,LV=(3)\nY GETMAIN RU,LV=(3)",
+    "all ways give the same": (" LA 3,64\n BZ X\n WTO 'NO'\n B Y\nX GETMAIN RU,LV=(3)\nY GETMAIN RU,LV=(3)",
                                 {5: "GETMAIN RU,LV=64", 6: "GETMAIN RU,LV=64"}, ""),
     "an arm that ends": (" GETMAIN RC,LV=64\n LTR 15,15\n BZ X\n ABEND 1\nX LR 5,1\n FREEMAIN RU,LV=64,A=(5)",
                          {6: "FREEMAIN RU,LV=64,A=AREA1"}, ""),
@@ -271,8 +271,8 @@ def as_statement(line: str) -> str:
 
 @pytest.mark.parametrize("trap", TRAPS)
 def test_traps(vsm: str, trap: str) -> None:
-    """What the source doesn't say isn't in the script, and why is told; and the script never releases what the source
-    doesn't."""
+    """What the source doesn't say isn't in the script, and the reason is listed; and the script never releases what the
+    source doesn't."""
     source, expected, why = TRAPS[trap]
     it = Paste([line[:72] for line in source.split("\n")], {}, {})
     script = it.paste()
@@ -286,7 +286,7 @@ def test_traps(vsm: str, trap: str) -> None:
 def test_what_comes_from_elsewhere_is_told(run: Callable) -> None:
     _, notes, _ = paste(run, " LA 0,8\nHERE DS 0H\nTHERE LR 2,3\n GETMAIN R,LV=(0)\n GETMAIN RU,LV=8,SP=230,KEY=9\n")
     text = "\n".join(notes)
-    assert "standard input:4:1: LV=(0) is taken as 8, of line 1; a branch to THERE in line 3 may bring another" in text
+    assert "standard input:4:1: LV=(0) is taken as 8, of line 1; a branch to THERE in line 3 may change it" in text
     assert "standard input:5:1: subpool 230 is taken as 127" in text and "KEY=9 has no meaning here and is dropped" in text
 
 
@@ -332,7 +332,7 @@ def test_what_is_said_to_be_held(run: Callable, vsm: str) -> None:
 
 @pytest.mark.parametrize("word, why", [
     ("2:R5=NOWHERE", "isn't used: NOWHERE isn't defined"), ("9:R5=8", "isn't used: that line has no statement"),
-    ("2:R5=@7", "isn't used: line 7 is no macro before"), ("4:R5=@1", "isn't used: line 1 is no macro before"),
+    ("2:R5=@7", "isn't used: line 7 is no earlier macro"), ("4:R5=@1", "isn't used: line 1 is no earlier macro"),
 ])
 def test_what_is_said_in_vain(run: Callable, word: str, why: str) -> None:
     _, notes, _ = paste(run, " GETMAIN RU,LV=8\n LR 2,3\n BACK 1\n LR 2,3\n", "--at", word)
@@ -340,12 +340,12 @@ def test_what_is_said_in_vain(run: Callable, word: str, why: str) -> None:
 
 
 def test_copies(run: Callable, tmp_path: Path) -> None:
-    """Definitions are taken from there; macros and what can't be known are told."""
+    """Definitions are taken from there; macros and what can't be known are listed."""
     copy = tmp_path / "copy"
     copy.write_text("LEN EQU 8*4\nX EQU X\n GETMAIN RU,LV=8\n MACRO\n M\nLEN EQU 8\n MEND\nB DS CL5\n")
     script, notes, status = paste(run, " GETMAIN RU,LV=LEN+L'B\nD DS F\n GETMAIN RU,LV=D-B\n", "--copy", copy)
     assert status == 4 and script[0] == " GETMAIN RU,LV=37" and script[2].startswith("*")
-    for text in ("line 2: X stands on itself", "line 3: GETMAIN isn't taken from there", "line 4: MACRO isn't"):
+    for text in ("line 2: X depends on itself", "line 3: GETMAIN isn't taken from there", "line 4: MACRO isn't"):
         assert any("--copy %s, %s" % (copy, text) in note for note in notes), notes
     done = run(TOOL, "--copy", tmp_path / "nowhere", given=b" MAP\n")
     assert done.returncode == 8 and "nowhere" in done.stderr.decode()

@@ -38,7 +38,7 @@ class Terminal:
         self.seen = b""
 
     def read(self, seconds: float) -> bool:
-        """Takes what has come; whether there may be more."""
+        """Takes the output so far; whether there may be more."""
         ready, _, _ = select.select([self.end], [], [], seconds)
         try:
             piece = os.read(self.end, 1 << 16) if ready else b""
@@ -48,7 +48,7 @@ class Terminal:
         return bool(piece)
 
     def until(self, text: str, seconds: float = SECONDS) -> str:
-        """What has come up to a text; the rest is left for later."""
+        """The output up to a text; the rest is left for later."""
         end = time.monotonic() + seconds
         while text.encode() not in CODES.sub(b"", self.seen):
             if not self.read(max(0, end - time.monotonic())):
@@ -60,8 +60,8 @@ class Terminal:
         os.write(self.end, text.encode())
 
     def interrupt(self, prompt: str) -> None:
-        """Ctrl+C, up to the prompt. It's typed again where nothing comes of it, as a person would: Python doesn't see a signal
-        that comes while readline is at a key."""
+        """Ctrl+C, up to the prompt. It's typed again if nothing follows, as a person would: Python doesn't see a signal
+        that arrives while readline is at a key."""
         for _ in range(10):
             self.type("\x03")
             try:
@@ -72,7 +72,7 @@ class Terminal:
         raise AssertionError("Ctrl+C does nothing: %r" % self.seen)
 
     def ask(self, text: str, prompt: str) -> str:
-        """A line typed, and what comes up to the next prompt."""
+        """A line typed, and the output up to the next prompt."""
         self.type(text + "\n")
         return self.until(prompt)
 
@@ -133,7 +133,7 @@ def test_history_and_editing(terminal: Callable[..., Terminal]) -> None:
 
 
 def test_the_first_prompt_and_lines_of_earlier_sessions(terminal: Callable[..., Terminal], tmp_path: Path) -> None:
-    """Nothing stands before the prompt. A file that can't be written, or is none, is no fault."""
+    """Nothing is before the prompt. A file that can't be written, or is none, is no fault."""
     kept = tmp_path / ".local" / "state" / "nilbozad" / "vsm-prompt.history"
     for before in ("", "storage obtain,length=16\n"):
         it = terminal()
@@ -342,7 +342,7 @@ def test_control_characters_of_a_script(run: Callable, vsm: str, tmp_path: Path)
 
 
 def test_wide_characters_up_to_the_last_column(run: Callable, vsm: str) -> None:
-    """Columns are counted in bytes, so that no statement waits for a line that doesn't come."""
+    """Columns are counted in bytes, so that no statement waits for a line that never follows."""
     shown, told = talk(run, vsm, "map %s\nmap\n" % ("\u00e4" * 40))
     assert [line[:11] for line in shown if "MAP" in line] == ["0000001 MAP", "0000003 MAP"] and not told
 
@@ -367,7 +367,7 @@ def test_nothing_is_replaced_unasked(run: Callable, vsm: str, tmp_path: Path) ->
 
 
 def test_what_vsm_explain_says(run: Callable, vsm: str, tmp_path: Path) -> None:
-    """By vsm-explain where it's there; a word that it isn't where not."""
+    """By vsm-explain if it's found; otherwise a message that it isn't."""
     typed = "storage obtain,length=8,addr=p\npoke p,x'ff'\nstorage obtain,lenght=8\n"
     shown, told = talk(run, vsm, typed + ".who p\n.who (1)\n.who nothing\n.why 1\n.why\n.list\n.why 77\n.why x\n.who\n")
     try:
@@ -384,12 +384,12 @@ def test_what_vsm_explain_says(run: Callable, vsm: str, tmp_path: Path) -> None:
 
 
 def test_a_page(run: Callable, vsm: str, tmp_path: Path) -> None:
-    """By vsm-view where it's there; a word that it isn't where not."""
+    """By vsm-view if it's found; otherwise a message that it isn't."""
     shown, told = talk(run, vsm, "storage obtain,length=8\n.view %s\n" % (tmp_path / "page.html"))
     if (TOOLS / "vsm-view").exists():
         assert not told and (tmp_path / "page.html").read_text().lstrip().lower().startswith("<!doctype html")
     else:
-        assert told == ["vsm-prompt: vsm-view isn't there, beside vsm-prompt"]
+        assert told == ["vsm-prompt: vsm-view isn't in vsm-prompt's folder"]
 
 
 def test_the_end_of_a_history(run: Callable, vsm: str) -> None:

@@ -1,5 +1,5 @@
-"""What holds of each tool: --help, wrong words, a missing vsm, a full disk, a closed pipe, and where it may
-lie."""
+"""What holds of each tool: --help, wrong arguments, a missing vsm, a full disk, a closed pipe, and the folders that it
+may be in."""
 from __future__ import annotations
 
 import os
@@ -177,7 +177,7 @@ def test_folded_statements_are_read_as_one(vsm: str) -> None:
 def test_a_session_answers_as_a_run_does(vsm: str) -> None:
     path = TOP / "examples" / "continued-lines.vsm"
     script = lines.split_lines(path.read_bytes())
-    # The script ends where one more line should come, which a partner would wait for.
+    # The script ends where another line should follow, which a partner would wait for.
     asked = [it for it in lines.statements(script) if not lines.is_continued(script[it.last - 1])]
     with bench.Session(vsm) as session:
         got = [session.say([line.decode() for line in script[it.first - 1:it.last]]) for it in asked]

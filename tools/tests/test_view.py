@@ -1,4 +1,4 @@
-"""Trials of tools/vsm-view: the page's data, its words, and what it says of bad input."""
+"""Trials of tools/vsm-view: the page's data, its arguments, and what it says of bad input."""
 from __future__ import annotations
 
 import base64
@@ -26,8 +26,8 @@ MAP = """ TASK 1 PARENT 0 CURRENT
  BYTES TAKEN 0 FREE 0
  HISTORY KEPT 0 OF 1024
 """
-# Stands for vsm: each line is a statement, and is answered OPERATION but for a MAP. All lines behind one that
-# has "within" in it belong to that; behind the first MAP a line with "fickle" in it is answered otherwise.
+# In place of vsm: each line is a statement, and is answered OPERATION except a MAP. All lines after one that has
+# "within" in it belong to that; after the first MAP a line with "fickle" in it gets another answer.
 STANDIN = f"""#!{sys.executable}
 import sys
 lines, number, maps = sys.stdin.read().split("\\n"), 0, 0
@@ -174,7 +174,7 @@ def test_programs_that_are_not_vsm(tmp_path: Path, program: Path) -> None:
     assert fault(tmp_path / "absent", script)[0] == 16
     assert fault(script, script)[0] == 16
     script.write_bytes(b" A\n fickle\n")
-    assert "answers otherwise" in fault(program, script)[1]
+    assert "gives other answers" in fault(program, script)[1]
 
 
 def test_too_many_lines(program: Path, tmp_path: Path) -> None:

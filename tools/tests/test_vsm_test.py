@@ -44,7 +44,7 @@ Fake = Callable[[str], str]
 
 @pytest.fixture
 def tool(vsm: str, tmp_path: Path) -> Tool:
-    """Runs vsm-test with these words in a folder of its own."""
+    """Runs vsm-test with these arguments in a folder of its own."""
     def run(*words: object, program: str = vsm, **given: Any) -> Ended:
         command = [sys.executable, str(TOOL), "--program", program, *map(str, words)]
         return Ended(subprocess.run(command, capture_output=True, cwd=tmp_path, timeout=120, **given))
@@ -89,7 +89,7 @@ def test_what_differs_is_told_with_file_and_line(tool: Tool, put: Put) -> None:
     put("wrong.vsm", b"* a comment\n", OBTAIN, b"\n* one more\n*> RC=0 A=00006008 L=00000008\n")
     done = tool("wrong.vsm")
     assert done.status == 1
-    assert done.lines == ["wrong.vsm:5: line 2 is answered otherwise (- expected, + answered)",
+    assert done.lines == ["wrong.vsm:5: line 2 gets another answer (- expected, + answered)",
                           "-RC=0 A=00006008 L=00000008", "+RC=0 A=00006000 L=00000008", "0 passed, 1 failed"]
 
 
@@ -109,7 +109,7 @@ def test_a_map_is_compared_line_by_line(tool: Tool, put: Put) -> None:
     lines[at] = "*>   FREE 00006008 00000FF0\n"
     lesson.write_text("".join(lines))
     done = tool("map.vsm")
-    assert done.lines[0].startswith("map.vsm:%d: line 3 is answered otherwise" % (at + 1))
+    assert done.lines[0].startswith("map.vsm:%d: line 3 gets another answer" % (at + 1))
     assert "-  FREE 00006008 00000FF0" in done.lines and "+  FREE 00006008 00000FF8" in done.lines
     lesson.write_text("".join(lines[:-1]))
     assert tool("map.vsm").status == 1
@@ -127,7 +127,7 @@ def test_the_last_statement_of_an_open_script(tool: Tool, put: Put) -> None:
     put("open.vsm", OBTAIN, RIGHT, b"*>end FAULT CONTINUATION\n", b" BACK 1".ljust(71), b"X\n")
     assert tool("open.vsm").status == 0
     put("other.vsm", OBTAIN, RIGHT, b"*>end FAULT VALUE\n", b" BACK 1".ljust(71), b"X\n")
-    assert tool("other.vsm").lines[0].startswith("other.vsm:3: line 4 is answered otherwise")
+    assert tool("other.vsm").lines[0].startswith("other.vsm:3: line 4 gets another answer")
 
 
 def test_a_blank_is_to_be_filled_in(tool: Tool, put: Put) -> None:
@@ -190,9 +190,9 @@ def test_an_exercise_without_its_answers(tool: Tool, put: Put) -> None:
     put("all/right.vsm", OBTAIN, RIGHT)
     done = tool("--no-answers", "--junit", "report.xml", "all")
     assert (done.status, done.errors) == (1, "")
-    assert done.lines == ["all/exercise.vsm:4: line 3 is answered otherwise",
+    assert done.lines == ["all/exercise.vsm:4: line 3 gets another answer",
                           "all/exercise.vsm:6: the answer to line 5 is to be filled in",
-                          "all/exercise.vsm:9: line 7 is answered otherwise", "all/exercise.vsm: 1 of 4",
+                          "all/exercise.vsm:9: line 7 gets another answer", "all/exercise.vsm: 1 of 4",
                           "all/right.vsm: 1 of 1", "1 passed, 1 failed"]
     assert "RC=0" not in (put("x").parent / "report.xml").read_text()
     for word in ("--write", "--hide"):
@@ -275,25 +275,25 @@ def test_junit(tool: Tool, put: Put, tmp_path: Path) -> None:
 # Wrong input.
 
 @pytest.mark.parametrize("data, told", [
-    (RIGHT + OBTAIN, "1:1: an expectation stands behind its statement"),
+    (RIGHT + OBTAIN, "1:1: an expectation has to be after its statement"),
     (OBTAIN + b"*>RC=0\n", "2:3: an unknown form '*>RC=0'"),
     (OBTAIN + b"*>\n", "2:3: an expectation without a text"),
     (OBTAIN + b"*>   \n", "2:3: an expectation without a text"),
     (OBTAIN + b"*>  ?\n", "2:3: an unknown form"),
     (OBTAIN + b"*>ending RC=0\n", "2:3: an unknown form '*>ending'"),
-    (OBTAIN + b"*> 0000001 RC=0\n", "2:4: an answer stands here without its number"),
-    (OBTAIN + b" *> RC=0\n", "2:2: '*>' stands in column 1"),
-    (OBTAIN + b"*! --low 4\n", "2:1: options stand before the first statement, which is in line 1"),
+    (OBTAIN + b"*> 0000001 RC=0\n", "2:4: an answer is written here without its number"),
+    (OBTAIN + b" *> RC=0\n", "2:2: '*>' has to be in column 1"),
+    (OBTAIN + b"*! --low 4\n", "2:1: options have to be before the first statement, which is in line 1"),
     (b"*!--low 4\n" + OBTAIN, "1:1: an unknown form '*!--low'"),
     (b"*!\n" + OBTAIN, "1:1: an unknown form '*!'"),
     (b"*! --low 4 file\n" + OBTAIN, "1:12: 'file' is no option of vsm"),
     (b"*! -- file\n" + OBTAIN, "1:4: '--' is no option of vsm"),
     (b"* x\n*! --low 6\n" + OBTAIN + RIGHT, "2:4: vsm refuses '--low 6': vsm: settings"),
     (b"*! --lwo 6\n" + OBTAIN + RIGHT, "1:4: vsm refuses '--lwo 6': error: "),
-    (b" BACK 0".ljust(71) + b"X\n*> KEPT=0\n", "2:1: '*>' can't stand here: column 72 of line 1 isn't blank"),
-    (b"*>end KEPT=0\n BACK 0\n" + OBTAIN, "1:1: '*>end' stands right before the last statement"),
-    (OBTAIN + b"*>end KEPT=0\n", "2:1: '*>end' stands right before the last statement"),
-    (b"*>end KEPT=0\n BACK 0\n*> KEPT=0\n", "1:1: the last statement has an expectation behind it too, in "),
+    (b" BACK 0".ljust(71) + b"X\n*> KEPT=0\n", "2:1: '*>' isn't allowed here: column 72 of line 1 isn't blank"),
+    (b"*>end KEPT=0\n BACK 0\n" + OBTAIN, "1:1: '*>end' has to be right before the last statement"),
+    (OBTAIN + b"*>end KEPT=0\n", "2:1: '*>end' has to be right before the last statement"),
+    (b"*>end KEPT=0\n BACK 0\n*> KEPT=0\n", "1:1: the last statement has an expectation after it too, in "),
 ])
 def test_wrong_scripts(tool: Tool, put: Put, data: bytes, told: str) -> None:
     script = put("wrong.vsm", data)
@@ -346,7 +346,7 @@ def test_a_program_that_is_missing(tool: Tool, put: Put, tmp_path: Path, text: b
     ("printf '0000001 \\377\\n'", "fake printed bytes above X'7F'"),
     ("printf '0000001 OK'", "the last line that fake printed has no end"),
     ("echo 0000007 OK", "fake answered line 7, 'OK', where no statement begins"),
-    ("echo 0000001 OK; echo 0000001 OK", "fake answered line 1 behind line 1"),
+    ("echo 0000001 OK; echo 0000001 OK", "fake answered line 1 after line 1"),
     ("exit 3", "fake ended with status 3"),
     ("exit 4", "fake ended with status 4, and 0 goes with these answers"),
     ("echo 0000001 ABEND S878", "fake ended with status 0, and 4 goes with these answers"),
@@ -376,12 +376,12 @@ def test_a_program_that_ends_early(tool: Tool, put: Put, fake: Fake) -> None:
 def test_a_program_that_answers_otherwise_each_time(tool: Tool, put: Put, fake: Fake) -> None:
     given = put("lesson.vsm", b" BACK 0\n")
     done = tool("--write", "lesson.vsm", program=fake("echo 0000001 KEPT=$(wc -c)"))
-    assert done.lines[0].startswith("lesson.vsm: with its answers filled in, line 1 is answered otherwise")
+    assert done.lines[0].startswith("lesson.vsm: with its answers filled in, line 1 gets another answer")
     assert done.status == 1 and given.read_bytes() == b" BACK 0\n"
 
 
 def left_of(command: str) -> list[str]:
-    """The processes of a command that are there."""
+    """The processes of a command that exist."""
     found = []
     for folder in Path("/proc").glob("[0-9]*"):
         try:
@@ -406,6 +406,9 @@ def test_nothing_is_left_behind(put: Put, fake: Fake, tmp_path: Path) -> None:
         if stop:
             child.send_signal(stop)
         assert child.wait(20) == (130 if stop else 1)
+        until = time.monotonic() + 5        # on a busy machine a process that was killed is listed a while longer
+        while left_of(sleep) and time.monotonic() < until:
+            time.sleep(0.05)
         assert left_of(sleep) == []
 
 
@@ -472,12 +475,12 @@ def test_a_wrong_answer_in_each_of_twenty_files_is_told(tool: Tool, tmp_path: Pa
         planted[name] = at + 1
     done = tool("all")
     assert (done.status, done.lines[-1]) == (1, "0 passed, 20 failed")
-    told = [tuple(line.split(":")[:2]) for line in done.lines if " is answered otherwise " in line]
+    told = [tuple(line.split(":")[:2]) for line in done.lines if " gets another answer " in line]
     assert told == [(name, str(planted[name])) for name in sorted(planted)]
 
 
 def checked_copy(folder: Path) -> Ended:
-    """What the check of the rules says of a copy of the suite, which is made where there is none."""
+    """What the check of the rules says of a copy of the suite, which is made if there is none."""
     for part in ("conformance", "docs", "tests"):
         if not (folder / part).exists():
             shutil.copytree(TOP / part, folder / part)
@@ -487,7 +490,7 @@ def checked_copy(folder: Path) -> Ended:
 
 # What is planted in such a copy, and what the check says to it.
 PLANTED = [
-    ("conformance/rules", b"a shorter line", b"a longer line", "isn't in STATEMENTS: Lines any more"),
+    ("conformance/rules", b"a shorter line", b"a longer line", "is no longer in STATEMENTS: Lines"),
     ("conformance/rules", b"\n5 | ", b"\n6 | ", "rule 6 should have the number 5"),
     ("conformance/rules", b" lines/columns ", b" lines/collums ", "there is no file lines/collums"),
     ("conformance/rules", b" | STATEMENTS: Lines | ", b" | STATEMENTS: Li | ", "no section 'STATEMENTS: Li'"),
@@ -495,7 +498,7 @@ PLANTED = [
     ("conformance/rules", b" | lines/columns | ", b" lines/columns ", "a rule has five fields"),
     ("docs/STATEMENTS.md", b"\n## Values\n", b"\n## Values\n\nA new one.\n", "in no rule: 'A new one.'"),
     ("docs/STATEMENTS.md", b"| SP is 131 or 132 | U3007 |", b"| SP is 133 | U3007 |", "rule: 'SP is 133 |"),
-    ("docs/STATEMENTS.md", b"Column 72 of such a line isn't read.", b"Column 72 of such a line is read.",
+    ("docs/STATEMENTS.md", b"Column 72 of such a line is not read.", b"Column 72 of such a line is read.",
      "most like it is 'Column 72 of such a line is read.'"),
     ("docs/MESSAGES.md", b"| `OK` | POKE: the bytes are stored.", b"| `DONE` | POKE: the bytes are stored.",
      "in no rule: 'DONE | POKE"),

@@ -1,6 +1,6 @@
 """What the programs of this folder share.
 
-assembler     assembler source: its statements and operands, and what its symbols stand for
+assembler     assembler source: its statements and operands, and the values of its symbols
 bench         finding and running vsm, and sessions that answer statement by statement
 command       the frame of a tool: its options, errors of one line, files that are read and written
 contents      what registers and fields hold at a macro of a source, for vsm-paste

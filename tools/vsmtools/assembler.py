@@ -1,8 +1,8 @@
 """Assembler source as far as its storage macros need it: statements over lines, symbols with their values and
 lengths.
 
-Nothing is assembled: where a machine instruction stands between two places of a section, how far they're
-apart isn't known.
+Nothing is assembled: if a machine instruction is between two places of a section, the distance between them isn't
+known.
 """
 from __future__ import annotations
 
@@ -29,7 +29,7 @@ BRANCHES = {"AIF", "AIFB", "AGO", "AGOB"}    # of conditional assembly
 
 
 class Unknown(Exception):
-    """Why something of the source can't be known; the column where that is, from 1, if it has one."""
+    """Why something of the source can't be known; its column, from 1, if it has one."""
 
     def __init__(self, text: str, column: Optional[int] = None) -> None:
         super().__init__(text)
@@ -37,13 +37,12 @@ class Unknown(Exception):
 
 
 class Circular(Unknown):
-    """That a symbol stands on itself."""
+    """A symbol depends on itself."""
 
 
 @dataclass
 class Statement:
-    """One statement: its lines (from 0), name, operation, operands; of each character of the operands where
-    it stands."""
+    """One statement: its lines (from 0), name, operation, operands; of each character of the operands its place."""
     first: int
     last: int
     name: str = ""
@@ -53,7 +52,7 @@ class Statement:
     is_comment: bool = False
     is_skipped: bool = False      # by AGO: it isn't assembled
     doubt: int = 0                # the line of the AIF or AGO that decides whether it's assembled
-    misplaced: str = ""           # why its last operand may go on in the next line
+    misplaced: str = ""           # why its last operand may continue on the next line
 
     @cached_property
     def parts(self) -> list[str]:
@@ -61,19 +60,19 @@ class Statement:
         return [text for _, text in split_operands(self.operands)]
 
     def place(self, at: int) -> tuple[int, int]:
-        """Where a character of the operands stands: its line and column, both from 1."""
+        """The place of a character of the operands: its line and column, both from 1."""
         line, column = self.places[at] if at < len(self.places) else (self.first, 1)
         return line + 1, column
 
 
 def is_quote(text: str, at: int) -> bool:
-    """Whether an apostrophe begins or ends a text, and isn't that of an attribute as L'NAME."""
+    """Whether an apostrophe begins or ends a text, and isn't that of an attribute such as L'NAME."""
     return not (re.fullmatch(r"(?:|.*[^\w$#@'])[LTKNDIS]", text[max(at - 2, 0):at].upper(), re.S)
                 and re.match(r"[A-Za-z$#@_&*]", text[at + 1:at + 2]))
 
 
 def operand_end(text: str, quoted: bool) -> tuple[int, bool]:
-    """How far operands go on a line, and whether they end within apostrophes."""
+    """How far operands reach on a line, and whether they end within apostrophes."""
     for at, char in enumerate(text):
         if char == "'" and (quoted or is_quote(text, at)):
             quoted = not quoted
@@ -117,7 +116,7 @@ def read_statements(lines: list[str]) -> list[Statement]:
 
 
 def misplaced(it: Statement, lines: list[str]) -> str:
-    """Why a statement's operands may go on in the next line, though column 72 doesn't say so."""
+    """Why a statement's operands may continue on the next line, though column 72 doesn't say so."""
     after = lines[it.last + 1] if it.last + 1 < len(lines) else ""
     is_operand = not after[:15].strip() and re.match(r"\S*[^\w$#@\s]", after[15:71])
     if lines[it.last][71:72].strip() or not it.operands.endswith(",") and not is_operand:
@@ -128,7 +127,7 @@ def misplaced(it: Statement, lines: list[str]) -> str:
 
 
 def targets(it: Statement, lines: list[str], labels: dict[str, int]) -> list[int]:
-    """Where an AIF or AGO may lead: the end of the source where it has no such name."""
+    """The place to which an AIF or AGO may lead: the end of the source if it has no such name."""
     text = " ".join(line[:71] for line in lines[it.first:it.last + 1]).upper().partition(it.operation)[2]
     named = re.findall(r"[\s),](\.[A-Z$#@_][\w$#@]*)", text)
     return [labels[name] for name in named if name in labels] or [END]
@@ -158,7 +157,7 @@ def mark_assembled(statements: Sequence[Statement], lines: list[str]) -> None:
 
 
 def split_operands(text: str) -> list[tuple[int, str]]:
-    """Operands with where each begins: split at commas outside of parentheses and apostrophes."""
+    """Operands with the place where each begins: split at commas outside of parentheses and apostrophes."""
     found, depth, quoted, start = [], 0, False, 0
     for at, char in enumerate(text):
         if char == "'" and (quoted or is_quote(text, at)):
@@ -172,7 +171,7 @@ def split_operands(text: str) -> list[tuple[int, str]]:
 
 
 def bounded(number: int) -> int:
-    """The number, where it has at most 32 bits."""
+    """The number, if it has at most 32 bits."""
     if not -1 << 31 <= number <= MOST_NUMBER:
         raise Unknown("a number of it has more than 32 bits")
     return number
@@ -183,7 +182,7 @@ Place = tuple[str, int]       # a section, and which part of it between instruct
 
 @dataclass
 class Value:
-    """A number, or one besides places of sections, which have to cancel each other."""
+    """A number, or one with places of sections, which have to cancel each other."""
     number: int
     places: Counter = field(default_factory=Counter)
 
@@ -205,8 +204,7 @@ class Section:
 
 @dataclass
 class Symbol:
-    """What a name stands for: a value, an expression of an EQU with the place where that stands, or nothing
-    known."""
+    """What a name is defined as: a value, an expression of an EQU with its place, or nothing known."""
     value: Optional[Value] = None
     expression: str = ""
     here: Optional[Value] = None
@@ -236,7 +234,7 @@ class Symbols:
     # Pass over the source.
 
     def read(self, statements: list[Statement]) -> list[tuple[Statement, str]]:
-        """Takes all definitions; answers with what couldn't be worked out."""
+        """Takes all definitions; returns what couldn't be worked out."""
         told: list[tuple[Statement, str]] = []
         statements = [it for it in statements if not it.is_skipped]
         for it in statements:
@@ -259,7 +257,7 @@ class Symbols:
                 except Circular as why:
                     told.append((it, str(why)))
                 except Unknown:
-                    pass   # told where a macro needs it
+                    pass   # reported if a macro needs it
         return told
 
     def here_section(self) -> Section:
@@ -372,7 +370,7 @@ class Symbols:
     # Values.
 
     def number(self, text: str, here: Optional[Value] = None, stack: tuple[str, ...] = ()) -> int:
-        """The number that an expression stands for."""
+        """The number that an expression gives."""
         value = self.evaluate(text, here, stack)
         if value.places:
             raise Unknown(("'%s' isn't a number but an address of the program" if len(value.places) == 1 else
@@ -401,11 +399,11 @@ class Symbols:
         return it.value
 
     def deeper(self, name: str, stack: tuple[str, ...]) -> tuple[str, ...]:
-        """The symbols that are at work, with one that another stands on."""
+        """The symbols that are being worked out, with one that another depends on."""
         if name in stack:
-            raise Circular("%s stands on itself: %s" % (name, " ".join((*stack[stack.index(name):], name))))
+            raise Circular("%s depends on itself: %s" % (name, " ".join((*stack[stack.index(name):], name))))
         if len(stack) > MOST_DEPTH:
-            raise Unknown("%s stands on more than %d others" % (stack[0], MOST_DEPTH))
+            raise Unknown("%s depends on more than %d others" % (stack[0], MOST_DEPTH))
         return (*stack, name)
 
     def length(self, name: str, stack: tuple[str, ...]) -> int:

@@ -50,8 +50,8 @@ class Run:
 
 
 def add_words(parser: argparse.ArgumentParser) -> None:
-    """Adds --vsm (--program is the same) and the four options of vsm to a tool's words; vsm itself judges
-    their values."""
+    """Adds --vsm (--program is the same) and the four options of vsm to a tool's options; vsm itself judges their
+    values."""
     group = parser.add_argument_group("the bench")
     group.add_argument("--vsm", "--program", dest="vsm", metavar="PROGRAM",
                        help="the program vsm (default: the built one here, else vsm on the PATH)")
@@ -60,7 +60,7 @@ def add_words(parser: argparse.ArgumentParser) -> None:
 
 
 def options_of(given: argparse.Namespace) -> list[str]:
-    """The options of vsm that were given to a tool, as words for vsm."""
+    """The options of vsm that were given to a tool, as arguments of vsm."""
     pairs = [(option, getattr(given, option[2:])) for option in BENCH_OPTIONS]
     return [word for option, value in pairs if value is not None for word in (option, value)]
 
@@ -97,18 +97,18 @@ def find_program(named: Optional[str] = None) -> str:
 
 
 def find_explain(vsm: str) -> str:
-    """The path of vsm-explain: the one beside vsm, else the built one, a repository's ./vsm-explain, or one on
+    """The path of vsm-explain: the one next to vsm, else the built one, a repository's ./vsm-explain, or one on
     the PATH."""
     launcher, beside = (os.path.join(it, "vsm-explain") for it in (TOP, os.path.dirname(vsm)))
     places = [BUILT_EXPLAIN, launcher, shutil.which("vsm-explain") or ""]
     for place in places if beside == launcher else [beside, *places]:
         if is_program(place):
             return compiled(place, ["why", "OK"]) if place == launcher else place
-    raise Fault("no program vsm-explain is found: it goes beside vsm, or on the PATH", status=WORDS)
+    raise Fault("no program vsm-explain is found: it has to be next to vsm, or on the PATH", status=WORDS)
 
 
 def ended(program: str, status: int, errors: str) -> Fault:
-    """That a program ended otherwise than at the end of its script, as a fault of one line."""
+    """A fault of one line, which says that a program didn't end at the end of its script."""
     said = next((line for line in errors.splitlines() if line.strip()), "")
     how = "by signal %d" % -status if status < 0 else "with status %d" % status
     return Fault("%s ended %s%s" % (program, how, ": " + said if said else ""),
@@ -157,7 +157,7 @@ def wait_for(child: subprocess.Popen[bytes], outputs: Sequence[IO[bytes]], secon
 
 
 def end_group(child: subprocess.Popen[bytes]) -> None:
-    """Ends a program and what it started; its group bears its number."""
+    """Ends a program and what it started; its group has its number."""
     try:
         os.killpg(child.pid, signal.SIGKILL)
     except (ProcessLookupError, PermissionError):
@@ -175,7 +175,7 @@ def run(program: str, options: Sequence[str], script: bytes, seconds: float = SE
 
 
 def check_is_one(lines: Sequence[str]) -> None:
-    """Refuses lines that aren't just one whole statement, which a session would wait for, or answer too late."""
+    """Refuses lines that aren't exactly one whole statement, which a session would wait for, or answer too late."""
     texts = [line.encode("utf-8", "surrogateescape") for line in lines]
     found = statements(texts)
     if any(b"\n" in text for text in texts):
@@ -183,7 +183,7 @@ def check_is_one(lines: Sequence[str]) -> None:
     if len(found) != 1 or found[0].last - found[0].first + 1 != len(texts):
         raise Fault("a session takes one statement at a time: these lines have %d, and comments are none" % len(found))
     if is_continued(texts[-1]):
-        raise Fault("column 72 isn't blank, so the statement goes on, and no line follows")
+        raise Fault("column 72 isn't blank, so the statement continues, and no line follows")
 
 
 class Partner:
@@ -232,7 +232,7 @@ class Partner:
         return line + b"\n"
 
     def end(self) -> Fault:
-        """That the program ended while it was wanted, as a fault."""
+        """A fault, which says that the program ended while it was needed."""
         try:
             status = self.child.wait(5)
         except subprocess.TimeoutExpired:

@@ -1,4 +1,4 @@
-"""The frame of a tool: its words, one-line errors, files that are read, and what is written."""
+"""The frame of a tool: its arguments, one-line errors, files that are read, and what is written."""
 from __future__ import annotations
 
 import argparse
@@ -10,13 +10,13 @@ import tempfile
 from pathlib import Path
 from typing import Callable, NoReturn, Optional
 
-READ_OR_WRITE = 8  # the exit status where something couldn't be read, written, understood or made
-WORDS = 16         # the exit status where a word is wrong, or vsm isn't there
+READ_OR_WRITE = 8  # the exit status if something couldn't be read, written, understood or made
+WORDS = 16         # the exit status if an argument is wrong, or vsm is missing
 MOST_INPUT = 256 << 20
 
 
 class Fault(Exception):
-    """What is wrong, in one line; with the file, line and column (both from 1) where it has such a place."""
+    """What is wrong, in one line; with the file, line and column (both from 1) if it has such a place."""
 
     def __init__(self, text: str, file: Optional[str] = None, line: Optional[int] = None,
                  column: Optional[int] = None, status: int = READ_OR_WRITE) -> None:
@@ -47,7 +47,7 @@ def version() -> str:
 
 
 class Words(argparse.ArgumentParser):
-    """A parser of words whose errors are faults of one line, with --help and --version. Give it prog,
+    """A parser of arguments whose errors are faults of one line, with --help and --version. Give it prog,
     description, and an example as epilog."""
 
     def __init__(self, **given: object) -> None:
@@ -58,11 +58,11 @@ class Words(argparse.ArgumentParser):
                           help="say which release this is, and exit")
 
     def error(self, message: str) -> NoReturn:
-        raise Fault("%s; %s --help tells the words" % (message, self.prog), status=WORDS)
+        raise Fault("%s; %s --help lists the arguments" % (message, self.prog), status=WORDS)
 
 
 def say(name: str, text: str) -> None:
-    """One line on standard error; nothing where that is closed."""
+    """One line on standard error; nothing if that is closed."""
     try:
         print("%s: %s" % (name, text), file=sys.stderr, flush=True)
     except (OSError, ValueError, AttributeError):
@@ -75,7 +75,7 @@ def reason(fault: Exception) -> str:
 
 
 def read_input(path: Optional[str]) -> tuple[str, bytes]:
-    """The name and the bytes of a file; of standard input where the path is None or '-'."""
+    """The name and the bytes of a file; of standard input if the path is None or '-'."""
     name = "standard input" if path in (None, "-") else str(path)
     try:
         if path in (None, "-"):
@@ -93,8 +93,8 @@ def read_input(path: Optional[str]) -> tuple[str, bytes]:
 
 
 def write_file(path: str, data: bytes, is_over: bool = True) -> None:
-    """Puts bytes in a file's place at once: it keeps what it had if that fails. A file that's there is replaced only
-    if it may be, and what is no file never."""
+    """Puts bytes in a file's place at once: it keeps what it had if that fails. An existing file is replaced only if it
+    may be, and what is no file never."""
     whole, made = os.path.realpath(path), ""
     if not is_over and os.path.lexists(path):
         raise Fault("there is one already: --over %s replaces it" % path, path)
@@ -127,7 +127,7 @@ def write(text: str) -> None:
 
 
 def silence_output() -> None:
-    """Gives standard output away, so that what is still gathered isn't tried again at the end."""
+    """Replaces standard output, so that what is still buffered isn't tried again at the end."""
     try:
         nowhere = os.open(os.devnull, os.O_WRONLY)
         os.dup2(nowhere, 1)
@@ -160,7 +160,7 @@ def guarded(name: str, main: Callable[[list[str]], int], words: list[str]) -> in
         say(name, "what was given is nested too deeply")
         return READ_OR_WRITE
     except MemoryError:
-        say(name, "there isn't memory enough")
+        say(name, "there isn't enough memory")
         return WORDS
 
 
@@ -175,7 +175,7 @@ def flushed(status: int) -> int:
 
 
 def run_command(name: str, main: Callable[[list[str]], int]) -> NoReturn:
-    """Ends the process with the status of main(words of the command line): the last line of each tool."""
+    """Ends the process with the status of main(arguments): the last line of each tool."""
     for stream in (sys.stdout, sys.stderr):
         if stream is not None:
             stream.reconfigure(encoding="utf-8", errors="backslashreplace")  # type: ignore[union-attr]

@@ -15,7 +15,7 @@ from .words import FORMS
 
 SECONDS = 30.0          # the longest that vsm and vsm-explain may take
 MOST_BYTES = 4096       # that are shown in a line
-HELP = "any statement; .why says why the last one was answered so, .who P[,N] who changed the bytes there, .log what " \
+HELP = "any statement; .why says why the last one got its answer, .who P[,N] who changed the bytes there, .log what " \
        "is kept; P, (R1), X'6000',16 show a name, a register, bytes"
 
 
@@ -36,7 +36,8 @@ class Console:
         return self.evaluated(text)
 
     def statement(self, text: str) -> Variable:
-        """Carries out a statement. It's one more step of the way if something may have changed; what has, opens."""
+        """Carries out a statement. It's another step of the way if something may have changed; what has changed,
+        opens."""
         course, lines = self.course, fold(with_blank(text))
         if lines is None:
             raise Fault("a statement has at most ten lines")

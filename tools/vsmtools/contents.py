@@ -1,7 +1,7 @@
 """What registers and fields of a source hold at each statement, on every way that its branches lead there.
 
-A state has what is known, under a register's number, or a field's place. Where ways come together, only what all
-of them bring is known; why something isn't is kept in its place.
+A state has what is known, under a register's number, or a field's place. At a place where ways meet, only what is the
+same on all of them is known; why something isn't is kept in its place.
 """
 from __future__ import annotations
 
@@ -87,12 +87,12 @@ def is_label(it: Statement) -> bool:
 
 
 def is_known(operation: str) -> bool:
-    """Whether it's an instruction whose effect is known, and so no macro."""
+    """Whether it's an instruction with a known effect, and so no macro."""
     return bool(operation in KNOWN or TO_PLACE.fullmatch(operation) or TO_REGISTER.fullmatch(operation))
 
 
 class Ways:
-    """A source's statements in turn, where its branches lead, and what may be changed anywhere."""
+    """A source's statements in turn, the places to which its branches lead, and what may be changed anywhere."""
 
     def __init__(self, symbols: Symbols, code: Sequence[Statement], macros: Iterable[str]) -> None:
         self.symbols, self.code, self.macros = symbols, code, set(macros)
@@ -101,7 +101,7 @@ class Ways:
         self.changeable: dict[str, int] = {}   # names whose bytes may not stay as DC has them, by which line
         self.wide: list[str] = []              # where stores reach more than a symbol
         self.keys: dict[str, Key] = {}
-        self.stars: dict[str, int] = {}        # names as EQU *+4
+        self.stars: dict[str, int] = {}        # names such as EQU *+4
         for k, it in enumerate(code):
             if it.name and not it.name.startswith(".") and is_label(it) and not it.is_skipped:
                 if self.labels.setdefault(it.name, k) != k:
@@ -143,7 +143,7 @@ class Ways:
             self.changeable.setdefault(name.upper(), it.first + 1)
 
     def key(self, text: str) -> Key:
-        """Where a name is, with what is added to it; '' where that's a number."""
+        """The place of a name, with what is added to it; '' if that's a number."""
         if text not in self.keys:
             try:
                 value = self.symbols.evaluate(text)
@@ -189,11 +189,11 @@ class Ways:
 
 class Contents:
     """The contents of registers and fields at each statement in turn. What a later branch brings to a statement is as
-    the round before found it."""
+    the previous round found it."""
 
     def __init__(self, ways: Ways, assumed: dict[int, State]) -> None:
         self.ways, self.symbols, self.assumed = ways, ways.symbols, assumed
-        self.state: State = lost("no line before gives it a number or address")
+        self.state: State = lost("no earlier line gives it a number or address")
         self.is_reached = True
         self.coming: dict[int, State] = {}
         self.back: dict[int, State] = {}
@@ -203,7 +203,7 @@ class Contents:
     # Ways.
 
     def arrive(self, k: int) -> None:
-        """What is known where all ways to a statement come together."""
+        """What is known at a statement after all ways to it meet."""
         it = self.ways.code[k]
         line, name = it.first + 1, it.name or "line %d" % (it.first + 1)
         states = [self.state] if self.is_reached else []
@@ -211,10 +211,10 @@ class Contents:
         if k in self.ways.entries:
             states = [lost("other code may lead to %s in line %d: %s" % (name, line, self.ways.entries[k]), line)]
         elif not states and it.operation not in WITHOUT_CODE and it.operation not in ("DS", "DC"):
-            states = [lost("no line before leads to line %d" % line, line)]
+            states = [lost("no earlier line leads to line %d" % line, line)]
         if not states:
             return
-        why = Content("lost", "a branch to %s in line %d may bring another" % (name, line), line)
+        why = Content("lost", "a branch to %s in line %d may change it" % (name, line), line)
         self.state, self.is_reached = states[0], True
         for other in states[1:]:
             self.state = join(self.state, other, why)
@@ -222,8 +222,8 @@ class Contents:
             self.label = (line, it.name)
 
     def leave(self, k: int, text: str) -> None:
-        """Brings the state to where a branch leads."""
-        why = Content("lost", "ways that bring others come together in the branch of line %d"
+        """Brings the state to the place where a branch leads."""
+        why = Content("lost", "ways with other values meet in the branch of line %d"
                       % (self.ways.code[k].first + 1), self.ways.code[k].first + 1)
         for to in self.ways.targets(k, text):
             states = self.coming if to > k else self.back
@@ -232,7 +232,7 @@ class Contents:
     # Registers and fields.
 
     def register(self, text: str) -> Optional[int]:
-        """The register that an operand stands for."""
+        """The register that an operand names."""
         try:
             number = self.symbols.number(text)
         except Unknown:
@@ -248,7 +248,7 @@ class Contents:
 
     def set(self, register: int, content: Optional[Content], line: int) -> None:
         if register in self.bases and content != self.get(register):
-            # Other storage lies under the same names.
+            # Other storage has the same names now.
             self.forget_section(self.bases[register], "line %d changes its base register" % line, line)
         self.state[register] = content or Content("lost", "line %d changes it" % line, line)
 
@@ -282,7 +282,7 @@ class Contents:
         self.state.update((key, content) for key in list(self.state) if isinstance(key, tuple) and key[0] == section)
 
     def forget_range(self, key: Key, length: int, line: int) -> None:
-        """Forgets the words that a store of so many bytes at a place reaches; 0 is any number."""
+        """Forgets the words that a store of this many bytes at a place reaches; 0 is any number."""
         if isinstance(key, str):
             name = re.split("[-+]", key)[0]
             found: list[Key] = [other for other in self.state if isinstance(other, str) and other != ALL
@@ -299,7 +299,7 @@ class Contents:
         self.state.update(dict.fromkeys(found, stored(line)))
 
     def forget_stored(self, text: str, length: int, is_indexed: bool, line: int) -> None:
-        """Forgets what a store to an operand may change: by its length, or by that of its name where it's 0."""
+        """Forgets what a store to an operand may change: by its length, or by that of its name if it's 0."""
         found = re.fullmatch(r"(%s\.)?(%s)([+-][^(),]+)?(?:\(([^(),]*)\))?" % (SYMBOL, SYMBOL), text)
         key = self.ways.key(found[2] + (found[3] or "")) if found else ""
         if found is None or key == "":
@@ -316,7 +316,7 @@ class Contents:
         self.forget_range(key, max(length, 0), line)
 
     def forget_through(self, text: str, length: int, is_indexed: bool, line: int) -> None:
-        """Forgets what a store by a register may change: the fields of its DSECT, and all where it may be any address.
+        """Forgets what a store by a register may change: the fields of its DSECT, and all if it may be any address.
         Below 72 a register 13 has a save area."""
         found = re.fullmatch(r"([^()]*)\(([^()]*)\)", text)
         parts = found[2].split(",") if found else []
@@ -407,13 +407,13 @@ class Contents:
             self.set_field("%s+%d" % (name, distance) if distance else name, content)
 
     def keep(self, register: int, text: str) -> None:
-        """A register's word in a field, where both are known."""
+        """A register's word in a field, if both are known."""
         content = self.known(register)
         if content is not None and re.fullmatch(r"%s([+-]\w+)?" % SYMBOL, text):
             self.set_field(text, content)
 
     def words_of(self, parts: list[str]) -> list[tuple[int, Content]]:
-        """The known words that MVC moves, by how far each is from its begin."""
+        """The known words that MVC moves, by their distance from its begin."""
         target = re.fullmatch(r"(%s)(?:\((\d+)\))?" % SYMBOL, parts[0])
         source = self.ways.key(parts[1]) if re.fullmatch(r"%s([+-]\d+)?" % SYMBOL, parts[1]) else ""
         if not target or source == "":
@@ -534,7 +534,7 @@ class Contents:
         return self.counted(operation, register, operands, line)
 
     def word(self, text: str, length: int) -> int:
-        """The number of a literal as =F'100' or =A(SIZE), or of a constant that nothing changes."""
+        """The number of a literal such as =F'100' or =A(SIZE), or of a constant that nothing changes."""
         if not text.startswith("="):
             return self.ways.constant(text, length)
         _, kind, own, _, whole, data = self.symbols.constant(text[1:])

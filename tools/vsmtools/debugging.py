@@ -16,9 +16,9 @@ from .showing import Variable
 from .walking import Lost, Script, Walk
 
 Arguments = dict[str, Any]
-PAGED_FROM = 100    # a list of more is shown in parts
+PAGED_FROM = 100    # longer lists are shown in parts
 SLICE = 64          # statements between two looks at what the client sends
-WRONG = (LookupError, TypeError, ValueError, AttributeError, OverflowError)    # what wrong arguments come to
+WRONG = (LookupError, TypeError, ValueError, AttributeError, OverflowError)    # what wrong arguments raise
 SUPPORTED = (
     "ConfigurationDoneRequest", "ConditionalBreakpoints", "LogPoints", "StepBack", "RestartRequest", "TerminateRequest",
     "EvaluateForHovers", "ReadMemoryRequest", "WriteMemoryRequest", "DataBreakpoints", "DataBreakpointBytes",
@@ -46,7 +46,7 @@ class Adapter:
         self.stop = Stop("")
         self.tasks: set[int] = set()                    # that the client knows
         self.opened: dict[int, showing.Children] = {}
-        self.numbers = 0                                # of breakpoints, and of what opens
+        self.numbers = 0                                # of breakpoints, and of variables that open
         self.is_over = self.is_ended = False
 
     # Messages.
@@ -256,7 +256,8 @@ class Adapter:
             "each statement is reached once: there is nothing to count" if given.get("hitCondition") else ""
         if place is None or wrong:
             return {"verified": False, "message": wrong}
-        course.breaks.setdefault(place, []).append(Break(self.numbers, text, given.get("logMessage")))
+        log = given.get("logMessage")
+        course.breaks.setdefault(place, []).append(Break(self.numbers, text, None if log is None else str(log)))
         extent = self.script.extents[place]
         return {"verified": True, "id": self.numbers, "line": self.line(extent.first),
                 "endLine": self.line(extent.last), "source": self.source()}
@@ -293,14 +294,14 @@ class Adapter:
 
     def go(self, request: rpc.Message, going: Going) -> None:
         course = self.still()
-        self.answer(request, None if going.is_step else {"allThreadsContinued": True})
+        self.answer(request, {"allThreadsContinued": True} if request["command"] == "continue" else None)
         if not going.is_back and course.walk.is_at_end and self.stop.reason == "end":
             self.finish()
         else:
             self.opened, self.going = {}, going
 
     def go_on(self) -> None:
-        """Goes on with the run, by a slice of statements."""
+        """Continues the run for a slice of statements."""
         going, course = self.going, self.need()
         assert going
         try:
@@ -359,7 +360,7 @@ class Adapter:
             self.going.is_paused = True
         self.answer(request)
 
-    # What is here.
+    # What is shown at a stop.
 
     def threads(self, request: rpc.Message, _arguments: Arguments) -> None:
         tasks = self.need().map.tasks if not self.is_over else []
@@ -370,7 +371,7 @@ class Adapter:
     def stack(self, request: rpc.Message, arguments: Arguments) -> None:
         course, task, levels = self.still(), int(arguments["threadId"]), int(arguments.get("levels") or 1)
         if showing.task_of(course.map, task) is None:
-            raise Fault("there is no task %d" % task)
+            raise Fault("task %d doesn't exist" % task)
         refused, extents = self.stop.refused, self.script.extents
         place = course.walk.place if refused is None or refused.statement is None else refused.statement
         first = last = max(1, len(self.script.lines))
@@ -433,7 +434,7 @@ class Adapter:
                                             for it in (found[start:start + count] if count > 0 else found[start:])]})
 
     def more(self, it: Variable, expression: str = "") -> dict[str, Any]:
-        """What a variable and a result have besides their text."""
+        """What a variable and a result have in addition to their text."""
         return {"variablesReference": self.open(it.children) if it.children else 0,
                 **({"indexedVariables": it.count} if it.count > PAGED_FROM else {}),
                 **({} if it.memory is None else {"memoryReference": "0x%08X" % it.memory}),

@@ -7,7 +7,7 @@ from typing import Any, Optional
 from urllib.parse import unquote, urlsplit
 
 from .lines import Extent, statements
-from .listing import Listing
+from .listing import Listed, Listing
 from .reading import Part, Place, Statement, read
 
 LINE_END = re.compile(r"\r\n|\n|\r")
@@ -24,27 +24,33 @@ def cut_lines(text: str) -> tuple[list[str], list[str]]:
     return [*lines, text[at:]], [*ends, ""]
 
 
+def path_of(uri: str) -> str:
+    """The path of a file, or the URI if it's another one."""
+    try:
+        found = urlsplit(uri)
+    except ValueError:
+        return uri
+    return unquote(found.path) if found.scheme == "file" else uri
+
+
 def data_of(text: str) -> bytes:
     return text.encode("utf-8", "surrogatepass")
 
 
 class Document:
-    """An open script. A carriage return by itself ends a line of the protocol and none of a script, so a line of the
-    script can be several of the protocol's; `begins` has the first of them."""
+    """An open script. A carriage return by itself ends a line of the protocol, but not of a script: one line of a
+    script can be several of the protocol's, and `begins` has the first of them."""
 
     def __init__(self, uri: str, version: Any, text: str, units: str) -> None:
-        self.uri, self.version, self.units = uri, version, units
+        self.uri, self.path, self.version, self.units = uri, path_of(uri), version, units
         self.text, self.ends = cut_lines(text)
         self.due: Optional[float] = 0.0         # when it's to be listed
         self.listing: Optional[Listing] = None
-        self.answers: list[tuple[Extent, str]] = []    # of the listing; and those that are ABEND or REFUSED
-        self.refused: list[tuple[Extent, str]] = []
-        self.valid = 0                          # the line from which on the listing is of an older text
-        self.world: tuple[int, Any] = (-1, None)    # what exists after that many of these, by vsmtools.tracking
+        self.valid = 0                          # the first line for which the listing is out of date
+        self.world: tuple[int, Any] = (-1, None)    # what exists after that many answers, by vsmtools.tracking
         self.limit = 1024                       # of the history
-        self.causes: dict[int, str] = {}        # of refused statements, by their first lines
         self.parsed: dict[tuple[bytes, ...], Statement] = {}
-        self.unread = 0                         # the line from which on the text was changed since it was read
+        self.unread = 0                         # the first line that has changed since the text was read
         self.raw: list[bytes] = []
         self.extents: list[Extent] = []
         self.begins: list[int] = []
@@ -53,11 +59,6 @@ class Document:
     @property
     def data(self) -> bytes:
         return data_of("".join(map("".join, zip(self.text, self.ends))))
-
-    @property
-    def path(self) -> str:
-        found = urlsplit(self.uri)
-        return unquote(found.path) if found.scheme == "file" else self.uri
 
     # Changes.
 
@@ -71,7 +72,7 @@ class Document:
             if (last, y) < (first, x):
                 raise ValueError("a range ends before it begins")
             head, tail = self.text[first][:x], self.text[last][y:] + self.ends[last]
-            if first and self.ends[first - 1] == "\r":    # it may become one line end with what is put in
+            if first and self.ends[first - 1] == "\r":    # with what is inserted it may become one line end
                 first -= 1
                 head = self.text[first] + "\r" + head
             text, ends = cut_lines(head + given["text"] + tail)
@@ -130,20 +131,13 @@ class Document:
         return self.extents[k] if k < len(self.extents) and self.extents[k].first <= line else None
 
     def take(self, listing: Listing) -> None:
-        """Takes the listing of the text as it is. An answer is under one of its statement's lines, mostly the last."""
-        self.listing, self.valid, self.answers, self.world = listing, len(self.raw) + 1, [], (-1, None)
-        get = listing.answers.get
-        for extent in self.extents:
-            answer = get(extent.last)
-            if answer is None and extent.first < extent.last:
-                answer = next(filter(None, map(get, range(*extent))), None)
-            if answer is not None:
-                self.answers.append((extent, answer))
-        self.refused = [it for it in self.answers if it[1].startswith(("ABEND ", "REFUSED "))]
+        """Takes the listing of the text as it is."""
+        self.listing, self.valid, self.world = listing, len(self.raw) + 1, (-1, None)
 
-    def answered(self) -> list[tuple[Extent, str]]:
-        """The statements before the first change since the last listing, with their answers."""
-        return self.answers[:bisect.bisect_left(self.answers, self.valid, key=lambda it: it[0].last)]
+    def answered(self) -> list[Listed]:
+        """The answers to the statements before the first change since the last listing."""
+        found = self.listing.answers if self.listing else []
+        return found[:bisect.bisect_left(found, self.valid, key=lambda it: it.extent.last)]
 
     # Places: a line of the script from 1, and a column from 0 in bytes.
 
@@ -168,7 +162,7 @@ class Document:
         return {"start": self.position_of(begin), "end": self.position_of(end)}
 
     def range_of(self, extent: Extent, part: Part) -> dict[str, Any]:
-        """Where a part of a statement is."""
+        """The range of a part of a statement."""
         statement, above = self.statement(extent), extent.first - 1
         (first, x), (last, y) = statement.place(part.begin), statement.end(part)
         return self.range((above + first, x), (above + last, y))

@@ -4,9 +4,9 @@
      STORAGE OBTAIN,LENGTH=8
     *> RC=0 A=00006000 L=00000008     a line of the answer to the statement above, whole, without its number
     *> ?                              the answer is to be filled in
-    *>end FAULT CONTINUATION          the same of the last statement, which stands below this line
+    *>end FAULT CONTINUATION          the same of the last statement, which is below this line
 
-All of these are comments, so the file is a script of vsm as it stands, and is answered as without them.
+All of these are comments, so the file is a script of vsm as it is, and is answered as without them.
 """
 from __future__ import annotations
 
@@ -20,9 +20,9 @@ from .bench import Answer, Overrun, Run, answers, run_anyhow
 from .command import Fault
 from .lines import Extent, is_continued, is_passed_over, split_lines, statements
 
-SECONDS = 60.0             # the longest that a script may take
-FAILED = 1                 # the exit status where something differs
-NOTHING = "nothing is expected in this script; --write fills in what it's answered"
+SECONDS = 60.0             # the longest time that a script may take
+FAILED = 1                 # the exit status if something differs
+NOTHING = "nothing is expected in this script; --write fills in the answers"
 EXPECTED, AT_END, OPTIONS, BLANK = "*>", "*>end", "*!", "?"
 
 
@@ -35,7 +35,7 @@ class ExpectedLine:
 
 @dataclass
 class Tested:
-    """A statement with what the script expects; `is_ahead` where that stands before the statement (*>end)."""
+    """A statement with what the script expects; `is_ahead` if that is before the statement (*>end)."""
     extent: Extent
     expected: list[ExpectedLine] = field(default_factory=list)
     is_ahead: bool = False
@@ -55,7 +55,7 @@ class Script:
     tested: list[Tested] = field(default_factory=list)
 
     def wrong(self, text: str, line: Optional[int] = None, column: Optional[int] = None) -> Fault:
-        """A fault of this script or of what it's answered: it counts as failed, and the others go on."""
+        """A fault of this script or of its answers: it counts as failed, and the others continue."""
         return Fault(text, self.name, line, column, FAILED)
 
 
@@ -79,7 +79,7 @@ def check_is_text(name: str, data: bytes) -> None:
 
 
 def read_script(name: str, data: bytes) -> Script:
-    """A script with its expectations. One in a place where none can stand is a fault."""
+    """A script with its expectations. One in a place where none is allowed is a fault."""
     check_is_text(name, data)
     lines = split_lines(data)
     script = Script(name, data, tested=[Tested(extent) for extent in statements(lines)])
@@ -92,11 +92,11 @@ def read_script(name: str, data: bytes) -> Script:
         found = re.match(r" +(\*[>!])", text)
         if number in begins:
             if found:
-                raise script.wrong("'%s' stands in column 1, or it begins a statement" % found[1],
+                raise script.wrong("'%s' has to be in column 1, or it begins a statement" % found[1],
                                    number, found.start(1) + 1)
         elif current and number <= current.extent.last:
             if text.startswith((EXPECTED, OPTIONS)):
-                raise script.wrong("'%s' can't stand here: column 72 of line %d isn't blank, so it continues the "
+                raise script.wrong("'%s' isn't allowed here: column 72 of line %d isn't blank, so it continues the "
                                    "statement of line %d" % (text[:2], number - 1, current.extent.first), number, 1)
         elif is_passed_over(line):
             take_comment(script, current, ahead, number, text)
@@ -106,7 +106,7 @@ def read_script(name: str, data: bytes) -> Script:
 
 def take_comment(script: Script, current: Optional[Tested], ahead: list[ExpectedLine], number: int,
                  text: str) -> None:
-    """Takes one comment line, where it's an expectation or has options."""
+    """Takes one comment line, if it's an expectation or has options."""
     if text.startswith(OPTIONS):
         take_options(script, current, number, text)
     elif text.startswith(EXPECTED):
@@ -116,20 +116,20 @@ def take_comment(script: Script, current: Optional[Tested], ahead: list[Expected
         if is_ahead:
             ahead.append(ExpectedLine(number, words[1:]))
         elif current is None:
-            raise script.wrong("an expectation stands behind its statement; there is none above", number, 1)
+            raise script.wrong("an expectation has to be after its statement; there is none above", number, 1)
         else:
             current.expected.append(ExpectedLine(number, words[1:]))
 
 
 def check_expectation(script: Script, number: int, words: str) -> None:
-    """Refuses an expectation that no answer can meet by its form. `words` is what stands behind the sign."""
+    """Refuses an expectation that no answer can meet by its form. `words` is what follows the sign."""
     if not words:
         raise script.wrong("an expectation without a text; '*> ?' is one to be filled in", number, 3)
     if not words.startswith(" "):
         form = EXPECTED + words.split()[0]
         raise script.wrong("an unknown form '%s': a blank goes between '*>' and the answer" % form, number, 3)
     if re.match(r" [0-9]{7} ", words):
-        raise script.wrong("an answer stands here without its number", number, 4)
+        raise script.wrong("an answer is written here without its number", number, 4)
     if words.strip() == BLANK and words != " " + BLANK:
         raise script.wrong("an unknown form: one blank goes between '*>' and '?'", number, 3)
 
@@ -140,7 +140,7 @@ def take_options(script: Script, current: Optional[Tested], number: int, text: s
         raise script.wrong("an unknown form '%s': '*! --residence 31' gives options of vsm" % text.split()[0],
                            number, 1)
     if current is not None:
-        raise script.wrong("options stand before the first statement, which is in line %d"
+        raise script.wrong("options have to be before the first statement, which is in line %d"
                            % script.tested[0].extent.first, number, 1)
     for at, word in enumerate(words.split()):
         before = words.split()[at - 1] if at else ""
@@ -152,16 +152,16 @@ def take_options(script: Script, current: Optional[Tested], number: int, text: s
 
 
 def place_ahead(script: Script, ahead: Sequence[ExpectedLine]) -> None:
-    """Gives what stands behind *>end to the last statement."""
+    """Gives what follows *>end to the last statement."""
     if not ahead:
         return
     last = script.tested[-1] if script.tested else Tested(Extent(0, 0))
     before = script.tested[-2].extent.last if len(script.tested) > 1 else 0
     for it in ahead:
         if not before < it.line < last.extent.first:
-            raise script.wrong("'*>end' stands right before the last statement of the script", it.line, 1)
+            raise script.wrong("'*>end' has to be right before the last statement of the script", it.line, 1)
         if last.expected:
-            raise script.wrong("the last statement has an expectation behind it too, in line %d"
+            raise script.wrong("the last statement has an expectation after it too, in line %d"
                                % last.expected[0].line, it.line, 1)
     last.expected, last.is_ahead = list(ahead), True
 
@@ -182,7 +182,7 @@ def told(program: str, script: Script, seconds: float) -> list[Answer]:
     if done.status < 0:
         raise script.wrong("%s was ended by signal %d" % (name, -done.status))
     if done.status not in (0, 4):
-        said = said or "no word on standard error"
+        said = said or "nothing on standard error"
         raise script.wrong("%s ended with status %d: %s" % (name, done.status, said))
     try:
         given = answers(done.output)
@@ -201,7 +201,7 @@ def check_run(name: str, script: Script, done: Run, given: Sequence[Answer]) -> 
             raise script.wrong("%s answered line %d, '%s', where no statement begins"
                                % (name, answer.line, answer.text))
         if answer.line <= before:
-            raise script.wrong("%s answered line %d behind line %d" % (name, answer.line, before))
+            raise script.wrong("%s answered line %d after line %d" % (name, answer.line, before))
         before = answer.line
     if done.output and not done.output.endswith(b"\n"):
         raise script.wrong("the last line that %s printed has no end" % name)
@@ -214,7 +214,7 @@ def check_run(name: str, script: Script, done: Run, given: Sequence[Answer]) -> 
 
 
 def texts(answer: Optional[Answer]) -> list[str]:
-    """The lines of an answer without its number; none where there is no answer."""
+    """The lines of an answer without its number; none if there is no answer."""
     return [answer.text, *answer.rest] if answer else []
 
 
@@ -247,12 +247,12 @@ def differs(tested: Tested, got: list[str]) -> Optional[Difference]:
         return None
     unlike = (at for at, (one, other) in enumerate(zip(wanted, got)) if one != other)
     line = tested.expected[min(next(unlike, len(got)), len(wanted) - 1)].line
-    return Difference(line, "line %d is answered otherwise (- expected, + answered)" % statement,
+    return Difference(line, "line %d gets another answer (- expected, + answered)" % statement,
                       tuple(diff_lines(wanted, got)))
 
 
 def diff_lines(wanted: list[str], got: list[str]) -> Iterator[str]:
-    """The lines of a diff; three lines around what differs, and '..' for what is left out between."""
+    """The lines of a diff; three lines around what differs, and '..' for what is left out between them."""
     for number, line in enumerate(difflib.unified_diff(wanted, got, lineterm="")):
         if number > 2:
             yield ".." if line.startswith("@@") else line
@@ -263,7 +263,7 @@ def line_end(line: bytes) -> bytes:
 
 
 def must_be_ahead(script: Script, tested: Tested, last: bytes) -> bool:
-    """Whether a line behind a statement would change its answer: it would continue it, or end its line."""
+    """Whether a line after a statement would change its answer: it would continue it, or end its line."""
     is_last = tested is script.tested[-1] and tested.extent.last == len(split_lines(script.data))
     return is_last and (is_continued(last) or (not line_end(last) and last.endswith(b"\r")))
 
@@ -295,7 +295,7 @@ def replace_expectations(script: Script, wanted: dict[int, list[str]]) -> bytes:
 
 def join_lines(lines: Sequence[bytes], before: dict[int, list[bytes]], behind: dict[int, list[bytes]],
                dropped: set[int], end: bytes) -> bytes:
-    """The lines, from 1, without the dropped ones, and with what is put before and behind some of them."""
+    """The lines, from 1, without the dropped ones, and with what is put before and after some of them."""
     put: list[bytes] = []
     for number, line in enumerate(lines, 1):
         put += before.get(number, [])

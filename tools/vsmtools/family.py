@@ -1,8 +1,8 @@
-"""In which order vsm-load attaches the tasks of a map, so that each sees the subpools that the map says.
+"""The order in which vsm-load attaches the tasks of a map, so that each sees the subpools that the map says.
 
-All tasks are attached before there is any storage, so only who sees what decides. A task sees a subpool from
-its ATTACH on if it's given it or shares it; a task that gives a subpool no longer sees it. So a subpool's sharers
-are attached by a task that has it then, and that may be another one than its owner.
+All tasks are attached before there is any storage, so only what each task sees decides. A task sees a subpool from its
+ATTACH on if it's given it or shares it; a task that gives a subpool no longer sees it. So a subpool's sharers are
+attached by a task that has it then, which may be another one than its owner.
 """
 from __future__ import annotations
 
@@ -44,7 +44,8 @@ def in_order(before: dict[Thing, set[Thing]]) -> list[Thing]:
 
 @dataclass
 class Sight:
-    """Whom a task attaches while it sees a subpool: sharers, and last the task that it gives the subpool to."""
+    """The tasks that a task attaches while it sees a subpool: sharers, and last the one that it gives the subpool
+    to."""
     sharers: set[int]
     gift: Optional[int]
 
@@ -106,7 +107,7 @@ class Family:
             first, [key for key in own if key[1] != task], [key for key in own if key[1] == task])]
 
     def order(self) -> list[int]:
-        """The tasks but the first one, in an order in which they can be attached."""
+        """The tasks except the first one, in an order in which they can be attached."""
         before = {task: {parent} - {1} for task, parent in self.parent.items() if task != 1}
         pairs: list[tuple[Sight, Sight]] = []
         for (task, _), keys in self.sights().items():
@@ -131,19 +132,19 @@ class Family:
         found = in_order(before)
         if len(found) < len(before):
             give_up(self.source, self.line[min(set(before) - set(found))],
-                    "each order of ATTACHes breaks who sees what")
+                    "no order of ATTACHes lets each task see its subpools")
         return found
 
 
 def follow(before: dict[int, set[int]], ones: Iterable[Sight], others: Iterable[Sight]) -> None:
-    """That what some sights attach comes after what others do."""
+    """Puts what some sights attach after what others do."""
     for other in others:
         for task in other.all:
             before[task].update(*(one.all - {task} for one in ones))
 
 
 def earlier(before: dict[int, set[int]], tasks: Iterable[int]) -> set[int]:
-    """All that comes before some tasks."""
+    """All that is before some tasks."""
     found: set[int] = set()
     left = list(tasks)
     while left:

@@ -4,7 +4,7 @@ from __future__ import annotations
 import re
 from typing import TYPE_CHECKING, Any, Callable, Optional
 
-from . import listing, manuals
+from . import manuals
 from .command import Fault, one_line
 from .documents import FAR, Document
 from .lines import CONTINUED_FROM, LAST_COLUMN, Extent, fold, is_passed_over
@@ -25,7 +25,7 @@ FIELD, VARIABLE, VALUE, KEYWORD = 5, 6, 12, 14      # kinds of completions
 
 
 def shown(answer: str) -> str:
-    """An answer after its statement, with the sign that a listing has, so that it's no remark."""
+    """An answer after its statement, with the sign of a listing: without one it looks like a remark."""
     sign = "**" if answer.startswith(("FAULT ", "ABEND ", "REFUSED ")) else "->"
     return "%s %s" % (sign, answer if len(answer) <= MOST_ANSWER else answer[:MOST_ANSWER - 3] + "...")
 
@@ -35,14 +35,14 @@ def text_of(part: Part) -> str:
 
 
 def lenses(_server: Server, document: Document, _params: Message, _number: Any) -> Any:
-    return [{"range": document.lines_range(extent.first, extent.first),
-             "command": {"title": shown(answer), "command": ""}} for extent, answer in document.answered()]
+    return [{"range": document.lines_range(it.extent.first, it.extent.first),
+             "command": {"title": shown(it.text), "command": ""}} for it in document.answered()]
 
 
 def hints(_server: Server, document: Document, params: Message, _number: Any) -> Any:
     first, last = (document.place_of(params["range"][it])[0] for it in ("start", "end"))
-    return [{"position": document.position_of((extent.last, FAR)), "label": shown(answer), "paddingLeft": True}
-            for extent, answer in document.answered() if first <= extent.last <= last]
+    return [{"position": document.position_of((it.extent.last, FAR)), "label": shown(it.text), "paddingLeft": True}
+            for it in document.answered() if first <= it.extent.last <= last]
 
 
 # Hovers.
@@ -72,12 +72,18 @@ def hover(server: Server, document: Document, params: Message, number: Any) -> A
     form = manuals.syntax(statement.name, statement.form)
     operand = next((it for it in statement.operands if statement.has(it, at)), None)
     if operand is not None and statement.name in FORMS:
-        text = manuals.operand_row(statement.name, statement.form, operand.keyword) or fenced(form)
+        word = operand.keyword or operand.text.upper()
+        text = manuals.operand(statement.name, statement.form, word) if word.isalpha() else ""
+        text = text or fenced(form)
         return {"contents": {"kind": "markdown", "value": text}, "range": document.range_of(extent, operand)}
     where = document.lines_range(extent.first, extent.last)
     is_asked = statement.operation is not None and statement.has(statement.operation, at)
 
-    def told(output: bytes, _status: int) -> None:
+    def told(output: bytes, status: int) -> None:
+        wrong = server.failed(output, status)
+        if wrong:
+            server.fail(number, Code.FAILED, wrong)
+            return
         why = fenced(output.decode("utf-8", "replace").rstrip("\n").replace("/dev/stdin: ", ""))
         text = why + ("\n\n" + fenced(form) if form and is_asked else "")
         server.reply(number, {"contents": {"kind": "markdown", "value": text}, "range": where})
@@ -93,10 +99,17 @@ def name_text(use: Use, world: World) -> str:
     """What a name or a cell pool is."""
     name = use.part.text.upper()
     if use.is_pool:
-        line = world.pools.get(name)
-        return "cell pool %s: %s" % (name, "built by line %d" % line if line else "there is none here")
+        pool = world.pools.get(name)
+        return "cell pool %s: %s" % (name, "at %08X by line %d" % pool if pool else "there is none here")
     found = world.names.get(name)
     return "%s = %08X by line %d" % (name, *found) if found else "%s = not defined here" % name
+
+
+def undefined(document: Document, extent: Extent) -> str:
+    """Which name in a statement's values isn't defined, if one isn't."""
+    world = world_at(document, extent.first)
+    names = (it.part.text for it in document.statement(extent).uses() if not it.is_given and not it.is_pool)
+    return next(("%s isn't defined" % it for it in names if it.upper() not in world.names), "")
 
 
 def comment_hover(line: bytes, column: int) -> Any:
@@ -157,13 +170,13 @@ def all_uses(document: Document, key: tuple[str, bool]) -> list[tuple[Extent, Us
 
 
 def definition(_server: Server, document: Document, params: Message, _number: Any) -> Any:
-    """Where a name got its word, or its cell pool was built; else the first statement that would give it one."""
+    """The statement that gave a name its word, or built a cell pool; else the first one that would."""
     extent, use = use_at(document, params)
     if extent is None or use is None:
         return None
     world = world_at(document, extent.last + 1 if use.is_given else extent.first)
     name, given = use.part.text.upper(), [it for it in all_uses(document, use.key) if it[1].is_given]
-    line = world.pools.get(name) if use.is_pool else world.names.get(name, (0, None))[1]
+    line = (world.pools if use.is_pool else world.names).get(name, (0, 0))[1]
     found = next((it for it in given if it[0].first == line), None) or next(iter(given), None)
     return {"uri": document.uri, "range": document.range_of(found[0], found[1].part)} if found else None
 
@@ -187,7 +200,7 @@ def prepare_rename(_server: Server, document: Document, params: Message, _number
 
 
 def rename(_server: Server, document: Document, params: Message, _number: Any) -> Any:
-    """Edits of whole statements, since column 72 has to stay where it is."""
+    """Edits of whole statements, since what is in column 72 must stay there."""
     _, use = use_at(document, params)
     new = params["newName"]
     if use is None:
@@ -227,7 +240,7 @@ def renamed(document: Document, extent: Extent, parts: list[Part], new: str) -> 
 # Symbols, folds and edits.
 
 def symbols(_server: Server, document: Document, _params: Message, _number: Any) -> Any:
-    answers, found = {extent: answer for extent, answer in document.answered()}, []
+    answers, found = {it.extent: it.text for it in document.answered()}, []
     for extent in document.extents:
         statement = document.statement(extent)
         if statement.operation is None:
@@ -273,14 +286,17 @@ def actions(_server: Server, document: Document, params: Message, _number: Any) 
 
 
 def proposed(document: Document, diagnostic: Message) -> Optional[Message]:
-    word = listing.proposal(diagnostic.get("message", ""))
-    if word is None or not str(diagnostic.get("code", "")).startswith("FAULT "):
+    faults = document.listing.faults if document.listing else []
+    word = next((it.hint for it in faults if it.message == diagnostic.get("message")), "")
+    if not word:
         return None
     line, column = document.place_of(diagnostic["range"]["start"])
     wrong = re.match(rb"[^=, ()]*", document.raw[line - 1][column:LAST_COLUMN])[0]    # type: ignore[index]
     where = document.range((line, column), (line, column + len(wrong)))
     found = action(document, "%s instead of %s" % (word, wrong.decode("utf-8", "replace")), where, word)
-    return {**found, "diagnostics": [diagnostic], "isPreferred": True} if wrong else None
+    marked = {"range": document.range((line, column), document.place_of(diagnostic["range"]["end"])), "severity": 1,
+              "source": "vsm", "code": str(diagnostic.get("code")), "message": diagnostic["message"]}
+    return {**found, "diagnostics": [marked], "isPreferred": True} if wrong else None
 
 
 def action(document: Document, title: str, where: Message, text: str) -> Message:
@@ -288,7 +304,7 @@ def action(document: Document, title: str, where: Message, text: str) -> Message
     return {"title": title, "kind": "quickfix", "edit": {"changes": {document.uri: edits}}}
 
 
-LATER = object()    # the answer of a request that a run answers
+LATER = object()    # the result of a request that a run will answer
 FEATURES: dict[str, Callable[[Any, Document, Message, Any], Any]] = {"textDocument/" + name: does for name, does in {
     "hover": hover, "completion": complete, "definition": definition, "references": references,
     "documentHighlight": highlights, "prepareRename": prepare_rename, "rename": rename, "documentSymbol": symbols,

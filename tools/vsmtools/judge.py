@@ -36,7 +36,7 @@ class Judge:
         raise Fault("the map is wrong: %s" % why, self.source, line)
 
     def side(self, area: Area) -> bool:
-        """Whether an area lies in one region."""
+        """Whether an area is in one region."""
         return any(side.start <= area.start and area.end <= side.end for side in (self.low, self.high))
 
     def tasks(self) -> None:
@@ -53,14 +53,14 @@ class Judge:
             self.refuse(self.map.tasks[0].line, "there is always a task 1")
         current = [task for task in self.map.tasks if task.is_current]
         if len(current) != 1:
-            self.refuse((current + self.map.tasks)[-1].line, "just one task is CURRENT")
+            self.refuse((current + self.map.tasks)[-1].line, "exactly one task is CURRENT")
 
     def ancestors(self, number: int, line: int, parents: dict[int, int]) -> None:
         for _ in range(MOST_TASKS):
             number = parents.get(number, 0)
             if number == 0:
                 return
-        self.refuse(line, "its parents lead round in a circle")
+        self.refuse(line, "its parents form a circle")
 
     def subpools(self) -> None:
         seen: dict[tuple[int, int], int] = {}
@@ -74,7 +74,7 @@ class Judge:
                 self.refuse(it.line, "sharers ascend, and the owner is none")
             for task in [it.owner, *it.sharers]:
                 if task not in numbers:
-                    self.refuse(it.line, "there is no task %d" % task)
+                    self.refuse(it.line, "task %d doesn't exist" % task)
                 if (it.number, task) in seen:
                     self.refuse(it.line, "task %d sees another subpool %d (line %d)"
                                 % (task, it.number, seen[it.number, task]))
@@ -98,7 +98,7 @@ class Judge:
         self.apart(runs, "a page of it is in the extent of line %d too")
 
     def apart(self, runs: list[tuple[int, int, int]], why: str) -> None:
-        """That no two runs share a byte; each is its begin, its end and its line."""
+        """Checks that no two runs share a byte; each is its begin, its end and its line."""
         runs.sort()
         for one, other in zip(runs, runs[1:]):
             if one[1] > other[0]:
@@ -194,7 +194,7 @@ class Judge:
 
 
 def judge_options(shown: Map, options: dict[str, str], source: str) -> None:
-    """That the regions of the map are those that the options of vsm make."""
+    """Checks that the regions of the map are those that the options of vsm make."""
     for option, pages in (("--low", shown.low_pages), ("--high", shown.high_pages)):
         given = options.get(option, "64").lstrip("+")
         if not given.isdecimal() or len(given) > 10:

@@ -2,21 +2,23 @@
 from __future__ import annotations
 
 import time
-from typing import Any, Callable, Optional
+from itertools import islice
+from typing import Any, Callable, Iterator, Optional
 
 from . import features, listing, manuals, rpc
-from .bench import BENCH_OPTIONS, find_explain, find_program
+from .bench import BENCH_OPTIONS, MOST_OUTPUT, find_explain, find_program
 from .command import Fault, one_line, version
-from .documents import Document
-from .lines import LAST_COLUMN, Extent, options_for
+from .documents import FAR, Document
+from .lines import Extent, options_for
 from .reading import Part
 from .rpc import Code, Failure, Message
 from .runs import Runs
 
-QUIET = 0.2                # seconds after the last change
-MOST_FOR_CAUSES = 20000    # refused statements times lines: each cause is a run of its own
-WRONG = (LookupError, TypeError, ValueError, AttributeError, OverflowError)    # what wrong parameters come to
+QUIET = 0.2           # seconds after the last change
+MOST_SHOWN = 10000    # diagnostics
+WRONG = (LookupError, TypeError, ValueError, AttributeError, OverflowError)    # what wrong parameters raise
 ERROR, WARNING, HINT = 1, 2, 4
+REFUSED = ("ABEND ", "REFUSED ")
 CAPABILITIES = {
     "textDocumentSync": {"openClose": True, "change": 2, "save": {"includeText": False}},
     "hoverProvider": True, "definitionProvider": True, "referencesProvider": True, "documentHighlightProvider": True,
@@ -191,6 +193,8 @@ class Server:
 
     def opened(self, params: Message) -> None:
         it = params["textDocument"]
+        if not isinstance(it["uri"], str):
+            raise ValueError("a URI is a text")
         document = Document(it["uri"], it.get("version"), it["text"], self.units)
         self.end_runs(it["uri"])
         self.documents[it["uri"]] = document
@@ -234,47 +238,43 @@ class Server:
             options = self.options(document)
             known = dict(zip(options[::2], options[1::2])).get("--history", "")
             document.limit = int(known) if known.isdecimal() else 1024
-            self.runs.start([self.explain, "list", *options], document.data,
+            self.runs.start([self.explain, "list", "--json", *options], document.data,
                             lambda output, status: self.listed(document, output, status), document.uri)
         except Fault as fault:
             self.publish(document, [self.diagnostic(document.lines_range(fault.line or 1, fault.line or 1), ERROR,
                                                     fault.text, "settings")])
 
     def listed(self, document: Document, output: bytes, status: int) -> None:
-        document.causes = {}
-        if status in (0, 4):
-            document.take(listing.parse(output, document.raw))
-            self.publish(document, self.diagnostics(document))
-            self.find_causes(document)
+        try:
+            wrong = self.failed(output, status)
+            if wrong:
+                raise Fault(wrong)
+            document.take(listing.parse(output))
+        except Fault as fault:
+            found = self.diagnostic(document.lines_range(1, 1), ERROR, fault.text, "settings")
+            self.publish(document, [found] if document.data else [])
         else:
-            said = output.decode("utf-8", "replace").strip().split("\n")[-1].replace("/dev/stdin: ", "")
-            wrong = self.diagnostic(document.lines_range(1, 1), ERROR,
-                                    said if status > 0 else "vsm-explain ended by signal %d" % -status, "settings")
-            self.publish(document, [wrong] if document.data else [])
+            self.publish(document, self.diagnostics(document))
         for it in ("codeLens", "inlayHint"):
             if self.has("workspace", it, "refreshSupport"):
                 self.ask("workspace/%s/refresh" % it)
 
+    @staticmethod
+    def failed(output: bytes, status: int) -> str:
+        """Why a run of vsm-explain has no result; empty if it has one."""
+        if len(output) > MOST_OUTPUT:
+            return "vsm-explain printed more than %d MiB" % (MOST_OUTPUT >> 20)
+        if status in (0, 4):
+            return ""
+        if status < 0:
+            return "vsm-explain ended by signal %d" % -status
+        said = output.decode("utf-8", "replace").strip().split("\n")[-1].replace("/dev/stdin: ", "")
+        return said or "vsm-explain ended with status %d" % status
+
     def publish(self, document: Document, found: list[Message]) -> None:
         told = {"uri": document.uri, "diagnostics": found}
         self.notify("textDocument/publishDiagnostics",
-                    {**told, "version": document.version} if isinstance(document.version, int) else told)
-
-    def find_causes(self, document: Document) -> None:
-        """Asks why of each refused statement, in turn, and then publishes again: of short scripts only."""
-        refused = [extent for extent, _ in document.refused]
-        if len(refused) * len(document.raw) > MOST_FOR_CAUSES:
-            return
-
-        def next_one(output: bytes = b"", _status: int = 0) -> None:
-            if output:
-                lines = output.decode("utf-8", "replace").strip().split("\n")
-                document.causes[refused.pop(0).first] = "; ".join(it.strip() for it in lines[1:-1])
-            if refused:
-                self.why(document, refused[0], next_one)
-            elif document.causes:
-                self.publish(document, self.diagnostics(document))
-        next_one()
+                    {**told, "version": document.version} if type(document.version) is int else told)
 
     def why(self, document: Document, extent: Extent, then: Callable[[bytes, int], None], number: Any = None) -> None:
         """Runs vsm-explain why over the script up to a statement."""
@@ -288,36 +288,26 @@ class Server:
                 **({"tags": [1]} if severity == HINT else {})}
 
     def diagnostics(self, document: Document) -> list[Message]:
-        shown, found = document.listing, []
-        assert shown
-        for mark in shown.marks:
-            is_fault = mark.kind != listing.WARNING
-            text, code = (mark.kind + ": " + mark.text, "FAULT " + mark.kind) if is_fault else (mark.text, mark.kind)
-            found.append(self.diagnostic(self.marked(document, mark), ERROR if is_fault else WARNING, text, code))
-        for line in shown.dropped:
-            found.append(self.diagnostic(document.lines_range(line, line), HINT, "not carried out", "DROPPED"))
-        for extent, answer in document.refused:
-            operation = document.statement(extent).operation or Part("", 0, 1)
-            cause = document.causes.get(extent.first) or manuals.meaning(answer)
-            found.append(self.diagnostic(document.range_of(extent, operation), WARNING,
-                                         ": ".join([answer, cause] if cause else [answer]), answer))
-        first = document.lines_range(1, 1)
-        return found + [self.diagnostic(first, WARNING, it, listing.WARNING) for it in shown.warnings]
+        found = list(islice(self.all_diagnostics(document), MOST_SHOWN))
+        if len(found) == MOST_SHOWN:
+            text = "only the first %d diagnostics are shown" % MOST_SHOWN
+            found.append(self.diagnostic(document.lines_range(1, 1), WARNING, text, "WARNING"))
+        return found
 
-    @staticmethod
-    def marked(document: Document, mark: listing.Mark) -> Message:
-        """What a caret marks: the rest of its operand, or of its word."""
-        begin, end = (mark.line, mark.column), (mark.line, mark.column + 1)
-        extent = document.at(mark.line)
-        if extent and mark.kind not in (listing.WARNING, "CONTINUATION"):
-            statement, at = document.statement(extent), (mark.line - extent.first + 1, mark.column)
-            for it in statement.operands:
-                if statement.place(it.begin) <= at < statement.end(it):
-                    line, column = statement.end(it)
-                    return document.range(begin, max(end, (extent.first - 1 + line, column)))
-            rest = document.raw[mark.line - 1][mark.column:LAST_COLUMN]
-            end = (mark.line, mark.column + max(1, len(rest.split(b" ")[0].split(b",")[0])))
-        return document.range(begin, end)
+    def all_diagnostics(self, document: Document) -> Iterator[Message]:
+        shown = document.listing
+        assert shown
+        for marks, severity, code in ((shown.faults, ERROR, ""), (shown.dropped, HINT, "DROPPED"),
+                                      (shown.warnings, WARNING, "WARNING")):
+            for it in marks:
+                where = document.range((it.line, it.begin), (it.line, it.end if it.end > it.begin else FAR))
+                yield self.diagnostic(where, severity, it.message, code or "FAULT " + it.fault)
+        for answer in shown.refused:
+            if answer.text.startswith(REFUSED):
+                operation = document.statement(answer.extent).operation or Part("", 0, 1)
+                cause = answer.cause or features.undefined(document, answer.extent) or manuals.meaning(answer.text)
+                yield self.diagnostic(document.range_of(answer.extent, operation), WARNING,
+                                      ": ".join(filter(None, [answer.text, cause])), answer.text)
 
 
 METHODS: dict[str, Callable[[Server, Message], Any]] = {

@@ -7,7 +7,7 @@ from typing import Iterator, NamedTuple, Optional, Sequence
 from .command import Fault
 
 LAST_COLUMN = 71       # operands end there; column 72 says that the next line continues them
-CONTINUED_FROM = 16    # the column in which operands go on
+CONTINUED_FROM = 16    # the column in which operands continue
 MOST_LINES = 10        # of one statement
 
 
@@ -71,9 +71,9 @@ def options_for(name: str, script: bytes, given: Sequence[str] = ()) -> list[str
 
 
 def fold(text: str, most: int = MOST_LINES) -> Optional[list[str]]:
-    """A statement's text, with its blanks in front, over at most so many lines; None where they're too few.
+    """A statement's text, with the blanks before it, over at most this many lines; None if they're too few.
 
-    Lines end behind a comma where that takes no more lines than there are, else in column 71.
+    Lines end after a comma if that takes no more lines than there are, else in column 71.
     """
     for ends in (comma_ends(text), set(range(len(text)))):
         lines, at, width = [], 0, LAST_COLUMN
@@ -100,7 +100,7 @@ def unquoted(text: str, start: int = 0) -> Iterator[tuple[int, str]]:
 
 
 def comma_ends(text: str) -> set[int]:
-    """The places behind commas that split operands: outside of parentheses and apostrophes."""
+    """The places after commas that split operands: outside of parentheses and apostrophes."""
     found, depth = set(), 0
     for at, char in unquoted(text):
         depth += (char == "(") - (char == ")")

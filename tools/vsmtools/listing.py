@@ -1,66 +1,87 @@
-"""What vsm-explain list says of a script, as data. Its text is for people: only this module reads it."""
+"""What vsm-explain list says of a script, as data: its JSON, which docs/EXPLAIN.md describes."""
 from __future__ import annotations
 
-import re
+import json
 from dataclasses import dataclass, field
-from typing import Optional, Sequence
+from functools import cached_property
+from typing import Any, NamedTuple, Union
 
-CARET = re.compile(rb" {9}( *)\^ ([A-Z]+): (.*)")
-ANSWERS = (b"       -> ", b"       ** ")
-# A letter of several bytes has one column in a listing, and so has each other byte.
-LETTER = re.compile(rb"(?s)\xc2[\xa0-\xbf]|[\xc3-\xdf][\x80-\xbf]|\xe0[\xa0-\xbf][\x80-\xbf]|"
-                    rb"\xed[\x80-\x9f][\x80-\xbf]|[\xe1-\xec\xee\xef][\x80-\xbf]{2}|"
-                    rb"\xf0[\x90-\xbf][\x80-\xbf]{2}|[\xf1-\xf3][\x80-\xbf]{3}|\xf4[\x80-\x8f][\x80-\xbf]{2}|.")
-WARNING = "WARNING"
+from .command import Fault
+from .lines import Extent
+
+HEAD = {"version": 1, "command": "list"}
+# What only the row of an accepted statement has: in a text each quotation mark follows a backslash.
+ACCEPTED = b'"refused":false,'
 
 
-@dataclass(frozen=True)
-class Mark:
-    """What a caret says: of a line from 1 and a column from 0 in bytes, the kind of fault, or WARNING."""
+class Mark(NamedTuple):
+    """A fault, a warning or a dropped line: a line from 1, a begin and an end in bytes from 0. A fault also has its
+    word, and one that it proposes."""
     line: int
-    column: int
-    kind: str
+    begin: int
+    end: int
     text: str
+    fault: str = ""
+    hint: str = ""
+
+    @property
+    def message(self) -> str:
+        return ": ".join(filter(None, [self.fault, self.text]))
+
+
+class Listed(NamedTuple):
+    """The answer to the statement of these lines, its cause if it's an ABEND, and the word and the address of the name
+    and the cell pool that it gave."""
+    extent: Extent
+    text: str
+    cause: str
+    name: str
+    word: int
+    pool: str
+    address: int
 
 
 @dataclass
 class Listing:
-    """All that a listing says. An answer has the line under which it is, one of its statement's."""
-    marks: list[Mark] = field(default_factory=list)
-    dropped: list[int] = field(default_factory=list)
-    answers: dict[int, str] = field(default_factory=dict)
-    warnings: list[str] = field(default_factory=list)    # of the file
+    """All that a listing says. A row of an accepted statement is read only if the answers are asked for."""
+    faults: list[Mark] = field(default_factory=list)
+    dropped: list[Mark] = field(default_factory=list)
+    warnings: list[Mark] = field(default_factory=list)
+    refused: list[Listed] = field(default_factory=list)
+    rows: list[Union[bytes, Listed]] = field(default_factory=list)
+
+    @cached_property
+    def answers(self) -> list[Listed]:
+        return [answer_of(json.loads(it)) if isinstance(it, bytes) else it for it in self.rows]
 
 
-def byte_column(line: bytes, column: int) -> int:
-    """The column in bytes of a listing's column; both from 0."""
-    if line.isascii():
-        return column
-    starts = [it.start() for it in LETTER.finditer(line)]
-    return starts[column] if column < len(starts) else len(line) + column - len(starts)
+def mark_of(it: dict[str, Any]) -> Mark:
+    return Mark(it["line"], it["column"] - 1, it["end"] - 1, it["text"], it.get("fault", ""), it.get("hint", ""))
 
 
-def parse(output: bytes, script: Sequence[bytes]) -> Listing:
-    """The listing of a script's lines."""
-    found, line = Listing(), 0
-    for text in output.split(b"\n"):
-        if text[:7] == b"%7d" % (line + 1):
-            line += 1
-            if text[8:9] == b"x":
-                found.dropped.append(line)
-        elif text.startswith(ANSWERS):
-            found.answers[line] = text[10:].partition(b"   [")[0].decode("ascii", "replace")
-        elif text.startswith(b"WARNING: "):
-            found.warnings.append(text[9:].decode("utf-8", "replace"))
-        else:
-            caret = CARET.match(text)
-            if caret and 0 < line <= len(script):
-                column = byte_column(script[line - 1], len(caret[1]))
-                found.marks.append(Mark(line, column, caret[2].decode(), caret[3].decode("utf-8", "replace")))
+def answer_of(it: dict[str, Any]) -> Listed:
+    return Listed(Extent(it["first"], it["last"]), it["answer"], it.get("cause", ""), it.get("name", "").upper(),
+                  it.get("word", 0), it.get("pool", "").upper(), it.get("address", 0))
+
+
+def parse(output: bytes) -> Listing:
+    """The listing that a program wrote; a fault if it's in another form."""
+    found = Listing()
+    marks = {"fault": found.faults, "dropped": found.dropped, "warning": found.warnings}
+    head, *rows = output.splitlines() or [b""]
+    try:
+        if json.loads(head) != HEAD:
+            raise ValueError
+        for row in rows:
+            if ACCEPTED in row:
+                found.rows.append(row)
+                continue
+            it = json.loads(row)
+            if it["kind"] == "answer":
+                found.refused.append(answer_of(it))
+                found.rows.append(found.refused[-1])
+            elif it["kind"] in marks:
+                marks[it["kind"]].append(mark_of(it))
+    except (LookupError, TypeError, ValueError, AttributeError):
+        raise Fault("vsm-explain lists in another form than vsm-lsp reads: take both of one release") from None
     return found
-
-
-def proposal(text: str) -> Optional[str]:
-    """The word that a fault's text proposes: LENGTH of '.. ; LENGTH?'."""
-    found = re.search(r"; ([A-Z0-9]+)\?$", text)
-    return found[1] if found else None

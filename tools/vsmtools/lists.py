@@ -1,4 +1,4 @@
-"""List forms of macros: what MF=L and SF=L define, and what an execute form as MF=(E,NAME) takes from there."""
+"""List forms of macros: what MF=L and SF=L define, and what an execute form such as MF=(E,NAME) takes from there."""
 from __future__ import annotations
 
 import re
@@ -15,8 +15,8 @@ SINGLE = {"GETMAIN": {"LC": "EC", "LU": "EU", "VC": "VRC", "VU": "VRU"},
 
 @dataclass
 class ListForm:
-    """The operands of one list, by their keywords; the positional one by ''. Since which line it has them: 0
-    where it's assembled so. Of those that an execute form stored from a register, the line."""
+    """The operands of one list, by their keywords; the positional one by ''. Since which line it has them: 0 if it's
+    assembled that way. Of those that an execute form stored from a register, the line."""
     operation: str
     operands: dict[str, str]
     since: int = 0
@@ -39,7 +39,7 @@ def list_keyword(operation: str) -> str:
 
 
 def list_name(it: Statement) -> Optional[str]:
-    """The name of the list that a macro defines; None where it isn't a list form."""
+    """The name of the list that a macro defines; None if it isn't a list form."""
     values = [value.upper() for key, value in map(keyed, it.parts) if key == list_keyword(it.operation)]
     found = re.fullmatch(r"L|\(L(?:,(%s))?(?:,.*)?\)" % SYMBOL, values[0] if values else "", re.S)
     return (found[1] or it.name) if found else None
@@ -58,14 +58,14 @@ class Lists:
         self.known = {name: replace(form, operands=dict(form.operands), stored={}) for name, form in self.assembled.items()}
 
     def check(self, name: str, contents: Contents) -> None:
-        """That all ways bring the list as the text has it."""
+        """Checks that the list is as the text has it on all ways."""
         content = contents.state.get(contents.list_key(name))
         if content is None and name not in self.changed and not self.known[name].since:
             return
         content = content or contents.get("")
         if content.kind != "list" or content.what != self.known[name].since:
             raise Unknown("what list %s holds here isn't known: %s" % (name, content.what if content.kind == "lost" else
-                                                                        "other ways bring another"))
+                                                                        "other ways have another"))
 
     def change(self, name: str, line: int, contents: Contents) -> None:
         """A line gives a list what the text says."""
@@ -74,7 +74,7 @@ class Lists:
         contents.state[contents.list_key(name)] = Content("list", line, line)
 
     def define(self, it: Statement) -> bool:
-        """Takes a list form; answers whether the statement is one."""
+        """Takes a list form; returns whether the statement is one."""
         name = list_name(it)
         if name:
             found: dict[str, str] = {}
@@ -85,7 +85,7 @@ class Lists:
         return name is not None
 
     def copy(self, it: Statement, contents: Contents) -> Optional[tuple[str, str]]:
-        """The names of the copy and the list, where it's MVC of a whole list that is known."""
+        """The names of the copy and the list, if it's MVC of a whole list that is known."""
         operands = [text.upper() for text in it.parts]
         if it.operation != "MVC" or len(operands) != 2 or operands[1] not in self.known:
             return None

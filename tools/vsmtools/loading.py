@@ -46,7 +46,7 @@ class Script:
         self.lines += lines
 
     def obtain(self, area: Area, subpool: int, more: str = "") -> None:
-        """An area that is where the next one of its length goes."""
+        """An area in the place of the next one of its length."""
         self.put("STORAGE OBTAIN,LENGTH=%d,SP=%d,LOC=%d%s" % (area.length, subpool, location(area.start), more))
 
     def release(self, area: Area, subpool: int) -> None:
@@ -112,7 +112,7 @@ class Loader:
         self.script.task = self.fillers.pop(number)
 
     def attach_with(self, number: int, given: list[Key], shared: list[Key]) -> None:
-        """ATTACH of a task with its subpools. Lists of them are in storage for a moment."""
+        """ATTACH of a task with its subpools. Lists of them are in storage only for that."""
         lists = [sorted({key[0] for key in keys} - {0}) for keys in (given, shared)]
         room = Area(LOW_START, 256)
         words = ["EP=T%d" % number]
@@ -166,7 +166,7 @@ class Loader:
     # Storage.
 
     def make_empty(self, it: Subpool) -> None:
-        """A subpool without storage that nobody shares, by an area of a moment."""
+        """A subpool without storage that nobody shares, by an area that is released at once."""
         self.script.by(it.owner)
         self.script.obtain(Area(LOW_START, 8), it.number)
         self.script.release(Area(LOW_START, 8), it.number)
@@ -183,7 +183,7 @@ class Loader:
 
 
 class Pages:
-    """Makes all storage of a subpool: its pages, and what lies in them."""
+    """Makes all storage of a subpool: its pages, and what is in them."""
 
     def __init__(self, loader: Loader, it: Subpool) -> None:
         self.loader, self.script, self.it = loader, loader.script, it
@@ -202,8 +202,8 @@ class Pages:
             self.script.release(area, self.it.number)
 
     def fill(self) -> None:
-        """Takes all pages up to the last one of the subpool; above the line all that there are if an extent that may
-        lie there lies below."""
+        """Takes all pages up to the last one of the subpool; above the line all that exist if an extent that may be
+        there is below."""
         is_full = any(pool.location == 31 and extent.start < HIGH_START
                       for pool in self.pools for extent in pool.extents)
         for start in (LOW_START, HIGH_START):
@@ -258,7 +258,7 @@ class Pages:
             self.script.obtain(Area(extent.end, end - extent.end), self.it.number)
 
     def make_free_cells(self, pool: CellPool) -> None:
-        """Hands out the cells that are in use, and takes the others back, the first to be handed out last."""
+        """Obtains the cells that are in use, and frees the others, the first to be obtained last."""
         last, free = pool.extent_cells(len(pool.extents) - 1), pool.free_cells
         same = 0
         while same < min(self.unused[pool.name], len(free)) and free[-1 - same] == last[-1 - same]:

@@ -5,10 +5,16 @@ import re
 from functools import cache
 from pathlib import Path
 
+# For an operation: another one whose rows describe these operands, and their names there.
+LIKE = {
+    "GETMAIN": ("STORAGE", "OBTAIN", {"LV": "LENGTH", "A": "ADDR", "SP": "SP", "BNDRY": "BNDRY", "LOC": "LOC"}),
+    "FREEMAIN": ("STORAGE", "RELEASE", {"LV": "LENGTH", "A": "ADDR", "SP": "SP"}),
+    "CPOOL": ("CPOOL", "GET", {"CPID": "CPID"})}
+
 
 @cache
 def text_of(name: str) -> str:
-    """A document's text; empty if it isn't there. A release has the two beside its tools."""
+    """A document's text; empty if it's missing. A release has the two next to its tools."""
     try:
         return (Path(__file__).resolve().parents[2] / "docs" / name).read_text(encoding="utf-8")
     except (OSError, UnicodeDecodeError):
@@ -17,7 +23,7 @@ def text_of(name: str) -> str:
 
 @cache
 def meanings() -> list[tuple[list[str], str]]:
-    """Of each row of MESSAGES the texts in its first cell, and what it says of them."""
+    """For each row of MESSAGES: the texts in its first cell, and their meaning."""
     rows = re.findall(r"(?m)^\| (`[^|]*?) \| ([^|]*?) \|", text_of("MESSAGES.md"))
     return [(re.findall(r"`([^`]*)`", head), said) for head, said in rows]
 
@@ -36,7 +42,7 @@ def section(operation: str, form: str) -> str:
     for title in ("%s %s" % (operation, form), operation):
         found = re.search(r"(?ms)^##+ %s\n(.*?)(?=^##|\Z)" % re.escape(title), text_of("STATEMENTS.md"))
         if found:
-            return found[1]
+            return re.sub(r"\[([^\]]*)\]\([^)]*\)", r"\1", found[1])    # links lead nowhere in a hover
     return ""
 
 
@@ -46,10 +52,47 @@ def syntax(operation: str, form: str) -> str:
     return re.sub(r"(?m)^    ", "", found[1]).rstrip("\n") if found else ""
 
 
-def operand_row(operation: str, form: str, keyword: str) -> str:
-    """What an operand means, and what holds if it's left out."""
-    table = re.search(r"(?m)^\| Operand \|.*\n\|-.*\n((?:\|.*\n)+)", section(operation, form))
-    for heads, meant, *left_out in re.findall(r"(?m)^\| (.*?) \| (.*?)(?: \| (.*?))? \|$", table[1] if table else ""):
-        if keyword and keyword in re.findall(r"[A-Z0-9]+", heads):
-            return "%s: %s%s" % (keyword, meant, "; left out: " + left_out[0] if left_out[0] else "")
+def rows(text: str, head: str) -> list[tuple[list[str], list[str]]]:
+    """For each row of the table with this title over its first column: all titles, and the row's cells."""
+    table = re.search(r"(?m)^\| %s \|.*\n\|-.*\n(?:\|.*\n)+" % head, text)
+    lines = [line.strip("| ").split(" | ") for line in table[0].splitlines()] if table else []
+    return [(lines[0], it) for it in lines[2:]]
+
+
+def row(operation: str, form: str, word: str) -> str:
+    """The row of an operand in STATEMENTS: its meaning, and what holds if it's left out."""
+    for _, (heads, meant, *left_out) in rows(section(operation, form), "Operand"):
+        if word in re.findall(r"[A-Z0-9]+", heads):
+            return "; left out: ".join([meant, *left_out])
     return ""
+
+
+def like_row(operation: str, word: str) -> str:
+    """The row of an operand that means the same in another operation; only its meaning if its name differs there."""
+    other, form, names = LIKE.get(operation, ("", "", {}))
+    said = row(other, form, names[word]) if word in names else ""
+    return said if names.get(word) == word else said.partition("; left out: ")[0]
+
+
+def form_row(operation: str, form: str) -> str:
+    """What the table of an operation's forms says of one."""
+    for titles, (heads, *cells) in rows(section(operation, form), "Form"):
+        if form in heads.split(", "):
+            return "; ".join("%s: %s" % (title[:1].lower() + title[1:], it) for title, it in zip(titles[1:], cells))
+    return ""
+
+
+def sentence(operation: str, form: str, word: str) -> str:
+    """The first sentence outside of tables and examples that names an operand."""
+    text = re.sub(r"(?m)^(?:\||    ).*\n", "", section(operation, form))
+    found = [it for it in re.split(r"\n(?:- )?|(?<=\.) ", text) if re.search(r"\b%s\b" % re.escape(word), it)]
+    return found[0].replace("**", "") if found else ""
+
+
+def operand(operation: str, form: str, word: str) -> str:
+    """What STATEMENTS says of an operand, by its keyword or itself; empty if it says nothing."""
+    if word == form:
+        said = form_row(operation, form)
+    else:
+        said = row(operation, form, word) or like_row(operation, word) or sentence(operation, form, word)
+    return "%s: %s" % (word, said) if said else ""

@@ -57,7 +57,7 @@ class CellPool:
     line: int = 0
 
     def extent_cells(self, k: int) -> list[int]:
-        """The addresses of the cells of an extent; its length may be rounded up behind the last one."""
+        """The addresses of the cells of an extent; its length may be rounded up after the last one."""
         return [self.extents[k].start + j * self.size for j in range(self.secondary if k else self.primary)]
 
     @property
@@ -75,7 +75,7 @@ class Name:
 
 @dataclass
 class Map:
-    """All that a MAP shows. Of each part `line` is where its first line stands, from 1."""
+    """All that a MAP shows. `line` of each part is the number of its first line, from 1."""
     tasks: list[Task] = field(default_factory=list)
     subpools: list[Subpool] = field(default_factory=list)
     cell_pools: list[CellPool] = field(default_factory=list)
@@ -112,7 +112,7 @@ PATTERNS = {
     "NAME": re.compile(" NAME %s %s" % (NAME, HEX)),
     "HISTORY": re.compile(" HISTORY KEPT %s OF %s" % (NUMBER, NUMBER)),
 }
-# What can stand behind a line of each kind; "" is the map's begin.
+# What can follow a line of each kind; "" is the map's begin.
 FOLLOWS = {
     "": "TASK", "TASK": "R0", "R0": "R8", "R8": "TASK SUBPOOL CELLPOOL PAGES",
     "SUBPOOL": "EXTENT SUBPOOL CELLPOOL PAGES", "EXTENT": "EXTENT FREE SUBPOOL CELLPOOL PAGES",
@@ -140,7 +140,7 @@ class Reader:
         if word not in PATTERNS:
             self.fault("no line of a map: '%s'" % line[:60])
         if known not in follows:
-            self.fault("a line %s can't stand here: expected %s"
+            self.fault("a line %s isn't allowed here: expected %s"
                        % (word, " or ".join(follows) or "the map's end"))
         found = PATTERNS[word].fullmatch(line)
         if not found:
@@ -158,7 +158,7 @@ def area_of(found: re.Match[str]) -> Area:
     return Area(int(found[1], 16), int(found[2], 16))
 
 
-# What a map has of each line: numbers of its own, or one thing more.
+# What a map has of each line: numbers of its own, or one other thing.
 FIELDS = {"PAGES": ("low_assigned", "low_pages", "high_assigned", "high_pages"), "BYTES": ("taken", "free"),
           "HISTORY": ("kept", "history")}
 TAKERS: dict[str, Callable[[Map, re.Match[str], int], None]] = {
@@ -187,7 +187,7 @@ def parse_map(lines: Sequence[str], source: str = "the map", first: int = 1) -> 
         reader.take(line)
     if reader.before != "HISTORY":
         reader.line += not lines
-        reader.fault("the map is cut short: it ends behind %s, and a map ends with a line HISTORY"
+        reader.fault("the map is cut short: it ends after %s, and a map ends with a line HISTORY"
                      % (reader.before or "nothing"))
     return reader.map
 

@@ -39,12 +39,12 @@ class Macro:
     form: str = ""
     operands: list[str] = field(default_factory=list)
     place: str = ""               # what ADDR, A or CELL names: a name, or a register in parentheses
-    keyword: str = ""             # ADDR, A or CELL, where the address can go somewhere
+    keyword: str = ""             # ADDR, A or CELL, if the address can go somewhere
     wish: str = ""                # the field that the source stores it in
     remarks: list[str] = field(default_factory=list)
-    gave: Optional[Content] = None    # the area, cell pool or task that others can stand for
+    gave: Optional[Content] = None    # the area, cell pool or task that others can be
     is_list: bool = False         # that the source has its lengths in a list
-    notes: list[str] = field(default_factory=list)    # to be told where it's taken
+    notes: list[str] = field(default_factory=list)    # reported if it's taken
 
     @property
     def line(self) -> int:
@@ -61,7 +61,7 @@ class Macro:
         return "COND=YES" in self.operands or bool({"RC", "VRC", "EC", "C", "COND"} & set(self.operands[:2]))
 
     def folded(self, more: int = 0) -> Optional[list[str]]:
-        """Its lines, at most as many as the source has for it; None if it, or it with so much more, needs more."""
+        """Its lines, at most as many as the source has for it; None if it, or it with this much more, needs more."""
         return fold(self.text() + "_" * more, self.statement.last - self.statement.first + 1)
 
     def lines(self) -> list[str]:
@@ -95,7 +95,7 @@ def as_storage(operands: list[str]) -> list[str]:
 
 @dataclass(frozen=True)
 class Given:
-    """A word of --at: what a register or field holds before a line."""
+    """A value of --at: what a register or field holds before a line."""
     word: str
     line: int
     what: str
@@ -194,7 +194,7 @@ class Paste:
 
     def paste(self) -> list[str]:
         """The lines of the script, as many as the source has. What a later branch brings to a statement is what the
-        round before found; once that stays the same it's right, and where it doesn't nothing is known there."""
+        previous round found; once that stays the same it's right, and if it doesn't nothing is known there."""
         for rounds in range(ROUNDS + 1):
             assumed, changed = self.contents.assumed, len(self.lists.changed)
             self.round()
@@ -202,7 +202,7 @@ class Paste:
                 break
             assumed = self.contents.back
             if rounds == ROUNDS - 1:
-                assumed = {k: lost("a later branch may bring another") for k in assumed}
+                assumed = {k: lost("a later branch may change it") for k in assumed}
                 self.lists.changed.update(self.lists.known)
             self.begin(assumed)
         for word in self.given:
@@ -247,7 +247,7 @@ class Paste:
                 self.note(it.first + 1, 1, "%s is taken as a copy of list %s" % copy)
 
     def take_given(self, it: Statement) -> None:
-        """What the words of --at say of registers and fields before a statement."""
+        """What the values of --at say of registers and fields before a statement."""
         for word in [word for word in self.given if it.first < word.line <= it.last + 1]:
             self.given.remove(word)
             try:
@@ -269,12 +269,12 @@ class Paste:
         macro = self.macros.get(int(line) - 1)
         gave = macro.gave if macro and macro.line > self.since else None
         if gave is None:
-            raise Unknown("line %s is no macro before, nor behind a RUN, ENDTASK, BACK or FORWARD, that gives an "
+            raise Unknown("line %s is no earlier macro, since the last RUN, ENDTASK, BACK or FORWARD, that gives an "
                           "area, a cell pool or a task" % line)
         return gave
 
     def own(self, it: Statement) -> None:
-        """A statement of the bench's own. Behind one that leads to another task or time nothing is known."""
+        """A statement of the bench's own. After one that leads to another task or time nothing is known."""
         self.written[it.first] = self.lines[it.first:it.last + 1]
         if it.operation in ("RUN", "ENDTASK", "BACK", "FORWARD"):
             self.since = it.first + 1
@@ -320,7 +320,7 @@ class Paste:
         self.behind(found, it.first)
 
     def behind(self, it: Macro, number: int) -> None:
-        """What registers and names hold behind a macro that is taken."""
+        """What registers and names hold after a macro that is taken."""
         self.contents.lose(LINKAGE, it.line)
         if it.keyword:
             it.gave = Content("area", number, it.line)
@@ -363,7 +363,7 @@ class Paste:
         self.held.pop(it.register or 1, None)
         name = self.unused("AREA%d" % it.line if it.register else it.place)
         if name != it.place:
-            self.note(it.line, 1, "%s=%s is written as %s: it gets nothing else, where this is answered 4"
+            self.note(it.line, 1, "%s=%s is written as %s: it gets nothing else if this is answered 4"
                       % (it.keyword, it.place, name), it.register > 0)
         it.place = name
 
@@ -395,7 +395,7 @@ class Paste:
         return found
 
     def of_one(self, it: Macro, operands: list[tuple[int, str]]) -> list[tuple[int, str]]:
-        """A form with a list of lengths as the one with that length, where the list has one."""
+        """A form with a list of lengths as the one with that length, if the list has one."""
         form, to = it.form, SINGLE[it.operation][it.form]
         at, text = next(((at, keyed(text)[1]) for at, text in operands if keyed(text)[0] == "LA"), (0, ""))
         if not text:
@@ -433,14 +433,14 @@ class Paste:
         return [int.from_bytes(data[at:at + 4], "big") for at in range(0, len(data) - 3, 4)]
 
     def data_of(self, name: str, column: Optional[int] = None) -> bytes:
-        """The bytes that DC gives a field, where no line before stores in it."""
+        """The bytes that DC gives a field, if no earlier line stores in it."""
         if name.upper() in self.ways.changeable:
             raise Unknown("line %d may change %s" % (self.ways.changeable[name.upper()], name), column)
         symbol = self.symbols.known.get(name.upper())
         return symbol.data if symbol else b""
 
     def operand(self, it: Macro, text: str) -> None:
-        """Adds one operand, or drops it with a word."""
+        """Adds one operand, or drops it with a note."""
         head = re.match(r"([A-Za-z]\w*)=(.*)$", text, re.S)
         if not head:
             it.operands.append(self.positional(it, text))
@@ -475,7 +475,7 @@ class Paste:
             return text.upper()
         content = self.content(it, text)
         if content is None or content.kind != "task":
-            raise Unknown("%s isn't known to hold a task that an ATTACH before gave" % text)
+            raise Unknown("%s isn't known to hold a task that an earlier ATTACH gave" % text)
         it.remarks.append("%s: line %d" % (text.upper(), content.line))
         self.note(it.line, 1, "%s is taken as task %s, of line %d" % (text, content.what, content.line), True)
         return str(content.what)
@@ -516,7 +516,7 @@ class Paste:
                 raise Unknown("register %d holds an address or a name of line %d" % (register, content.line))
             number = int(content.what)
             label, name = self.contents.label
-            between = "; a branch to %s in line %d may bring another" % (name, label) if content.line <= label else ""
+            between = "; a branch to %s in line %d may change it" % (name, label) if content.line <= label else ""
             self.note(it.line, 1, "%s=%s is taken as %d, of line %d%s" % (key, text, number, content.line, between), True)
         if not 0 <= number <= 0xFFFFFFFF:
             raise Unknown("%d is no number of a word" % number)
@@ -544,7 +544,7 @@ class Paste:
         if len(data) < 2 or data[0] + 1 > len(data):
             raise Unknown("%s is no list whose bytes are known" % text)
         if data[0] != 1:
-            raise Unknown("a list of %d subpools would have to lie in storage: write an ATTACH for each, or a "
+            raise Unknown("a list of %d subpools would have to be in storage: write an ATTACH for each, or a "
                           "POKE" % data[0])
         return str(self.subpool(it, data[1]))
 
@@ -564,7 +564,7 @@ class Paste:
         if it.form != "BUILD":
             content = self.content(it, text)
             if content is None or content.kind != "pool":
-                raise Unknown("%s isn't known to name a cell pool that a BUILD before made" % text)
+                raise Unknown("%s isn't known to name a cell pool that an earlier BUILD made" % text)
             if content.what != text.upper():
                 self.note(it.line, 1, "CPID=%s is taken as %s, of line %d"
                           % (text, content.what, content.line), True)
@@ -608,11 +608,11 @@ class Paste:
         return None
 
     def address(self, it: Macro, text: str) -> str:
-        """What stands for the address of an area or cell: a register or name that has it."""
+        """What has the address of an area or cell: a register or name."""
         content = self.content(it, text)
         if content is None:
             if re.fullmatch(SYMBOL, text):
-                raise Unknown("%s isn't known to hold an address that a macro before gave" % text)
+                raise Unknown("%s isn't known to hold an address that an earlier macro gave" % text)
             return str(self.symbols.number(text))
         if content.kind == "number":
             raise Unknown("%s holds the number %s, of line %d, and no address" % (text, content.what, content.line))
@@ -632,9 +632,9 @@ class Paste:
         return found
 
     def name_of(self, macro: Macro, number: int) -> str:
-        """A name that has the address of a macro before; it's given one where it has none."""
+        """A name that has the address of an earlier macro, which gets one if it has none."""
         if macro.register or macro.place and self.names.get(macro.place) != number:
-            raise Unknown("the address of line %d is in %s no more" % (macro.line, macro.place))
+            raise Unknown("the address of line %d is no longer in %s" % (macro.line, macro.place))
         if not macro.place:
             macro.place = self.unused(macro.wish or "AREA%d" % macro.line)
             if macro.folded() is None:
@@ -643,6 +643,6 @@ class Paste:
             self.names[macro.place] = number
             also = ", and written as STORAGE OBTAIN, which has %s" % macro.keyword if macro.operation == "GETMAIN" else ""
             if also and macro.operands[0] == "R":
-                also += "; want of storage is S878 then, not S80A"
+                also += "; out of storage is S878 then, not S80A"
             self.note(macro.line, 1, "it's given %s=%s%s" % (macro.keyword, macro.place, also))
         return macro.place

@@ -15,21 +15,21 @@ from .lines import LAST_COLUMN, fold, is_continued, is_passed_over, split_lines,
 from .maps import Map, parse_map
 from .words import FORMS
 
-HELP = """  STATEMENT                  no blank is needed in column 1; behind a last comma '+>' asks for more
+HELP = """  STATEMENT                  no blank is needed in column 1; after a last comma '+>' asks for more
   .back until P changes      steps back to before the last change of the 4 bytes at P; P,N: of N bytes
-  .until ABEND               goes on in FILE until an answer has this text
-  .step [N], .run            goes on in FILE by N statements, or to its end
+  .until ABEND               continues in FILE until an answer has this text
+  .step [N], .run            continues in FILE by N statements, or to its end
   .read FILE                 carries out all statements of FILE
   .log                       the statements that are kept, and those that are undone
   .save FILE                 writes all lines as a script (.save --over FILE replaces one)
   .view [PAGE]               a page that shows the session, by vsm-view (.view --over PAGE replaces one)
   .restart                   runs all lines again, in a new vsm
   .who P                     who changed the 4 bytes at P, newest first, by vsm-explain; P,N: N bytes
-  .why [LINE]                why the statement of that line (else the last one) was answered so
+  .why [LINE]                why the statement of that line (else the last one) got its answer
   .list                      the session as a listing, with a caret at each fault
   .help, ?                   these lines
   .quit                      ends, as Ctrl+D does; Ctrl+C drops the line that is open
-  P is a name, an address or a register. A command may be shortened as far as it stays clear: .sa, .q"""
+  P is a name, an address or a register. A command may be shortened while it stays clear: .sa, .q"""
 COMMANDS = {text.split()[0]: text for text in (
     "back until ", "until ", "step", "run", "read ", "log", "save ", "view", "restart", "who ", "why", "list", "help",
     "quit")}     # with what Tab makes of each
@@ -57,18 +57,18 @@ def operand_text(text: str) -> str:
     found = re.match(r"(\s*(?:\S+\s+)??)(%s)(\s+|$)" % "|".join(FORMS), text, re.I)
     if not found:
         return text.rstrip()
-    if found[2].upper() in ("MAP", "ENDTASK"):   # all behind these is remarks
+    if found[2].upper() in ("MAP", "ENDTASK"):   # all after these is remarks
         return text[:found.end(2)]
     return text[:next((at for at, char in unquoted(text, found.end()) if char == " "), len(text))]
 
 
 def is_open(text: str) -> bool:
-    """Whether operands go on: they end with a comma."""
+    """Whether operands continue: they end with a comma."""
     return operand_text(text).endswith(",")
 
 
 def with_blank(text: str) -> str:
-    """A typed statement with its blank in column 1, but where a name stands there."""
+    """A typed statement with its blank in column 1, except if a name is there."""
     words = text.split(None, 2)
     has_name = len(words) > 1 and words[0].upper() not in FORMS and words[1].upper() in FORMS
     return text if has_name and not text.startswith(" ") else " " + text.strip()
@@ -89,7 +89,7 @@ class Bench:
         self.undone: list[int] = []
         self.ended = ""
         self.session = Session(self.program, self.options, SECONDS)
-        self.ask([" BACK 0"])           # words that vsm refuses are told at once
+        self.ask([" BACK 0"])           # arguments that vsm refuses are reported at once
 
     def ask(self, lines: Sequence[str]) -> Answer:
         """The answer of vsm to one statement's lines; not to be cut in two by Ctrl+C."""
@@ -156,16 +156,16 @@ class Bench:
 
 
 class Prompt:
-    """What a line that is typed does. `ended` says that .quit came."""
+    """What a line that is typed does. `ended` says that .quit was typed."""
 
     def __init__(self, bench: Bench) -> None:
         self.bench, self.show = bench, bench.show
-        self.open: list[str] = []        # lines of a statement that goes on
-        self.is_raw = False              # they stand as in a file
+        self.open: list[str] = []        # lines of a statement that continues
+        self.is_raw = False              # they are as in a file
         self.ended = False
-        self.is_interrupted = False      # Ctrl+C came, and its line isn't ended yet
+        self.is_interrupted = False      # Ctrl+C was typed, and its line isn't ended yet
         self.has_carets = False          # at a fault of a statement that is typed
-        self.rest: list[list[str]] = []  # of the file: statements, and lines that are passed over
+        self.rest: list[list[str]] = []  # of the file: statements, and lines that are skipped
 
     @property
     def prompt(self) -> str:
@@ -218,7 +218,7 @@ class Prompt:
         self.carry_out([line.encode("latin-1").decode("utf-8", "surrogateescape") for line in lines])
 
     def carry_out(self, lines: Sequence[str]) -> None:
-        """One statement that was typed, with a caret at its fault if vsm-explain is there."""
+        """One statement that was typed, with a caret at its fault if vsm-explain exists."""
         if not self.bench.carry_out(lines).text.startswith("FAULT ") or not self.has_carets:
             return
         try:
@@ -253,7 +253,7 @@ class Prompt:
         self.go(lambda answer: False, stop)
 
     def go(self, is_last: Callable[[Answer], bool], stop: Optional[int] = None) -> bool:
-        """Goes on in the file; whether that came to an answer that is the last one wanted."""
+        """Continues in the file; whether that reached an answer that was the last one requested."""
         while self.rest and (stop is None or len(self.bench.log) + 1 < stop):
             lines = self.rest.pop(0)
             if is_passed_over(lines[0].encode("utf-8", "surrogateescape")):
@@ -266,7 +266,7 @@ class Prompt:
         return False
 
     def next(self) -> None:
-        """Shows which statement of the file comes next."""
+        """Shows the next statement of the file."""
         at = len(self.bench.log)
         for lines in self.rest:
             at += len(lines)
@@ -385,7 +385,7 @@ class Prompt:
             self.show(self.bench.text(begin) + "   (undone)")
 
     def write(self, words: list[str], command: str, data: bytes) -> str:
-        """Writes a file that a command names, and answers with its name."""
+        """Writes a file that a command names, and returns its name."""
         over = words[:1] == ["--over"]
         if len(words) != 1 + over:
             raise Fault("it's .%s, or .%s" % (command, command.replace(" ", " --over ")))
@@ -396,7 +396,7 @@ class Prompt:
         self.show("  %d lines in %s" % (len(self.bench.log), self.write(words, "save FILE", text_of(self.bench.log))))
 
     def over(self, program: str, words: Callable[[str], list[str]], lines: Sequence[str]) -> list[str]:
-        """What a program prints over lines in a file; its words go around the path."""
+        """What a program prints over lines in a file; its arguments go around the path."""
         if not lines:
             raise Fault("there is nothing to show yet")
         with tempfile.TemporaryDirectory(prefix="vsm-prompt-") as folder:
@@ -411,7 +411,7 @@ class Prompt:
     def view(self, words: list[str]) -> None:
         program = os.path.join(TOOLS, "vsm-view")
         if not os.access(program, os.X_OK):
-            raise Fault("vsm-view isn't there, beside vsm-prompt")
+            raise Fault("vsm-view isn't in vsm-prompt's folder")
         lines = self.over(program, lambda path: ["--vsm", self.bench.program, *self.bench.options, path],
                           self.bench.log)
         page = self.write(words or [os.path.join(tempfile.mkdtemp(prefix="vsm-view-"), "session.html")],

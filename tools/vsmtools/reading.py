@@ -92,7 +92,7 @@ class Statement:
 
 
 def end_of_piece(text: str, at: int, is_quoted: bool) -> tuple[int, bool]:
-    """Where the operands on a line end, at a blank or the line's end, and whether an apostrophe is open there."""
+    """The end of the operands on a line, at a blank or the line's end, and whether an apostrophe is open there."""
     while at < len(text):
         if is_quoted:
             close = text.find("'", at)

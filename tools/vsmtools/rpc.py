@@ -16,7 +16,7 @@ Message = dict[str, Any]
 MOST_HEADER = 8192
 MOST_BODY = 512 << 20    # a script of 268,435,456 bytes, and what JSON adds to it
 HEADER_END = re.compile(rb"\r?\n\r?\n")
-# At a line's end, not at its begin: after a length that is too short, the rest of a body precedes it.
+# At a line's end, not at its beginning: after a length that is too short, the rest of a body precedes it.
 LENGTH = re.compile(rb"(?im)content-length[ \t]*:[ \t]*([0-9]{1,20})[ \t]*\r?$")
 
 
@@ -65,7 +65,7 @@ def parsed(body: bytes) -> Message:
 
 
 class Signals:
-    """Ends the process by a signal of the editor, and what it has started; but not while it starts something."""
+    """A signal of the editor ends the process and the programs that it has started, except while it starts one."""
 
     def __init__(self) -> None:
         self.is_held, self.came = False, 0
@@ -101,7 +101,8 @@ class Stream:
         self.is_ended = False                # the client has gone
 
     def read(self, seconds: Optional[float], others: Sequence[Any] = ()) -> list[Any]:
-        """Takes what the client has sent; waits at most that long for it, or for one of the others. Which are ready."""
+        """Reads what the client has sent, waiting at most that long for it or for one of the others. Returns which are
+        ready."""
         sources = [] if self.is_ended else [self.source]
         ready, _, _ = select.select([*sources, *others], [], [], seconds)
         if self.source in ready:
@@ -111,7 +112,7 @@ class Stream:
         return ready
 
     def take(self) -> Optional[Message]:
-        """The next message that is there whole. Unreadable says that one was passed over."""
+        """The next complete message; None if there is none yet. Unreadable says that one was skipped."""
         if self.length is None and not self._take_header():
             return None
         assert self.length is not None
@@ -123,7 +124,7 @@ class Stream:
         return parsed(body)
 
     def _take_header(self) -> bool:
-        """Whether a header is there whole; then it's taken, and the length is known."""
+        """Whether a header is complete; then it's taken, and the length is known."""
         end = HEADER_END.search(self.gathered)
         if end is None:
             if len(self.gathered) > MOST_HEADER:

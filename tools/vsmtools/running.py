@@ -1,4 +1,5 @@
-"""Where a debugged script stops, forwards and backwards: at breakpoints, at answers, at changes of what is watched."""
+"""The places where a debugged script stops, forwards and backwards: at breakpoints, at answers, at changes of what is
+watched."""
 from __future__ import annotations
 
 import re
@@ -40,7 +41,7 @@ END, BEGIN = Stop("end", "the script's end"), Stop("entry", "the script's beginn
 
 @dataclass
 class Going:
-    """A run that was asked for. The breakpoint where it begins doesn't stop it, and nothing stops a plain one."""
+    """A requested run. The breakpoint where it begins doesn't stop it, and nothing stops a plain one."""
     is_plain: bool = False
     is_back: bool = False
     is_step: bool = False
@@ -124,7 +125,7 @@ class Course:
         return [it is not None for it in values]
 
     def _changed(self, step: Step) -> Optional[Stop]:
-        """That something watched differs, with a statement more or less."""
+        """Why to stop, if a step changed something watched."""
         if not self.watched or not step.is_change:
             return None
         before, self.watched = self.watched, {it: self.value(it) or "" for it in self.watched}

@@ -1,4 +1,4 @@
-"""Programs that run while an editor is heard; a request that waits for one can be cancelled."""
+"""Programs that run while the editor sends messages; a request that waits for one can be cancelled."""
 from __future__ import annotations
 
 import os
@@ -24,7 +24,7 @@ class Run:
 
 
 class Runs:
-    """Those that are under way. What a program says on standard error is taken as its output."""
+    """The programs that are running. What one says on standard error counts as its output."""
 
     def __init__(self) -> None:
         self.runs: list[Run] = []
@@ -45,7 +45,7 @@ class Runs:
     def gather(self, ready: Sequence[Any]) -> None:
         """Takes what has been printed, and passes on the output of each run that has come to its end."""
         for run in [it for it in self.runs if it.child.stdout in ready]:
-            if run not in self.runs:    # what came of another run has ended it
+            if run not in self.runs:    # another run's end has ended it
                 continue
             assert run.child.stdout
             piece = os.read(run.child.stdout.fileno(), 1 << 20)
@@ -58,7 +58,7 @@ class Runs:
     @staticmethod
     def wait(run: Run) -> None:
         try:
-            run.child.wait(2)    # its output has ended, so does it
+            run.child.wait(2)    # its output has ended, so it will end
         except subprocess.TimeoutExpired:
             pass
 
@@ -70,15 +70,15 @@ class Runs:
             run.child.stdout.close()
 
     def end_all(self, document: Optional[str] = None, is_asked: bool = True) -> list[Any]:
-        """Ends all runs, or those over a document; without `is_asked` only those that no request waits for. The numbers
-        of the requests that waited for one of them."""
+        """Ends all runs, or those over a document; without `is_asked` only those that no request waits for. Returns the
+        numbers of the requests that waited for one of them."""
         ended = [it for it in self.runs if document in (None, it.document) and (is_asked or it.request is None)]
         for run in ended:
             self.end(run)
         return [it.request for it in ended if it.request is not None]
 
     def cancel(self, request: Any) -> bool:
-        """Ends the run that a request waits for; whether one did."""
+        """Ends the run that a request waits for. Returns whether there was one."""
         found = [it for it in self.runs if it.request is not None and it.request == request]
         for run in found:
             self.end(run)

@@ -6,7 +6,8 @@ from dataclasses import dataclass, field
 
 from .bench import Answer
 from .documents import Document
-from .reading import GIVES, Statement
+from .listing import Listed
+from .reading import Statement
 from .walking import History, State
 
 
@@ -15,7 +16,7 @@ class World:
     """What exists. A cell pool that went with its subpool is still here, and so is a released subpool; a subpool that
     only a list gives or shares isn't."""
     names: dict[str, tuple[int, int]] = field(default_factory=dict)    # their words, and the lines that gave them
-    pools: dict[str, int] = field(default_factory=dict)                # the lines that built them
+    pools: dict[str, tuple[int, int]] = field(default_factory=dict)    # their addresses, and the lines that built them
     tasks: dict[int, int] = field(default_factory=lambda: {1: 0})      # and who attached them
     current: int = 1
     subpools: set[int] = field(default_factory=lambda: {0})
@@ -26,17 +27,17 @@ class World:
         for it in [below for below, parent in self.tasks.items() if parent == task]:
             self.end(it)
 
-    def take(self, statement: Statement, answer: Answer, line: int) -> None:
+    def take(self, statement: Statement, answer: Listed) -> None:
         """Makes the change of an accepted statement."""
         if answer.text.startswith("RC=4"):
             return
-        name, form, values, task = statement.name, statement.form, statement.values, answer.task
-        given = values.get(GIVES.get((name, form), ""))
-        if given and not given.startswith("(") and answer.address is not None:
-            self.names[given] = answer.address, line
-        if form == "BUILD":
-            self.pools[values.get("CPID", "")] = line
-        elif form == "DELETE":
+        name, form, values, line = statement.name, statement.form, statement.values, answer.extent.first
+        task = Answer(line, answer.text).task
+        if answer.name:
+            self.names[answer.name] = answer.word, line
+        if answer.pool:
+            self.pools[answer.pool] = answer.address, line
+        if form == "DELETE":
             self.pools.pop(values.get("CPID", ""), None)
         elif name == "ATTACH" and task is not None:
             self.tasks[task] = self.current
@@ -54,10 +55,10 @@ class World:
 def standing(document: Document, line: int) -> list[int]:
     """The statements in effect before a line, by their places among those with an answer."""
     history = History(State())
-    for k, (extent, text) in enumerate(document.answered()):
-        if extent.first >= line:
+    for k, it in enumerate(document.answered()):
+        if it.extent.first >= line:
             break
-        answer = Answer(extent.first, text)
+        answer = Answer(it.extent.first, it.text)
         if answer.kept is None or history.reaches(answer.kept):
             history = history.after(answer, (str(k),), document.limit)
     found, state = [], history.state
@@ -68,12 +69,12 @@ def standing(document: Document, line: int) -> list[int]:
 
 
 def world_at(document: Document, line: int) -> World:
-    """What exists before the statement of a line. That of the last place is kept, for what is typed there."""
+    """What exists before the statement of a line. The last one is kept, for typing there."""
     known = document.answered()
-    count = bisect.bisect_left(known, line, key=lambda it: it[0].first)
+    count = bisect.bisect_left(known, line, key=lambda it: it.extent.first)
     if document.world[0] != count:
         world = World()
-        for extent, text in (known[k] for k in standing(document, line)):
-            world.take(document.statement(extent), Answer(extent.first, text), extent.first)
+        for it in (known[k] for k in standing(document, line)):
+            world.take(document.statement(it.extent), it)
         document.world = count, world
     return document.world[1]

@@ -1,4 +1,4 @@
-"""A walk over a script, forwards and backwards: one vsm, the states that it came to, and the way to each."""
+"""A walk over a script, forwards and backwards: one vsm, the states that it has reached, and the way to each."""
 from __future__ import annotations
 
 import bisect
@@ -88,7 +88,7 @@ class Step:
 
     @property
     def is_change(self) -> bool:
-        """Whether another state may come of it."""
+        """Whether it may have changed the state."""
         return self.answer.is_kept or self.answer.kept is not None
 
 
@@ -113,7 +113,7 @@ class Script:
 
 
 def parting(one: State, other: State) -> tuple[int, list[State]]:
-    """How many states up from the first one its way joins that of the other, and the states from there to the other."""
+    """How many states above the first one the two ways meet, and the states from there down to the other."""
     up, way = 0, []
     while one is not other:
         if one.depth >= other.depth:
@@ -137,7 +137,7 @@ def are_same(one: Optional[Undone], other: Optional[Undone]) -> bool:
 
 
 class Walk:
-    """Where a script has come to. `steps` is the way; what was stepped back over isn't on it.
+    """How far a script has come. `steps` is the way; what was stepped back over isn't on it.
 
     vsm is led to a step only once something is asked there: `now` is the history that it has itself. Its state is then
     that of the way, but it may keep fewer changes, and have undone others."""
@@ -145,7 +145,7 @@ class Walk:
     def __init__(self, script: Script, begin: Callable[[], Session]) -> None:
         self.script, self.begin = script, begin
         self.session = begin()
-        self.asked = self.needed = 0    # lines that vsm was asked, and those of the way when it was last run anew
+        self.asked = self.needed = 0    # lines that vsm was given, and those of the way when it last ran anew
         self.start = self.now = History(State())
         self.steps: list[Step] = []
         try:
@@ -207,7 +207,7 @@ class Walk:
         return now.kept == here.kept and (operation != "FORWARD" or are_same(now.undone, here.undone))
 
     def back(self) -> Step:
-        """Steps back over what was carried out last, and gives that."""
+        """Steps back over the last step, and returns it."""
         return self.steps.pop()
 
     def settle(self) -> None:

@@ -34,7 +34,7 @@ def starting(candidates: Iterable[str], text: str) -> list[str]:
 
 def completions(before: str, text: str, names: Callable[[], Iterable[str]],
                 pools: Callable[[], Iterable[str]]) -> list[str]:
-    """What the word that begins with a text can be, behind the part of the line that stands before it."""
+    """What the word that begins with a text can be, after the part of the line before it."""
     head = before.split()
     if not head or not re.search(r"\s$", before) and len(head) == 1 and not re.search(r"[,=(]", before):
         return starting((operation + " " for operation in FORMS), text)

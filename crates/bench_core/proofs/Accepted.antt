@@ -34,7 +34,7 @@ use Rattle.vsm_machine.specs.Refusals.{refusal_for}
 use Rattle.bench_core.specs.Stands.{answer_to_apply}
 use Rattle.bench_core.proofs.Applied.{Readied, Reserved}
 
--- a step can be taken where its test says so
+-- a step can be taken if its test says so
 step_taken : (names : List (List ℕ × ℕ)) (step : Option NameStep) → CanStepBy names (λ name. true) step → can_take_by names true step ≡ true
 step_taken names None h = refl
 step_taken names (Some step) h = is_taken names true step h
@@ -76,7 +76,7 @@ module _ (s r : Machine) (settings : settings_of r.storage ≡ settings_of s.sto
     apart = λ xs. stays.apart (storages xs);
   }
 
-  -- a machine beside which a change was made
+  -- a machine for which a change was made
   module _ (p : Planned) (change : MachineChange) (is : IsChangeOf s p r change) where
     made_apart : (xs : List MachineChange) → Apart s xs → Apart r (change ∷ xs)
     made_apart xs = reserve-apart s.storage.parts r.storage.parts (change_for (state_in_place s.storage) is.id p.plan) change.storage is.storage (storages xs)
@@ -131,7 +131,7 @@ accepted_as s r x p c a is =
     })
     (accepted_of (shown s) x p a is.id is.free)
 
--- a refusal is answered as one
+-- a refusal is reported as one
 pub refused_as : (settings : Settings) (limit : ℕ) (b : Bench NamedState) (x : Act) (e : Refusal) (why : Why) → statement_step settings b.present x ≡ Refused why → e ≡ refusal_for why →
     Keeps (statement_step settings) limit b (Apply x) (answer_to_apply (Err e)) b
 refused_as settings limit b x e why refused told =

@@ -17,8 +17,8 @@ use Rattle.vsm_machine.specs.declared.machine.MachineChange.{MachineChange}
 use Rattle.bench_core.proofs.Trails.{newest_as}
 use Rattle.bench_core.proofs.Moves.{Directed, all_push, all_dropped, swap_defines_none}
 
--- The state of the storage and the defined names are as they were, and so is what each change of the storage means. The names of
--- undone statements may be out of the table, or a new one may be there.
+-- The state of the storage and the defined names are as they were, and so is what each change of the storage means. The
+-- names of undone statements may be out of the table, or a new one may be in it.
 pub record Readied (s r : Machine) : Type 0 where
   pub shows : shown r ≡ shown s
   pub others : (x : MachineChange) → Apart s (x ∷ []) → swap.means r.storage.parts.elements x.storage ≡ swap.means s.storage.parts.elements x.storage
@@ -47,7 +47,7 @@ module _ (s r : Machine) (same : Readied s r) where
       let rest = kept_means ks h.1 (machine_steps.rest ks k s a) in
       λ i. one i ∷ rest i
 
-  -- and everything where the table holds the same names
+  -- and everything does if the table holds the same names
   all_means : ((name : List ℕ) → knows r.names name ≡ knows s.names name) → (cs : List MachineChange) → Apart s cs → map (means r) cs ≡ map (means s) cs
   all_means known [] a = refl
   all_means known (c ∷ cs) a =
@@ -77,7 +77,7 @@ module _ (s r : Machine) (same : Readied s r) where
       same.apart (ks ++ us) f.1,
     )
 
--- A change beside the history's: it fits the state, and all are apart and whole with it.
+-- A change next to the history's: it fits the state, and all are apart and whole with it.
 pub record Reserved (ks us : List MachineChange) (s r : Machine) (change : MachineChange) : Type 0 where
   pub fits : machine_fits ks s us
   pub none : DefineNone ks

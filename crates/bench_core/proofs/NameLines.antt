@@ -1,4 +1,4 @@
--- The lines of names, one behind the other.
+-- The lines of names, one after the other.
 use Rattle.std.proofs.Common.{◌≡◌, ℕ, zero, suc, ◌+◌, List, [], ◌∷◌, ◌++◌, take, Option, Some, None, refl, sym, ap, ◌∙◌, subst, arith}
 use Rattle.std.specs.Prelude.{codes, slice_get}
 use Rattle.std.proofs.lemmas.List.{append-nil}
@@ -12,7 +12,7 @@ use Rattle.vsm_model.specs.Map.{hex_field, line, name_lines}
 abbrev pub name_line : List ℕ × ℕ → List ℕ
 name_line row = line (codes " NAME " ++ row.0 ++ hex_field row.1)
 
--- one more line behind the first so many
+-- one more line after the first i
 more : (rows : List (List ℕ × ℕ)) (i : ℕ) (row : List ℕ × ℕ) → slice_get rows i ≡ Some row
     → name_lines (take (i + 1) rows) ≡ name_lines (take i rows) ++ name_line row
 more rows i row is =
@@ -29,7 +29,7 @@ name_put old now new a b c rows i row is before one =
     subst (Puts old new a c) (sym (more rows i row is))
     (puts_both old now new a b c (name_lines (take i rows)) (name_line row) before one)
 
--- where there is none behind them, they are all
+-- if none follows them, they are all
 pub take_past : {A : Type 0} (xs : List A) (i : ℕ) → slice_get xs i ≡ None → take i xs ≡ xs
 take_past [] zero none = refl
 take_past [] (suc i) none = refl

@@ -1,4 +1,4 @@
--- There is memory for a plan where there is memory for the state to which the plain machine goes.
+-- There is memory for a plan if there is memory for the state that the plain machine reaches.
 use Rattle.std.proofs.Common.{◌≡◌, ℕ, Option, Some, None, IsSome, IfSome, List, refl, subst, sym}
 use Rattle.vsm_model.specs.Names.{word_of}
 use Rattle.vsm_model.proofs.Rows.{name_stands}
@@ -17,7 +17,7 @@ use Rattle.vsm_machine.specs.Planned.{defined_by, difference_in, fresh_pages, re
 use Rattle.vsm_machine.specs.Supplies.{HasMemoryFor, IsSupplied, NeedsNoMore}
 use Rattle.bench_core.proofs.Accepted.{accepted_of, fits_of}
 
--- a name that a step defines is one behind it
+-- a name that a step defines is one after it
 room_for : (t : NameTable) (names : List (List ℕ × ℕ)) (step : Option NameStep)
     → ((name : List ℕ) → IsSome (word_of (stepped_by names step) name) → HasRoom t name) → IfSome (defined_by step) (HasRoom t)
 room_for t names None room = tt

@@ -1,4 +1,4 @@
--- The states along a history, told from the newest past one, move as those of the plain machine.
+-- The states along a history, listed from the newest past one, move as those of the plain machine.
 use Rattle.std.proofs.Common.{◌≡◌, ℕ, zero, suc, ◌+◌, ◌-◌, ◌≤◌, List, [], ◌∷◌, ◌++◌, length, map, take, drop, reverse, sym, ◌∙◌, ap, refl, arith, inl, inr}
 use Rattle.std.proofs.lemmas.Bool.{cases_lt}
 use Rattle.std.proofs.lemmas.List.{reverse-append, reverse-reverse, length-reverse, append_assoc, length-append, take_all, take-append-le, take-map}
@@ -37,7 +37,7 @@ module _ {M : Type 0} where
   forward_count (suc n) past s [] few = absurd (omega arith)
   forward_count (suc n) past s (t ∷ later) few = let e = forward_count n (s ∷ past) t later (omega arith) in omega (arith, e)
 
-  -- as many states behind, among the same ones
+  -- the same number of past states, among the same ones
   same_trail : (t u : Trail M) → line t ≡ line u → length t.past ≡ length u.past → t ≡ u
   same_trail t u e n = forward_again 0 t u u (sym e, omega (arith, n)) (refl, omega arith)
 

@@ -11,7 +11,7 @@ pub if_ok : (r : Result Reply Refusal) (P : Type 0) → P → IfOk r (λ _. P)
 if_ok (Ok x) P h = h
 if_ok (Err e) P h = tt
 
--- where memory was wanting
+-- if memory ran out
 pub spares_wanting : (m : Machine) (x : Act) (n : Machine) (r : Result Reply Refusal) → IfErr r (λ refusal. refusal ≡ NoMemory) → MakesForStatement m x n → IfErr r (Spares m x n)
 spares_wanting m x n (Ok y) wants made = tt
 spares_wanting m x n (Err e) wants made = subst (Spares m x n) (sym wants) made

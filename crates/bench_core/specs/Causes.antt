@@ -1,4 +1,4 @@
--- The first cause of a statement, by the settings and the state of a bench; also where the statement is answered 4.
+-- The first cause of a statement, by the settings and the state of a bench; also if the statement returns 4.
 use Rattle.std.specs.Prelude.{◌≡◌, ◌⊎◌, false, Option, Some, None, IsSome, Result, Ok, Err}
 use Rattle.vsm_model.specs.declared.causes.Cause.{Cause}
 use Rattle.vsm_model.specs.declared.limits.Settings.{Settings}
@@ -12,7 +12,7 @@ use Rattle.vsm_machine.specs.Machine.{name_asked, service_asked}
 use Rattle.vsm_machine.specs.declared.causes.UnknownName.{UnknownName}
 
 -- A statement whose names are all defined is this service, of whose causes this is the first that holds, or none holds
--- (a conditional GET may have been answered 4 then); or a name of it isn't defined.
+-- (a conditional GET may then have returned 4); or a name of it isn't defined.
 abbrev pub IsFirstCause : Settings → NamedState → Act → Result (Option Cause) UnknownName → Type 0
 IsFirstCause settings m x (Ok cause) =
     (service : Service) × (service_asked m x ≡ Some service)

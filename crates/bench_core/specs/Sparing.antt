@@ -1,4 +1,4 @@
--- How much memory is made for a statement: none where it's refused for anything but want of memory.
+-- How much memory is made for a statement: none if it's refused for anything except lack of memory.
 use Rattle.std.specs.Prelude.{Ok}
 use Rattle.macro_statements.specs.Requests.{Act}
 use Rattle.vsm_machine.specs.declared.machine.Machine.{Machine}
@@ -9,12 +9,12 @@ use Rattle.vsm_machine.specs.Changes.{shown, HasSameMemory}
 use Rattle.vsm_machine.specs.Planned.{IsPlanned}
 use Rattle.vsm_machine.specs.Supplies.{MakesFor}
 
--- there is a plan of it, for which no more was made than this
+-- it has a plan, for which no more was made than this
 abbrev pub MakesForStatement : Machine → Act → Machine → Type 0
 MakesForStatement m x n = (p : Planned) × IsPlanned (shown m) x (Ok p) × MakesFor m x p n
 
--- For one that is refused no element and no frame was made, and as many are spare; where memory was wanting, no more
--- was made than for one that is accepted.
+-- For a refused one no element and no frame was made, and the same numbers are spare; if memory ran out, no more was
+-- made than for an accepted one.
 abbrev pub Spares : Machine → Act → Machine → Refusal → Type 0
 Spares m x n Name = HasSameMemory m n
 Spares m x n (Abend code) = HasSameMemory m n

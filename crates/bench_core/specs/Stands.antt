@@ -1,4 +1,4 @@
--- What a bench stands for: the states behind it, the present one and those before it.
+-- What a bench represents: the past states, the present one and the later ones.
 use Rattle.std.specs.Prelude.{◌≡◌, true, false, List, map, reverse, Result, Ok, Err}
 use Rattle.vsm_model.specs.declared.limits.Settings.{Settings}
 use Rattle.vsm_model.specs.declared.replies.Reply.{Reply}

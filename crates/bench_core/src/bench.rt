@@ -25,13 +25,13 @@ use vsm_machine::{
 
 /// A bench over one private region.
 ///
-/// It stands for the states that it can go back to, the present one and those that it can go forward to.
+/// It represents the states that it can go back to, the present one and those that it can go forward to.
 #[derive(Drop)]
 pub struct Bench {
     pub(crate) machine: Machine,
     pub(crate) history: History<Machine>,
     ghost fits: { fit history.kept machine history.undone } by { fit_prop history.kept machine history.undone },
-    // No element and no frame is anyone's but the storage's and its changes', and each is one's.
+    // Each element and frame belongs to the storage or to one of its changes, and only to one.
     ghost whole: { IsWhole history.kept machine history.undone } by { whole_prop history.kept machine history.undone },
     ghost kept_define_none: { DefineNone history.kept } by { Prim.hlevel props },
     ghost undone_undefine_none: { UndefineNone history.undone } by { Prim.hlevel props },
@@ -47,8 +47,7 @@ impl Bench {
     /// A bench in the first state, under these settings: task 1 is current and owns an empty subpool 0. At most a block
     /// of elements is made for it, and no frame.
     ///
-    /// Refused with `Setting` where a setting is out of its limits, and with `NoMemory` where there is no memory for
-    /// it.
+    /// Refused with `Setting` if a setting is out of its limits, and with `NoMemory` if there is no memory for it.
     pub fn new(alloc: Global, settings: Settings) -> Result<Bench, NewFault>
         ensures { IsNew settings result }
     {
@@ -69,18 +68,18 @@ impl Bench {
 
     /// Carries out a statement and keeps its change, or refuses it and changes nothing.
     ///
-    /// An accepted statement discards what was undone; past the limit of the history the oldest change can't be undone
-    /// any more. It is refused with `Name` where a value is a name that isn't defined, else with `Abend` and the
-    /// completion code of the first cause that holds, and last with `NoMemory`.
+    /// An accepted statement discards what was undone; past the limit of the history the oldest change can no longer be
+    /// undone. It is refused with `Name` if a value is a name that isn't defined, else with `Abend` and the completion
+    /// code of the first cause that holds, and last with `NoMemory`.
     ///
-    /// A statement is refused with `NoMemory` only where fewer than 32 elements are spare, and 8 for each of what it
+    /// A statement is refused with `NoMemory` only if fewer than 32 elements are spare, and 8 for each of what it
     /// weighs (subpools that it gives or shares, cells that it makes, and what leaves by it), or fewer frames, or
-    /// tables, than it newly assigns pages, or where there is no room for a name that it defines.
+    /// tables, than pages that it newly assigns, or if there is no room for a name that it defines.
     ///
     /// A statement that is refused for anything else takes no memory. For one that is accepted or refused with
     /// `NoMemory`, at most a block of elements is made beyond the live ones and those of its weight, and no frame
-    /// beyond those of the pages that it newly assigns. What was made for one that is refused stays, as spare elements
-    /// and frames.
+    /// beyond those of the pages that it newly assigns. What was made for a refused one stays, as spare elements and
+    /// frames.
     ///
     /// It's a call of its own, so that no other line of a script pays for the room of a plan.
     #[inline(never)]
@@ -124,11 +123,10 @@ impl Bench {
         Ok(reply)
     }
 
-    /// Reads the bytes from an address on, as many as `out` has. Takes no memory.
+    /// Reads the bytes from an address on, the number that `out` has. Takes no memory.
     ///
-    /// Refused with `Name` where the address is a name that isn't defined, and with `Abend` (0C4) where one of the
-    /// bytes doesn't lie in an assigned page; `out` is then as it was. Where there is room for no byte, no page is
-    /// asked for.
+    /// Refused with `Name` if the address is a name that isn't defined, and with `Abend` (0C4) if one of the bytes
+    /// doesn't lie in an assigned page; `out` is then unchanged. If `out` has room for no byte, no page is needed.
     pub fn peek(&self, address: Value, out: &mut [u8]) -> Result<(), Refusal>
         requires valid { IsValue (written_in address) }
         ensures shown { OnOk result (shown_at (bench_of self.now).present (written_in address) (length out.old)
@@ -146,8 +144,8 @@ impl Bench {
         }
     }
 
-    /// Undoes the last `n` changes, or none where fewer are kept. No element and no frame is made, and as many are
-    /// spare.
+    /// Undoes the last `n` changes, or none if fewer are kept. No element and no frame is made, and the same numbers
+    /// are spare.
     pub fn back(&mut self, n: u32) -> Result<(), TooFar>
         ensures keeps { Keeps (statement_step (settings_in self.old)) (settings_in self.old).history (bench_of self.old)
             (Back n) (answer_to_back result) (bench_of self.new) }
@@ -157,8 +155,8 @@ impl Bench {
         self.history.back(&mut self.machine, n)
     }
 
-    /// Makes the first `n` undone changes again, or none where fewer are undone. No element and no frame is made, and
-    /// as many are spare.
+    /// Makes the first `n` undone changes again, or none if fewer are undone. No element and no frame is made, and the
+    /// same numbers are spare.
     pub fn forward(&mut self, n: u32) -> Result<(), TooFarAhead>
         ensures keeps { Keeps (statement_step (settings_in self.old)) (settings_in self.old).history (bench_of self.old)
             (Forward n) (answer_to_forward result) (bench_of self.new) }

@@ -1,4 +1,4 @@
-//! A bench: a machine, and the history of changes that it goes back and forward over.
+//! A bench: a machine, and the history of changes along which it goes back and forward.
 #![tactic(auto)]
 
 mod bench;

@@ -50,8 +50,8 @@ impl Bench {
         maps::put_history(gathered, writer, self.kept(), storage.settings().history);
     }
 
-    /// Writes the map of the bench as it is. After a fault what went out is a front of the text; a writer that takes
-    /// nothing is answered by an error of the kind `WriteZero`. Takes no memory.
+    /// Writes the map of the bench as it is. After a fault what was written is a prefix of the text; a writer that
+    /// takes nothing gives an error of the kind `WriteZero`. Takes no memory.
     pub fn write_map<W: Write>(&self, writer: &mut W) -> Result<(), io::Error>
         ensures { Writes (W.contents writer.old) (W.contents writer.new)
             (map_text (settings_in self.now) (bench_of self.now).present (length (bench_of self.now).past)) result }

@@ -1,5 +1,5 @@
 //! What a bench shows of its present state: its storage, the words of its names, the words of values, and what a
-//! statement would ask for there, with the first cause for which it would be refused.
+//! statement would ask for in it, with the first cause for which it would be refused.
 ghost use Rattle.std.specs.Prelude.{◌≡◌, option_map};
 ghost use Rattle.vsm_machine.specs.Machine.{looked_up, service_asked};
 ghost use Rattle.vsm_machine.specs.Meaning.{settings_of, state_of};
@@ -31,21 +31,21 @@ impl Bench {
         self.machine.storage.settings()
     }
 
-    /// The word that a name stands for; `None` where it isn't defined.
+    /// The word that a name stands for; `None` if it isn't defined.
     pub fn name(&self, name: &Name) -> Option<u32>
         ensures { result ≡ word_of (bench_of self.now).present.names name.now.bytes }
     {
         self.machine.names.word(name)
     }
 
-    /// The word of a register of a task: 0 where there is no such task, and for a number past 15.
+    /// The word of a register of a task: 0 if no such task exists, and for a number past 15.
     pub fn register(&self, task: u8, register: u8) -> u32
         ensures { result ≡ (bench_of self.now).present.storage.words task register }
     {
         self.machine.storage.register(task, register)
     }
 
-    /// The word that a value stands for; `None` where it's a name that isn't defined.
+    /// The word that a value stands for; `None` if it's a name that isn't defined.
     pub fn word(&self, value: &Value) -> Option<u32>
         requires { IsValue (written_in value.now) }
         ensures { result ≡ looked_up (bench_of self.now).present (written_in value.now) }
@@ -53,8 +53,8 @@ impl Bench {
         look_up(&self.machine, value)
     }
 
-    /// The service that a statement would ask for, with the words of its values; `None` where a name in one of them
-    /// isn't defined. A value that would be stored is written into `room`. Reads alone.
+    /// The service that a statement would ask for, with the words of its values; `None` if a name in one of them isn't
+    /// defined. A value that would be stored is written into `room`. It only reads.
     pub fn service_of<'a>(
         &self,
         statement: &'a Statement,
@@ -67,8 +67,8 @@ impl Bench {
         service_of(&self.machine, statement, room)
     }
 
-    /// The first cause of a statement: why it would be refused, or, in its conditional form, answered 4; none where it
-    /// would have its effect, and where a conditional GET would be answered 4. Reads alone, and takes no memory.
+    /// The first cause of a statement: why it would be refused, or, in its conditional form, return 4; none if it would
+    /// have its effect, or if a conditional GET would return 4. It only reads, and takes no memory.
     pub fn cause_of(&self, statement: &Statement) -> Result<Option<Cause>, UnknownName>
         requires { IsValidAct (act_in statement.now) }
         ensures { IsFirstCause (settings_in self.now) (bench_of self.now).present (act_in statement.now) result }

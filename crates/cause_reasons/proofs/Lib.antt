@@ -1,2 +1,5 @@
--- Lemmas on the words of causes.
-pub mod OneOf
+-- Lemmas on tasks and lists, and on what is said of causes.
+mod AreaLemmas
+mod ListLemmas
+mod Refused
+mod TaskLemmas

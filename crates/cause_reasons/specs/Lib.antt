@@ -1,2 +1,3 @@
+pub mod Tasks
+pub mod Texts
 pub mod Told
-pub mod Words

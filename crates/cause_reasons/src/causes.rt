@@ -1,24 +1,23 @@
-//! Why a service is answered as it is: its first cause, or what it comes to where it has none, told.
+//! Why a service is answered as it is: its first cause, or what it comes to if it has none.
 ghost use Rattle.std.specs.Prelude.{◌≡◌, IfSome, None};
 ghost use Rattle.vsm_model.specs.Meaning.{service_in};
 ghost use Rattle.place_reasons.specs.Told.{PutsSome};
 ghost use Rattle.cause_reasons.specs.Told.{TellsEffect, TellsService};
 
 use crate::areas::{put_area, put_first_extent, put_no_cell};
-use crate::cells::{find_pool, put_no_pool};
-use crate::pages::put_stored;
-use crate::refusals::put_refusal;
-use crate::releases::put_seen;
+use crate::bytes::put_stored;
+use crate::refusals::{put_refusal, stored_count};
 use crate::tasks::{put_any_parent, put_ended, put_task_count};
+use area_reasons::{find_pool, put_no_pool, put_seen};
 use place_reasons::{Piece, put_line};
 use std::io::Write;
 use storage_core::{Cause, Service, Storage};
 use storage_map::{first_free_cell, next_free_cell};
 use text_output::Gathered;
 
-/// Puts why a service on a storage is answered as it is, in lines of text with the numbers that decide: of a cause,
+/// Puts why a service on a storage is answered as it is, in lines of text with the numbers that decide: for a cause,
 /// which is to be its first, what that comes from; without one, what it comes to: the place of its area, whose pages or
-/// cell pool these are, which cell is handed out. Of a conditional CPOOL GET, which has no cause, that no cell is free.
+/// cell pool these are, which cell is handed out. For a conditional CPOOL GET without a cause, that no cell is free.
 pub fn put_cause<W: Write>(
     gathered: &mut Gathered,
     writer: &mut W,
@@ -52,19 +51,13 @@ fn put_no_cause<W: Write>(
     match service {
         Service::Obtain(o) => put_area(gathered, writer, storage, *o),
         Service::Release(r) => put_released(gathered, writer, storage, r.number),
-        Service::Whole { number } => put_seen(gathered, writer, storage, *number),
+        Service::Whole { number } => put_seen(gathered, writer, storage, *number, ""),
         Service::Attach(_) => put_task_count(gathered, writer, storage),
         Service::Detach { task } => put_ended(gathered, writer, storage, *task),
         Service::EndTask => put_ended(gathered, writer, storage, u32::from(storage.current())),
         Service::Run { task } => put_any_parent(gathered, writer, storage, *task),
         Service::Store { address, bytes } => {
-            put_stored(
-                gathered,
-                writer,
-                storage,
-                *address,
-                bytes.len().min(256) as u32,
-            )
+            put_stored(gathered, writer, storage, *address, stored_count(bytes))
         }
         Service::Build { numbers, .. } => put_first_extent(gathered, writer, storage, *numbers),
         Service::Get { name, operands } => {
@@ -79,7 +72,7 @@ fn put_no_cause<W: Write>(
 fn put_released<W: Write>(gathered: &mut Gathered, writer: &mut W, storage: &Storage, number: u32)
     ensures { PutsSome (W.contents writer.old) (W.contents writer.new) gathered.old gathered.new }
 {
-    put_seen(gathered, writer, storage, number);
+    put_seen(gathered, writer, storage, number, "");
     put_line(
         gathered,
         writer,

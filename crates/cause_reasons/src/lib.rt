@@ -1,14 +1,15 @@
-//! Why a service is answered as it is, told with the numbers that decide: its first cause by the definitions, or what
-//! it comes to.
+//! Why a service is answered as it is, with the numbers that decide: its first cause by the definitions, or what it
+//! comes to.
 #![tactic(auto)]
 
 mod areas;
+mod bytes;
 mod causes;
-mod cells;
-mod pages;
+mod lists;
+mod numbers;
 mod refusals;
-mod releases;
 mod tasks;
+mod texts;
 
+pub use bytes::put_bytes;
 pub use causes::put_cause;
-pub use pages::put_bytes;

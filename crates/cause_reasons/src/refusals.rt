@@ -1,92 +1,26 @@
-//! The first cause of a service, told with the numbers that decide.
-ghost use Rattle.std.specs.Prelude.{List, Option, ℕ};
+//! The first cause of a service, with the numbers that decide.
+ghost use Rattle.std.specs.Prelude.{◌≡◌, length, min};
 ghost use Rattle.vsm_model.specs.Meaning.{service_in};
-ghost use Rattle.vsm_model.specs.Services.{build, free, get, obtain, release, whole};
+ghost use Rattle.vsm_model.specs.Services.{obtain};
+ghost use Rattle.storage_core.specs.Meaning.{settings_of, state_of};
+ghost use Rattle.text_output.specs.Writing.{Puts};
 ghost use Rattle.place_reasons.specs.Told.{PutsSome};
-ghost use Rattle.cause_reasons.specs.Told.{PutsOneOf};
-ghost use Rattle.cause_reasons.specs.Words.{bad_cells_words, empty_words, left_out_words, lengths_words};
-ghost use Rattle.cause_reasons.specs.Words.{misaligned_words, names_full_words, pool_exists_words, pools_full_words};
-ghost use Rattle.cause_reasons.specs.Words.{too_high_words, zero_words};
-ghost use Rattle.cause_reasons.specs.Told.{TellsService};
+ghost use Rattle.cause_reasons.specs.Told.{free_cell_text, IsBuildTold, IsGetTold, PutsOne, release_text};
+ghost use Rattle.cause_reasons.specs.Told.{TellsService, whole_text};
 
 use crate::areas::{put_area, put_first_extent, put_no_cell};
-use crate::cells::{put_no_pool, put_not_in_use, put_overlap};
-use crate::pages::put_not_there;
-use crate::releases::{put_free, put_not_in_subpool, put_owned, put_unseen};
 use crate::tasks::{put_attach, put_detach, put_end, put_no_task};
-use place_reasons::{Piece, bytes_word, put_line};
+use crate::texts::{
+    put_bad_cells, put_bad_length, put_empty, put_left_out, put_misaligned, put_names_full,
+    put_pool_exists, put_pools_full, put_too_high, put_zero,
+};
+use area_reasons::{
+    put_no_pool, put_not_in_subpool, put_not_in_use, put_overlaps_cells, put_overlaps_free,
+    put_pages, put_seen, put_unseen,
+};
 use std::io::Write;
-use storage_core::{Build, Cause, Get, Lengths, Obtain, Release, Service, Storage};
+use storage_core::{Build, Cause, Get, Obtain, Release, Service, Storage};
 use text_output::Gathered;
-
-/// Puts that a subpool's number needs operands that are left out.
-fn put_left_out<W: Write>(gathered: &mut Gathered, writer: &mut W, number: u32)
-    ensures told { PutsOneOf left_out_words (W.contents writer.old) (W.contents writer.new) gathered.old gathered.new }
-    ensures some { PutsSome (W.contents writer.old) (W.contents writer.new) gathered.old gathered.new }
-{
-    put_line(
-        gathered,
-        writer,
-        &[
-            Piece::Text("subpool "),
-            Piece::Number(number),
-            Piece::Text(" needs operands that are left out here: 0 to 127 can be asked for"),
-        ],
-    );
-}
-
-/// Puts that a subpool's number is too high.
-fn put_too_high<W: Write>(gathered: &mut Gathered, writer: &mut W, number: u32)
-    ensures told { PutsOneOf too_high_words (W.contents writer.old) (W.contents writer.new) gathered.old gathered.new }
-    ensures some { PutsSome (W.contents writer.old) (W.contents writer.new) gathered.old gathered.new }
-{
-    put_line(
-        gathered,
-        writer,
-        &[
-            Piece::Text("subpool "),
-            Piece::Number(number),
-            Piece::Text(" is above 127"),
-        ],
-    );
-}
-
-/// Puts that no name more can be defined.
-fn put_names_full<W: Write>(gathered: &mut Gathered, writer: &mut W)
-    ensures told { PutsOneOf names_full_words
-        (W.contents writer.old) (W.contents writer.new) gathered.old gathered.new }
-    ensures some { PutsSome (W.contents writer.old) (W.contents writer.new) gathered.old gathered.new }
-{
-    put_line(
-        gathered,
-        writer,
-        &[Piece::Text("1,024 names are defined, and the one that is to get the address isn't")],
-    );
-}
-
-/// Puts why the lengths are bad.
-fn put_bad_length<W: Write>(gathered: &mut Gathered, writer: &mut W, lengths: Lengths)
-    ensures told { PutsOneOf lengths_words (W.contents writer.old) (W.contents writer.new) gathered.old gathered.new }
-    ensures some { PutsSome (W.contents writer.old) (W.contents writer.new) gathered.old gathered.new }
-{
-    match lengths {
-        Lengths::Variable { maximum, minimum } if maximum < minimum => put_line(
-            gathered,
-            writer,
-            &[
-                Piece::Text("the minimum, "),
-                Piece::Number(minimum),
-                Piece::Text(", is above the maximum, "),
-                Piece::Number(maximum),
-            ],
-        ),
-        Lengths::Variable { .. } | Lengths::Fixed(_) => put_line(
-            gathered,
-            writer,
-            &[Piece::Text("a length of 0 bytes is asked for")],
-        ),
-    }
-}
 
 /// Puts why there is no area for a request.
 fn put_obtain<W: Write>(
@@ -126,37 +60,6 @@ fn put_obtain<W: Write>(
     }
 }
 
-/// Puts that an address stands on no doubleword.
-fn put_misaligned<W: Write>(gathered: &mut Gathered, writer: &mut W, address: u32)
-    ensures told { PutsOneOf misaligned_words
-        (W.contents writer.old) (W.contents writer.new) gathered.old gathered.new }
-    ensures some { PutsSome (W.contents writer.old) (W.contents writer.new) gathered.old gathered.new }
-{
-    put_line(
-        gathered,
-        writer,
-        &[
-            Piece::Address(address),
-            Piece::Text(" is no multiple of 8: it is "),
-            Piece::Number(address % 8),
-            Piece::Text(bytes_word(address % 8)),
-            Piece::Text(" after one"),
-        ],
-    );
-}
-
-/// Puts that no byte is released.
-fn put_empty<W: Write>(gathered: &mut Gathered, writer: &mut W)
-    ensures told { PutsOneOf empty_words (W.contents writer.old) (W.contents writer.new) gathered.old gathered.new }
-    ensures some { PutsSome (W.contents writer.old) (W.contents writer.new) gathered.old gathered.new }
-{
-    put_line(
-        gathered,
-        writer,
-        &[Piece::Text("a length of 0 bytes is released")],
-    );
-}
-
 /// Puts why an area can't be released.
 fn put_release<W: Write>(
     gathered: &mut Gathered,
@@ -165,9 +68,8 @@ fn put_release<W: Write>(
     r: Release,
     cause: Cause,
 )
-    ensures told { TellsService storage.now (release r) cause
-        (W.contents writer.old) (W.contents writer.new) gathered.old gathered.new }
-    ensures some { PutsSome (W.contents writer.old) (W.contents writer.new) gathered.old gathered.new }
+    ensures { Puts (W.contents writer.old) (W.contents writer.new) gathered.old gathered.new
+        (release_text (settings_of storage.now) (state_of storage.now) r cause) }
 {
     match cause {
         Cause::UnsupportedSubpool => put_left_out(gathered, writer, r.number),
@@ -175,8 +77,8 @@ fn put_release<W: Write>(
         Cause::BadLength => put_empty(gathered, writer),
         Cause::Misaligned => put_misaligned(gathered, writer, r.address),
         Cause::NotInSubpool => put_not_in_subpool(gathered, writer, storage, r),
-        Cause::OverlapsFree => put_free(gathered, writer, storage, r),
-        Cause::OverlapsCells => put_overlap(gathered, writer, storage, r),
+        Cause::OverlapsFree => put_overlaps_free(gathered, writer, storage, r),
+        Cause::OverlapsCells => put_overlaps_cells(gathered, writer, storage, r),
         Cause::TooManyNames
         | Cause::NoStorage
         | Cause::WholeOfZero
@@ -195,18 +97,6 @@ fn put_release<W: Write>(
     }
 }
 
-/// Puts that subpool 0 is never released whole.
-fn put_zero<W: Write>(gathered: &mut Gathered, writer: &mut W)
-    ensures told { PutsOneOf zero_words (W.contents writer.old) (W.contents writer.new) gathered.old gathered.new }
-    ensures some { PutsSome (W.contents writer.old) (W.contents writer.new) gathered.old gathered.new }
-{
-    put_line(
-        gathered,
-        writer,
-        &[Piece::Text("subpool 0 can't be released whole")],
-    );
-}
-
 /// Puts why a whole subpool can't be released.
 fn put_whole<W: Write>(
     gathered: &mut Gathered,
@@ -215,9 +105,8 @@ fn put_whole<W: Write>(
     number: u32,
     cause: Cause,
 )
-    ensures told { TellsService storage.now (whole number) cause
-        (W.contents writer.old) (W.contents writer.new) gathered.old gathered.new }
-    ensures some { PutsSome (W.contents writer.old) (W.contents writer.new) gathered.old gathered.new }
+    ensures { Puts (W.contents writer.old) (W.contents writer.new) gathered.old gathered.new
+        (whole_text (state_of storage.now) number cause) }
 {
     match cause {
         Cause::UnsupportedSubpool => put_left_out(gathered, writer, number),
@@ -226,7 +115,7 @@ fn put_whole<W: Write>(
         Cause::NotInSubpool => put_unseen(gathered, writer, storage, number),
         Cause::NotOwner => {
             let note = "; only its owner releases it whole";
-            put_owned(gathered, writer, storage, number, note)
+            put_seen(gathered, writer, storage, number, note)
         }
         Cause::BadLength
         | Cause::TooManyNames
@@ -248,59 +137,7 @@ fn put_whole<W: Write>(
     }
 }
 
-/// Puts which number of a cell pool is bad.
-fn put_bad_cells<W: Write>(gathered: &mut Gathered, writer: &mut W, b: Build)
-    ensures told { PutsOneOf bad_cells_words (W.contents writer.old) (W.contents writer.new) gathered.old gathered.new }
-    ensures some { PutsSome (W.contents writer.old) (W.contents writer.new) gathered.old gathered.new }
-{
-    put_line(
-        gathered,
-        writer,
-        &[
-            Piece::Text(
-                "a size is a multiple of 4 from 4 to 4096, and a count 1 to 4096; asked for are cells of ",
-            ),
-            Piece::Number(b.size),
-            Piece::Text(bytes_word(b.size)),
-            Piece::Text(", "),
-            Piece::Number(b.primary),
-            Piece::Text(" at first and then "),
-            Piece::Number(b.secondary.unwrap_or(b.primary)),
-        ],
-    );
-}
-
-/// Puts that there is a cell pool of the name.
-fn put_pool_exists<W: Write>(gathered: &mut Gathered, writer: &mut W, name: &str)
-    ensures told { PutsOneOf pool_exists_words
-        (W.contents writer.old) (W.contents writer.new) gathered.old gathered.new }
-    ensures some { PutsSome (W.contents writer.old) (W.contents writer.new) gathered.old gathered.new }
-{
-    put_line(
-        gathered,
-        writer,
-        &[
-            Piece::Text("there is a cell pool "),
-            Piece::Text(name),
-            Piece::Text(" already"),
-        ],
-    );
-}
-
-/// Puts that there are as many cell pools as there can be.
-fn put_pools_full<W: Write>(gathered: &mut Gathered, writer: &mut W)
-    ensures told { PutsOneOf pools_full_words
-        (W.contents writer.old) (W.contents writer.new) gathered.old gathered.new }
-    ensures some { PutsSome (W.contents writer.old) (W.contents writer.new) gathered.old gathered.new }
-{
-    put_line(
-        gathered,
-        writer,
-        &[Piece::Text("there are 256 cell pools, which is the most")],
-    );
-}
-
-/// What is asked of the cell pool of a name: its numbers, a cell, or that this one comes back.
+/// What is asked of the cell pool of a name: its numbers, a cell, or that this one is freed.
 type OfPool<'a, T> = (&'a str, T);
 
 /// Puts why a cell pool can't be built.
@@ -311,10 +148,8 @@ fn put_build<W: Write>(
     asked: OfPool<'_, Build>,
     cause: Cause,
 )
-    ensures told { (header : Option (List ℕ)) →
-        TellsService storage.now (build asked.entry.0.now header asked.entry.1) cause
+    ensures { PutsOne (IsBuildTold (state_of storage.now) asked.entry.0.now asked.entry.1 cause)
         (W.contents writer.old) (W.contents writer.new) gathered.old gathered.new }
-    ensures some { PutsSome (W.contents writer.old) (W.contents writer.new) gathered.old gathered.new }
 {
     let (name, b) = asked;
     match cause {
@@ -343,7 +178,7 @@ fn put_build<W: Write>(
     }
 }
 
-/// Puts why a cell can't be handed out.
+/// Puts why no cell is handed out.
 fn put_get<W: Write>(
     gathered: &mut Gathered,
     writer: &mut W,
@@ -351,9 +186,8 @@ fn put_get<W: Write>(
     asked: OfPool<'_, Get>,
     cause: Cause,
 )
-    ensures told { TellsService storage.now (get asked.entry.0.now asked.entry.1) cause
+    ensures { PutsOne (IsGetTold (state_of storage.now) asked.entry.0.now asked.entry.1 cause)
         (W.contents writer.old) (W.contents writer.new) gathered.old gathered.new }
-    ensures some { PutsSome (W.contents writer.old) (W.contents writer.new) gathered.old gathered.new }
 {
     let (name, g) = asked;
     match cause {
@@ -382,7 +216,7 @@ fn put_get<W: Write>(
     }
 }
 
-/// Puts why a cell can't come back.
+/// Puts why a cell can't be freed.
 fn put_freed<W: Write>(
     gathered: &mut Gathered,
     writer: &mut W,
@@ -390,9 +224,8 @@ fn put_freed<W: Write>(
     asked: OfPool<'_, u32>,
     cause: Cause,
 )
-    ensures told { TellsService storage.now (free asked.entry.0.now asked.entry.1) cause
-        (W.contents writer.old) (W.contents writer.new) gathered.old gathered.new }
-    ensures some { PutsSome (W.contents writer.old) (W.contents writer.new) gathered.old gathered.new }
+    ensures { Puts (W.contents writer.old) (W.contents writer.new) gathered.old gathered.new
+        (free_cell_text (state_of storage.now) asked.entry.0.now asked.entry.1 cause) }
 {
     let (name, cell) = asked;
     match cause {
@@ -421,6 +254,13 @@ fn put_freed<W: Write>(
     }
 }
 
+/// How many bytes are stored, up to 256: no statement stores more.
+pub(crate) fn stored_count(bytes: &[u8]) -> u32
+    ensures { result ≡ min (length bytes.now) 256 }
+{
+    bytes.len().min(256) as u32
+}
+
 /// Puts the first cause of a service.
 pub(crate) fn put_refusal<W: Write>(
     gathered: &mut Gathered,
@@ -442,8 +282,7 @@ pub(crate) fn put_refusal<W: Write>(
         Service::EndTask => put_end(gathered, writer, storage, cause),
         Service::Run { task } => put_no_task(gathered, writer, *task),
         Service::Store { address, bytes } => {
-            let count = bytes.len().min(256) as u32;
-            put_not_there(gathered, writer, storage, *address, count)
+            put_pages(gathered, writer, storage, *address, stored_count(bytes))
         }
         Service::Build { name, numbers, .. } => {
             put_build(gathered, writer, storage, (*name, *numbers), cause)

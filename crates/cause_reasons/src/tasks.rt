@@ -1,98 +1,91 @@
-//! Why a request on tasks is answered as it is, told.
-ghost use Rattle.vsm_model.specs.Tasks.{attach_causes, detach_causes, end_task_causes};
+//! Why a request on tasks is answered as it is.
+ghost use Rattle.std.specs.Prelude.{◌≡◌, unwrap_or};
+ghost use Rattle.vsm_model.specs.Ending.{is_child};
 ghost use Rattle.storage_core.specs.Meaning.{state_of};
+ghost use Rattle.text_output.specs.Writing.{Puts};
 ghost use Rattle.place_reasons.specs.Told.{PutsSome};
-ghost use Rattle.cause_reasons.specs.Told.{PutsOneOf, TellsCause};
-ghost use Rattle.cause_reasons.specs.Words.{attach_words, end_task_words, no_list_words, no_task_words};
-ghost use Rattle.cause_reasons.specs.Words.{not_parent_words, subtask_words, task_count_words, task_words};
+ghost use Rattle.cause_reasons.specs.Tasks.{first_subtask, no_list_text, no_task_text, not_parent_text};
+ghost use Rattle.cause_reasons.specs.Tasks.{parent_text, subtask_text, task_count, task_count_text};
+ghost use Rattle.cause_reasons.specs.Told.{attach_text, detach_text, end_text};
 
-use crate::releases::put_seen;
+use crate::lists::put_lists;
 use place_reasons::{Piece, put_line, put_subpools_end};
 use std::io::Write;
-use storage_core::{Attach, Cause, Passed, Storage};
+use storage_core::{Attach, Cause, Storage};
 use text_output::Gathered;
-use vsm_model::geometry::{LAST_SUBPOOL, LAST_TASK, SUBPOOL_NUMBERS};
+use vsm_model::geometry::{LAST_TASK, TASKS_END};
 
 /// How many tasks there are.
-fn count_tasks(storage: &Storage) -> u32 {
-    for i in 0..LAST_TASK {
-        if storage.task_at(i).is_none() {
-            return i;
-        }
+fn count_tasks(storage: &Storage) -> u32
+    ensures { result ≡ task_count (state_of storage.now) }
+{
+    let mut count = 0;
+    for task in 1..TASKS_END {
+        count += u32::from(storage.parent(task).is_some());
     }
-    LAST_TASK
+    count
 }
 
-/// The parent of a task; `None` where there is no such task.
-fn parent_of(storage: &Storage, task: u32) -> Option<u8> {
+/// The parent of a task; 0 if it has none, or there is no such task.
+fn parent_of(storage: &Storage, task: u32) -> u32
+    ensures { result ≡ unwrap_or ((state_of storage.now).parents task) 0 }
+{
     if task > LAST_TASK {
-        return None;
+        return 0;
     }
-    storage.parent(task as u8)
+    match storage.parent(task as u8) {
+        Some(parent) => u32::from(parent),
+        None => 0,
+    }
 }
 
 /// Puts that there is no such task.
 pub(crate) fn put_no_task<W: Write>(gathered: &mut Gathered, writer: &mut W, task: u32)
-    ensures told { PutsOneOf no_task_words (W.contents writer.old) (W.contents writer.new) gathered.old gathered.new }
-    ensures some { PutsSome (W.contents writer.old) (W.contents writer.new) gathered.old gathered.new }
+    ensures { Puts (W.contents writer.old) (W.contents writer.new) gathered.old gathered.new (no_task_text task) }
 {
     put_line(
         gathered,
         writer,
-        &[Piece::Text("there is no task "), Piece::Number(task)],
+        &[Piece::Text("no task has the number "), Piece::Number(task)],
     );
 }
 
-/// Puts that task 1 has no parent.
-fn put_no_parent<W: Write>(gathered: &mut Gathered, writer: &mut W)
-    ensures told { PutsOneOf not_parent_words
-        (W.contents writer.old) (W.contents writer.new) gathered.old gathered.new }
-    ensures some { PutsSome (W.contents writer.old) (W.contents writer.new) gathered.old gathered.new }
-{
-    put_line(gathered, writer, &[Piece::Text("task 1 has no parent")]);
-}
-
-/// Puts which task is the parent of a task, and which one the current.
+/// Puts which task is the parent of a task, and which one is current; for 0 that there is no parent.
 fn put_its_parent<W: Write>(
     gathered: &mut Gathered,
     writer: &mut W,
     task: u32,
-    parent: u8,
-    current: u8,
+    parent: u32,
+    current: u32,
 )
-    ensures told { PutsOneOf not_parent_words
-        (W.contents writer.old) (W.contents writer.new) gathered.old gathered.new }
-    ensures some { PutsSome (W.contents writer.old) (W.contents writer.new) gathered.old gathered.new }
+    ensures { Puts (W.contents writer.old) (W.contents writer.new) gathered.old gathered.new
+        (parent_text task parent current) }
 {
-    put_line(
-        gathered,
-        writer,
-        &[
-            Piece::Text("the parent of task "),
-            Piece::Number(task),
-            Piece::Text(" is task "),
-            Piece::Number(u32::from(parent)),
-            Piece::Text("; the current task is "),
-            Piece::Number(u32::from(current)),
-        ],
-    );
+    if parent == 0 {
+        put_line(gathered, writer, &[Piece::Text("task 1 has no parent")]);
+    } else {
+        put_line(
+            gathered,
+            writer,
+            &[
+                Piece::Text("the parent of task "),
+                Piece::Number(task),
+                Piece::Text(" is task "),
+                Piece::Number(parent),
+                Piece::Text("; the current task is "),
+                Piece::Number(current),
+            ],
+        );
+    }
 }
 
 /// Puts which task is the parent of a task.
-pub(crate) fn put_parent<W: Write>(
-    gathered: &mut Gathered,
-    writer: &mut W,
-    storage: &Storage,
-    task: u32,
-)
-    ensures told { PutsOneOf not_parent_words
-        (W.contents writer.old) (W.contents writer.new) gathered.old gathered.new }
-    ensures some { PutsSome (W.contents writer.old) (W.contents writer.new) gathered.old gathered.new }
+fn put_parent<W: Write>(gathered: &mut Gathered, writer: &mut W, storage: &Storage, task: u32)
+    ensures { Puts (W.contents writer.old) (W.contents writer.new) gathered.old gathered.new
+        (not_parent_text (state_of storage.now) task) }
 {
-    match parent_of(storage, task) {
-        None | Some(0) => put_no_parent(gathered, writer),
-        Some(parent) => put_its_parent(gathered, writer, task, parent, storage.current()),
-    }
+    let current = u32::from(storage.current());
+    put_its_parent(gathered, writer, task, parent_of(storage, task), current);
 }
 
 /// Puts which task is the parent of a task that has one.
@@ -104,9 +97,8 @@ pub(crate) fn put_any_parent<W: Write>(
 )
     ensures { PutsSome (W.contents writer.old) (W.contents writer.new) gathered.old gathered.new }
 {
-    match parent_of(storage, task) {
-        None | Some(0) => (),
-        Some(_) => put_parent(gathered, writer, storage, task),
+    if parent_of(storage, task) != 0 {
+        put_parent(gathered, writer, storage, task);
     }
 }
 
@@ -131,9 +123,8 @@ pub(crate) fn put_detach<W: Write>(
     task: u32,
     cause: Cause,
 )
-    ensures told { TellsCause (detach_causes (state_of storage.now) task) (task_words cause) cause
-        (W.contents writer.old) (W.contents writer.new) gathered.old gathered.new }
-    ensures some { PutsSome (W.contents writer.old) (W.contents writer.new) gathered.old gathered.new }
+    ensures { Puts (W.contents writer.old) (W.contents writer.new) gathered.old gathered.new
+        (detach_text (state_of storage.now) task cause) }
 {
     match cause {
         Cause::NoTask => put_no_task(gathered, writer, task),
@@ -161,31 +152,42 @@ pub(crate) fn put_detach<W: Write>(
     }
 }
 
-/// The first subtask of the current task.
-fn first_child(storage: &Storage) -> Option<u8> {
+/// Whether a task is a subtask of another.
+fn is_child(storage: &Storage, parent: u8, task: u8) -> bool
+    ensures { result ≡ is_child (state_of storage.now) parent task }
+{
+    match storage.parent(task) {
+        Some(its) => its == parent,
+        None => false,
+    }
+}
+
+/// The first subtask of the current task; 0 if it has none.
+fn first_subtask(storage: &Storage) -> u32
+    ensures { result ≡ first_subtask (state_of storage.now) }
+{
     let current = storage.current();
-    for i in 0..LAST_TASK {
-        let task = storage.task_at(i)?;
-        if storage.parent(task) == Some(current) {
-            return Some(task);
+    for task in 1..TASKS_END {
+        if is_child(storage, current, task) {
+            return u32::from(task);
         }
     }
-    None
+    0
 }
 
 /// Puts which subtask the current task has.
-fn put_subtask<W: Write>(gathered: &mut Gathered, writer: &mut W, current: u8, subtask: u8)
-    ensures told { PutsOneOf subtask_words (W.contents writer.old) (W.contents writer.new) gathered.old gathered.new }
-    ensures some { PutsSome (W.contents writer.old) (W.contents writer.new) gathered.old gathered.new }
+fn put_subtask<W: Write>(gathered: &mut Gathered, writer: &mut W, storage: &Storage)
+    ensures { Puts (W.contents writer.old) (W.contents writer.new) gathered.old gathered.new
+        (subtask_text (state_of storage.now)) }
 {
     put_line(
         gathered,
         writer,
         &[
             Piece::Text("task "),
-            Piece::Number(u32::from(current)),
+            Piece::Number(u32::from(storage.current())),
             Piece::Text(" has a subtask: task "),
-            Piece::Number(u32::from(subtask)),
+            Piece::Number(first_subtask(storage)),
         ],
     );
 }
@@ -197,17 +199,15 @@ pub(crate) fn put_end<W: Write>(
     storage: &Storage,
     cause: Cause,
 )
-    ensures told { TellsCause (end_task_causes (state_of storage.now)) (end_task_words cause) cause
-        (W.contents writer.old) (W.contents writer.new) gathered.old gathered.new }
-    ensures some { PutsSome (W.contents writer.old) (W.contents writer.new) gathered.old gathered.new }
+    ensures { Puts (W.contents writer.old) (W.contents writer.new) gathered.old gathered.new
+        (end_text (state_of storage.now) cause) }
 {
-    let current = storage.current();
     match cause {
-        Cause::HasSubtask => {
-            let subtask = first_child(storage).unwrap_or(0);
-            put_subtask(gathered, writer, current, subtask);
+        Cause::HasSubtask => put_subtask(gathered, writer, storage),
+        Cause::NotParent => {
+            let current = u32::from(storage.current());
+            put_parent(gathered, writer, storage, current);
         }
-        Cause::NotParent => put_parent(gathered, writer, storage, u32::from(current)),
         Cause::UnsupportedSubpool
         | Cause::SubpoolNotAllowed
         | Cause::BadLength
@@ -231,41 +231,30 @@ pub(crate) fn put_end<W: Write>(
     }
 }
 
-/// Puts how many tasks are there.
+/// Puts how many tasks there are.
 pub(crate) fn put_task_count<W: Write>(gathered: &mut Gathered, writer: &mut W, storage: &Storage)
-    ensures told { PutsOneOf task_count_words
-        (W.contents writer.old) (W.contents writer.new) gathered.old gathered.new }
-    ensures some { PutsSome (W.contents writer.old) (W.contents writer.new) gathered.old gathered.new }
+    ensures { Puts (W.contents writer.old) (W.contents writer.new) gathered.old gathered.new
+        (task_count_text (state_of storage.now)) }
 {
     put_line(
         gathered,
         writer,
         &[
             Piece::Number(count_tasks(storage)),
-            Piece::Text(" of 64 tasks are there"),
+            Piece::Text(" of 64 tasks exist"),
         ],
     );
 }
 
-/// Puts that a byte of a list isn't there.
+/// Puts that a byte of a list isn't assigned.
 fn put_no_list<W: Write>(gathered: &mut Gathered, writer: &mut W)
-    ensures told { PutsOneOf no_list_words (W.contents writer.old) (W.contents writer.new) gathered.old gathered.new }
-    ensures some { PutsSome (W.contents writer.old) (W.contents writer.new) gathered.old gathered.new }
+    ensures { Puts (W.contents writer.old) (W.contents writer.new) gathered.old gathered.new no_list_text }
 {
     put_line(
         gathered,
         writer,
         &[Piece::Text("a byte of a list isn't assigned")],
     );
-}
-
-/// Puts the numbers of the subpools that are given and shared.
-fn put_lists<W: Write>(gathered: &mut Gathered, writer: &mut W, storage: &Storage, a: Attach)
-    ensures { PutsSome (W.contents writer.old) (W.contents writer.new) gathered.old gathered.new }
-{
-    let mut named = [false; SUBPOOL_NUMBERS];
-    put_numbers(gathered, writer, storage, "given", a.given, &mut named);
-    put_numbers(gathered, writer, storage, "shared", a.shared, &mut named);
 }
 
 /// Puts why there can't be a new task.
@@ -276,9 +265,8 @@ pub(crate) fn put_attach<W: Write>(
     a: Attach,
     cause: Cause,
 )
-    ensures told { TellsCause (attach_causes (state_of storage.now) a) (attach_words cause) cause
-        (W.contents writer.old) (W.contents writer.new) gathered.old gathered.new }
-    ensures some { PutsSome (W.contents writer.old) (W.contents writer.new) gathered.old gathered.new }
+    ensures { Puts (W.contents writer.old) (W.contents writer.new) gathered.old gathered.new
+        (attach_text (state_of storage.now) a cause) }
 {
     match cause {
         Cause::TooManyTasks => put_task_count(gathered, writer, storage),
@@ -302,111 +290,5 @@ pub(crate) fn put_attach<W: Write>(
         | Cause::NoTask
         | Cause::NotParent
         | Cause::HasSubtask => (),
-    }
-}
-
-/// The numbers below 128 that lists have named so far.
-type Named = [bool; SUBPOOL_NUMBERS];
-
-/// Whether a number was named before; it's named now.
-fn is_again(named: &mut Named, number: u32) -> bool {
-    if number > LAST_SUBPOOL {
-        return false;
-    }
-    let again = named[number as usize];
-    named[number as usize] = true;
-    again
-}
-
-/// Puts the numbers that are given or shared, and whose subpools they are.
-fn put_numbers<W: Write>(
-    gathered: &mut Gathered,
-    writer: &mut W,
-    storage: &Storage,
-    word: &str,
-    passed: Passed,
-    named: &mut Named,
-)
-    ensures { PutsSome (W.contents writer.old) (W.contents writer.new) gathered.old gathered.new }
-{
-    match passed {
-        Passed::Nothing => (),
-        Passed::Number(number) => put_passed(gathered, writer, storage, word, number, named),
-        Passed::Listed { address } => put_listed(gathered, writer, storage, word, address, named),
-    }
-}
-
-/// What is wrong with a number that is given or shared, be it by itself or since it was named before.
-fn wrong_text(number: u32, again: bool) -> &'static str {
-    match number {
-        0 => ": subpool 0 goes by SZERO",
-        1..=LAST_SUBPOOL if again => ": it's named twice",
-        1..=LAST_SUBPOOL => "",
-        _ => ": it's above 127",
-    }
-}
-
-/// Puts a number that is given or shared, and what is wrong with it, or whose subpool it is.
-fn put_passed<W: Write>(
-    gathered: &mut Gathered,
-    writer: &mut W,
-    storage: &Storage,
-    word: &str,
-    number: u32,
-    named: &mut Named,
-)
-    ensures { PutsSome (W.contents writer.old) (W.contents writer.new) gathered.old gathered.new }
-{
-    let text = wrong_text(number, is_again(named, number));
-    put_line(
-        gathered,
-        writer,
-        &[
-            Piece::Text(word),
-            Piece::Text(": "),
-            Piece::Number(number),
-            Piece::Text(text),
-        ],
-    );
-    if text.is_empty() {
-        put_seen(gathered, writer, storage, number);
-    }
-}
-
-/// Puts the number that a byte of a list names, if that byte is there.
-fn put_listed_at<W: Write>(
-    gathered: &mut Gathered,
-    writer: &mut W,
-    storage: &Storage,
-    word: &str,
-    address: u32,
-    named: &mut Named,
-)
-    ensures { PutsSome (W.contents writer.old) (W.contents writer.new) gathered.old gathered.new }
-{
-    let mut number = [0];
-    if storage.load(address, &mut number).is_ok() {
-        put_passed(gathered, writer, storage, word, u32::from(number[0]), named);
-    }
-}
-
-/// Puts the numbers of a list: its first byte says how many they are.
-fn put_listed<W: Write>(
-    gathered: &mut Gathered,
-    writer: &mut W,
-    storage: &Storage,
-    word: &str,
-    address: u32,
-    named: &mut Named,
-)
-    ensures { PutsSome (W.contents writer.old) (W.contents writer.new) gathered.old gathered.new }
-{
-    let mut count = [0];
-    if storage.load(address, &mut count).is_err() {
-        return;
-    }
-    for i in 0..u32::from(count[0]) {
-        let at = address.saturating_add(1 + i);
-        put_listed_at(gathered, writer, storage, word, at, named);
     }
 }

@@ -1,4 +1,4 @@
--- The cells of extents: one extent more, and one less.
+-- The cells of extents: with another extent, and with one less.
 use Rattle.std.proofs.Common.{◌≡◌, ℕ, ◌<◌, ◌||◌, Bool, true, false, List, [], ◌∷◌, ◌++◌, refl, sym, ap, ◌∙◌, append_assoc}
 use Rattle.vsm_elements.specs.Store.{among}
 use Rattle.vsm_elements.proofs.ChainLemmas.{among-append, not_both}

@@ -69,7 +69,7 @@ module _ (p : Pool) (has : HasCells p) (cell : ℕ) (first : slice_get p.cells 0
         ap (λ (z : Bool). z || uses p a) e
         ∙ ap (λ (z : Bool). among a (cells_of p.settings.size p.extents) && not z) (ap (among a) are ∙ ap (λ (z : Bool). z || among a (drop 1 p.cells)) e)
 
--- one cell comes back
+-- one cell is freed
 module _ (p : Pool) (has : HasCells p) (cell : ℕ) (used : uses p cell ≡ true) where
   both : (among cell (cells_of p.settings.size p.extents) ≡ true) × (not (among cell p.cells) ≡ true)
   both = and_parts (among cell (cells_of p.settings.size p.extents)) (not (among cell p.cells)) used
@@ -136,7 +136,7 @@ no_overlap size start count s (x ∷ xs) h a e = none_true (among a (cells_from 
       not_both (among a (cells_from size start count)) f
       (rest apart.1 (one_of (among a (cells_from size x.start x.count)) (among a (cells_of size xs)) (sym (among-append a (cells_from size x.start x.count) (cells_of size xs)) ∙ e) g))
 
--- with an extent more the cells in use are those that were
+-- with another extent the cells in use are those that were
 same_use : (size : ℕ) (xs : List Extent) (y : Extent) (cells : List ℕ) → ((a : ℕ) → among a cells ≡ true → among a (cells_of size xs) ≡ true)
     → ((a : ℕ) → among a (cells_of size xs) ≡ true → among a (cells_from size y.start y.count) ≡ false) → (a : ℕ)
     → (among a (cells_of size (xs ++ y ∷ [])) && not (among a (cells ++ cells_from size y.start y.count))) ≡ (among a (cells_of size xs) && not (among a cells))
@@ -153,7 +153,7 @@ same_use size xs y cells inside apart a =
       go false true false h = refl
       go false false c h = refl
 
--- an extent comes
+-- an extent is added
 module _ (p : Pool) (size : 0 < p.settings.size) (start count : ℕ) (has : HasCells p) (clear : meets start (count * p.settings.size) p ≡ false) where
   abbrev y : Extent
   y = record { start = start; count = count }

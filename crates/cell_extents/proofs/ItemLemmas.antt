@@ -1,4 +1,4 @@
--- The cells of an extent as items behind all others.
+-- The cells of an extent as items after all others.
 use Rattle.std.proofs.Common.{◌≡◌, ℕ, suc, ◌+◌, ◌*◌, List, ◌∷◌, ◌++◌, length, take, drop, sym, ap, ◌∙◌, arith}
 use Rattle.std.specs.Prelude.{map}
 use Rattle.std.specs.List.{range_with_len}
@@ -9,7 +9,7 @@ use Rattle.list_table.proofs.ItemLemmas.{words_in, seam_take, seam_drop}
 use Rattle.cell_extents.specs.Pool.{cells_from}
 use Rattle.cell_extents.specs.Items.{cell_item, cell_items}
 
--- an item is put in at the end of what was there
+-- an item is added at the end
 pub end_take : (ns0 ns ms : List Link) (k : ℕ) (n : Link) → length ns0 ≡ k → take k ns ≡ ns0 → ms ≡ take k ns ++ n ∷ drop k ns → take k ms ≡ ns0
 end_take ns0 ns ms k n l front e = ap (take k) (e ∙ ap (λ (z : List Link). z ++ n ∷ drop k ns) front) ∙ seam_take ns0 (n ∷ drop k ns) k l
 

@@ -59,7 +59,7 @@ module _ (start len : ℕ) where
   short : (n : ℕ) → rounded n ≤ n + 7
   short n = omega arith
 
-  -- one behind the end of an extent meets none of those before it
+  -- one after the end of an extent meets none of those before it
   none_until : (r : Row) (ys : List Row) → word r.words 2 + rounded (place_bytes r.words) ≤ start → 0 < place_bytes r.words → (xs : List Row) → AreSpread (rows_of (xs ++ r ∷ ys)) → met_by xs ≡ false
   none_until r ys l some [] h = refl
   none_until r ys l some (x ∷ xs) h =
@@ -77,7 +77,7 @@ spread_parts (x ∷ xs) r ys h = let k = spread_parts xs r ys h.2 in ((h.0, fron
   front end [] g = tt
   front end (z ∷ zs) g = (g.0, front end zs g.1)
 
--- a row in the middle, and what stands before and behind it
+-- a row in the middle, and what is before and after it
 module _ (start len : ℕ) (all xs : List Row) (r : Row) (ys : List Row) (are : all ≡ xs ++ r ∷ ys) (h : AreSpread (rows_of all)) where
   parts : AreSpread (rows_of (xs ++ r ∷ ys))
   parts = let P : List Row → Type 0 = λ z. AreSpread (rows_of z) in subst P are h
@@ -94,7 +94,7 @@ module _ (start len : ℕ) (all xs : List Row) (r : Row) (ys : List Row) (are : 
   pub met_here : overlaps_place start len r.words ≡ true → met_by start len all ≡ true
   met_here e = whole ∙ ap (λ (z : Bool). z || (met_by start len xs || met_by start len ys)) e
 
-  -- where the area ends by this row's extent, those behind it aren't met
+  -- if the area ends by this row's extent, those after it aren't met
   pub met_before : overlaps_place start len r.words ≡ false → start + len ≤ word r.words 2 → met_by start len all ≡ met_by start len xs
   met_before e l =
       whole ∙ ap (λ (z : Bool). z || (met_by start len xs || met_by start len ys)) e
@@ -104,7 +104,7 @@ module _ (start len : ℕ) (all xs : List Row) (r : Row) (ys : List Row) (are : 
         nothing true = refl
         nothing false = refl
 
-  -- and where it doesn't, those before aren't
+  -- and if it doesn't, those before aren't
   pub met_behind : overlaps_place start len r.words ≡ false → word r.words 2 < start + len → met_by start len all ≡ met_by start len ys
   met_behind e l =
       whole ∙ ap (λ (z : Bool). z || (met_by start len xs || met_by start len ys)) e
@@ -115,7 +115,7 @@ module _ (start len : ℕ) (all xs : List Row) (r : Row) (ys : List Row) (are : 
           | inr p ↦ absurd (omega (arith, l, ltb-false (word r.words 2) (start + len) p))
         ]
 
--- the rows meet an area just where the extents do
+-- the rows meet an area exactly if the extents do
 
 any_placed : (f : List ℕ → Bool) (rows : Items) (a : ℕ) (ws : List ℕ) → placed_at a rows ≡ Some ws → f ws ≡ true → list_any f rows ≡ true
 any_placed f [] a ws e g = absurd (none_some None ws refl e)
@@ -135,7 +135,7 @@ one_of : (a b : Bool) → (a || b) ≡ true → a ≡ false → b ≡ true
 one_of true b e f = absurd (not_both true refl f)
 one_of false b e f = e
 
--- the extent that a row in order says which meets the area
+-- the extent, said by one of the rows in order, that meets the area
 said_any : (size start len : ℕ) (xs : List Extent) (rs : List Row) → AreInOrder rs → AreLow rs → Say size xs rs → met_by start len rs ≡ true
     → (x : Extent) × (a : ℕ) × (beginning_at a xs ≡ Some x) × (overlaps size start len x ≡ true)
 said_any size start len xs [] o lows say e = absurd (not_both false e refl)
@@ -171,7 +171,7 @@ met s q h p size separate placed start len = same_bool (met_by start len (rows s
       let x = begun_any p.settings.size size (overlaps p.settings.size start len) p.extents separate e in
       any_placed (overlaps_place start len) (rows_of (rows s q)) (x.0).start (place_words p.settings.size x.0) (placed (x.0).start ∙ ap (option_map (place_words p.settings.size)) x.1) x.2
 
--- an extent comes, and its row with it
+-- an extent is added, and its row with it
 module _ (p : Pool) (size : 0 < p.settings.size) (start count : ℕ) where
   abbrev x : Extent
   x = record { start = start; count = count }

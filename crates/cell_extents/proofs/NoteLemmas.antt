@@ -18,7 +18,7 @@ among_rows a (r ∷ rs) = go (is_at a r.words) (row_among (a % 256) (a / 256) rs
   go true o e = refl
   go false o e = e
 
--- a cell is noted just where a row stands under its address
+-- a cell is noted exactly if a row is under its address
 pub noted_row : (s : Store) (q : RowTable) → IsTable s q → (a : ℕ) → is_noted a (rows_of (rows s q)) ≡ is_some (row s q (a % 256) (a / 256))
 noted_row s q h a = among_rows a (rows s q) ∙ sym (ap is_some ((rows_ascend s q h).1 (a % 256) (a / 256)))
 
@@ -51,7 +51,7 @@ pub none_or : (b : Bool) (o : Option Row) → is_some (if b then None else o) �
 none_or true o = refl
 none_or false o = refl
 
--- where a row comes under an address
+-- if a row is added under an address
 pub noted_more : (s t : Store) (q r : RowTable) → IsTable s q → IsTable t r → (address : ℕ) (x : Row)
     → ((a b : ℕ) → row t r a b ≡ (if same_key (address % 256) (address / 256) a b then Some x else row s q a b))
     → (a : ℕ) → is_noted a (rows_of (rows t r)) ≡ ((a == address) || is_noted a (rows_of (rows s q)))
@@ -61,7 +61,7 @@ noted_more s t q r h k address x now a =
     ∙ ap (λ (z : Bool). z || is_some (row s q (a % 256) (a / 256))) (same_at address a)
     ∙ ap (λ (z : Bool). (a == address) || z) (sym (noted_row s q h a))
 
--- where the row under an address goes
+-- if the row under an address goes
 pub noted_less : (s t : Store) (q r : RowTable) → IsTable s q → IsTable t r → (address : ℕ)
     → ((a b : ℕ) → row t r a b ≡ (if same_key (address % 256) (address / 256) a b then None else row s q a b))
     → (a : ℕ) → is_noted a (rows_of (rows t r)) ≡ (not (a == address) && is_noted a (rows_of (rows s q)))

@@ -1,4 +1,4 @@
--- Rows that are numbered: one more behind the last, and the last one gone.
+-- Rows that are numbered: another after the last, and the last one gone.
 use Rattle.std.proofs.Common.{◌≡◌, ℕ, zero, suc, ◌+◌, ◌-◌, ◌*◌, ◌/◌, ◌%◌, ◌<◌, ◌≤◌, Bool, true, false, ◌⊎◌, inl, inr, List, [], ◌∷◌, ◌++◌, length, Option, Some, None, refl, sym, ap, ◌∙◌, subst, arith, length-append}
 use Rattle.std.specs.Prelude.{if◌then◌else◌, map, option_map, slice_get}
 use Rattle.std.proofs.lemmas.Bool.Decides.{eqb_tells}
@@ -49,7 +49,7 @@ pub numbered_order : (k : ℕ) (rs : List Row) → AreNumbered k (rows_of rs) �
 numbered_order k [] n = tt
 numbered_order k (r ∷ rs) n = (behind k (k + 1) r rs n.0 (omega arith) n.1, numbered_order (k + 1) rs n.1)
 
--- a row behind the last
+-- a row after the last
 pub numbered_more : (k : ℕ) (rs : List Row) (r : Row) → AreNumbered k (rows_of rs) → is_at (k + length rs) r.words ≡ true → AreNumbered k (rows_of (rs ++ r ∷ []))
 numbered_more k [] r n h = let e : k + 0 ≡ k = omega arith in (ap (λ (z : ℕ). is_at z r.words) (sym e) ∙ h, tt)
 numbered_more k (q ∷ rs) r n h = let e : k + length (q ∷ rs) ≡ (k + 1) + length rs = omega arith in
@@ -62,7 +62,7 @@ numbered_less k (q ∷ rs) r n =
     let m = numbered_less (k + 1) rs r n.1 in
     ((n.0, m.0), ap (λ (z : ℕ). is_at z r.words) (sym e) ∙ m.1)
 
--- no row has a number behind the last one's
+-- no row has a number after the last one's
 pub none_there : (k j : ℕ) (rs : List Row) → AreNumbered k (rows_of rs) → k + length rs ≤ j → row_among (j % 256) (j / 256) rs ≡ None
 none_there k j [] n l = refl
 none_there k j (r ∷ rs) n l = elim (either (is_at j r.words)) [
@@ -70,7 +70,7 @@ none_there k j (r ∷ rs) n l = elim (either (is_at j r.words)) [
   | inr p ↦ ap (λ (z : Bool). if z then Some r else row_among (j % 256) (j / 256) rs) p ∙ none_there (k + 1) j rs n.1 (omega (arith, l))
 ]
 
--- what stands under two numbers in a list with a row more
+-- what is under two numbers in a list with another row
 pub among_more : (a b : ℕ) (rs : List Row) (r : Row) → row_among (low r) (high r) rs ≡ None → row_among a b (rs ++ r ∷ []) ≡ (if is_under a b r.words then Some r else row_among a b rs)
 among_more a b [] r none = refl
 among_more a b (q ∷ rs) r none = elim (either (is_under a b q.words)) [
@@ -96,7 +96,7 @@ among_more a b (q ∷ rs) r none = elim (either (is_under a b q.words)) [
     | inr h ↦ h
   ]
 
--- a row comes behind the last
+-- a row is added after the last
 pub rows_more : (s t : Store) (q q' : RowTable) → IsTable s q → IsTable t q' → AreNumbered 0 (rows_of (rows s q)) → (x : Row) → is_at (length (rows s q)) x.words ≡ true
     → ((a b : ℕ) → row t q' a b ≡ (if is_under a b x.words then Some x else row s q a b)) → rows t q' ≡ rows s q ++ x ∷ []
 rows_more s t q q' h k n x at now =

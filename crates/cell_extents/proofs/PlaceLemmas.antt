@@ -37,7 +37,7 @@ words_if : (b : Bool) (x o : Option Row) → option_map words_of (if b then x el
 words_if true x o = refl
 words_if false x o = refl
 
--- where a row comes under an address, or goes
+-- if a row is added under an address, or goes
 module _ (s t : Store) (q r : RowTable) (h : IsTable s q) (k : IsTable t r) (address : ℕ) (x : Option Row)
     (now : (a b : ℕ) → row t r a b ≡ (if same_key (address % 256) (address / 256) a b then x else row s q a b)) where
   pub placed_now : (a : ℕ) → placed_at a (rows_of (rows t r)) ≡ (if a == address then option_map words_of x else placed_at a (rows_of (rows s q)))
@@ -47,7 +47,7 @@ module _ (s t : Store) (q r : RowTable) (h : IsTable s q) (k : IsTable t r) (add
       ∙ ap (λ (z : Bool). if z then option_map words_of x else option_map words_of (row s q (a % 256) (a / 256))) (same_at address a)
       ∙ ap (λ (z : Option (List ℕ)). if a == address then option_map words_of x else z) (sym (placed_row s q h a))
 
--- no row stands under an address, or one does
+-- no row is under an address, or one is
 pub no_place : (s : Store) (q : RowTable) → IsTable s q → (a : ℕ) → placed_at a (rows_of (rows s q)) ≡ None → row s q (a % 256) (a / 256) ≡ None
 no_place s q h a e = go (row s q (a % 256) (a / 256)) (sym (placed_row s q h a) ∙ e) where
   go : (o : Option Row) → option_map words_of o ≡ None → o ≡ None
@@ -79,7 +79,7 @@ own_address r l =
     let b : address_of r / 256 ≡ high r = omega (arith, l) in
     ap (λ (z : ℕ). same_key (low r) (high r) z (address_of r / 256)) a ∙ ap (same_key (low r) (high r) (low r)) b ∙ same_self (low r) (high r)
 
--- no row behind one stands under its address
+-- no row after one is under its address
 none_behind : (a : ℕ) (r : Row) → is_at a r.words ≡ true → (rs : List Row) → RowsBehind (low r) (high r) rs → placed_at a (rows_of rs) ≡ None
 none_behind a r e [] h = refl
 none_behind a r e (q ∷ rs) h =

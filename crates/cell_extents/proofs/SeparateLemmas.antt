@@ -1,4 +1,4 @@
--- Extents that lie apart: the one that begins at an address, and one more or less.
+-- Extents that lie apart: the one that begins at an address, another one, and one less.
 use Rattle.std.proofs.Common.{◌≡◌, ℕ, ◌+◌, ◌*◌, ◌<◌, ◌≤◌, ◌==◌, ◌&&◌, ◌||◌, ◌⊎◌, Bool, true, false, List, [], ◌∷◌, ◌++◌, Option, Some, None, inl, inr, refl, sym, ap, ◌∙◌, subst, arith}
 use Rattle.std.specs.Prelude.{if◌then◌else◌, nat_lt, nat_le}
 use Rattle.std.specs.List.{list_any}
@@ -97,7 +97,7 @@ module _ (size : ℕ) where
         ]
       ]
 
-  -- an extent that begins elsewhere than all others, behind them
+  -- an extent that begins elsewhere than all others, after them
   pub beginning_more : (xs : List Extent) (x : Extent) → beginning_at x.start xs ≡ None → (a : ℕ) → beginning_at a (xs ++ x ∷ []) ≡ (if a == x.start then Some x else beginning_at a xs)
   beginning_more [] x none a = refl
   beginning_more (y ∷ ys) x none a = elim (either (a == y.start)) [

@@ -34,7 +34,7 @@ texts_of (a ∷ b ∷ c ∷ []) h = absurd (omega arith)
 texts_of (a ∷ b ∷ c ∷ d ∷ []) h = absurd (omega arith)
 texts_of (a ∷ b ∷ c ∷ d ∷ e ∷ cells) h = record { a = a; b = b; c = c; d = d; e = e; cells = cells; are = refl }
 
--- the pool with other cells and extents behind the same texts
+-- the pool with other cells and extents after the same texts
 module _ (x : Entry) (room : 5 ≤ length x.items) (words : List ℕ) (same : words ≡ x.words) (items cells : Items) (are : items ≡ take 5 x.items ++ cells) (used extents places : Items) where
   whole : Texts x.items
   whole = texts_of x.items room
@@ -55,7 +55,7 @@ module _ (x : Entry) (room : 5 ≤ length x.items) (words : List ℕ) (same : wo
   pub room_with : 5 ≤ length items
   room_with = omega (arith, ap length now)
 
--- the free cells, and the extents, as they stand
+-- the free cells, and the extents, as they are
 pub own_cells : (x : Entry) → (pool_of x).cells ≡ map cell_of (drop 5 x.items)
 unfolding pool_of
 own_cells x = refl

@@ -15,7 +15,7 @@ use Rattle.cell_extents.proofs.MeetLemmas.{placed_more, placed_less}
 use Rattle.cell_extents.proofs.ShapeLemmas.{Items, entry_as, pool_with, label_with, room_with, own_cells, own_extents, cells_back, take-more, drop_whole}
 
 module _ (x : Entry) (sound : IsSound x) where
-  -- what stays sound where the texts stay
+  -- what stays sound if the texts stay
   again : (items cells : Items) → items ≡ take 5 x.items ++ cells → (used extents places : Items) → AreNumbered 0 extents
       → (p : Pool) → record (pool_of x) { extents = map extent_of extents; cells = map cell_of cells } ≡ p → HasCells p → AreNoted p used
       → AreSeparate p.settings.size p.extents → ArePlaced p places → IsSound (entry_as x x.words items used extents places)
@@ -57,7 +57,7 @@ module _ (x : Entry) (sound : IsSound x) where
     pub taken_sound : IsSound (entry_as x x.words items used x.extents x.places)
     taken_sound = again items (drop 6 x.items) h used x.extents x.places sound.numbered (without_first (pool_of x)) taken_is (taken_cells (pool_of x) sound.cells cell first) (taken_notes (pool_of x) sound.cells cell first x.used used sound.noted now) sound.separate sound.placed
 
-  -- a cell is put in front
+  -- a cell is put first
   module _ (items used : Items) (cell : ℕ) (h : items ≡ take 5 x.items ++ cell_item cell ∷ drop 5 x.items) (in_use : uses (pool_of x) cell ≡ true)
       (now : (a : ℕ) → is_noted a used ≡ (not (a == cell) && is_noted a x.used)) where
     put_is : record (pool_of x) { extents = map extent_of x.extents; cells = map cell_of (cell_item cell ∷ drop 5 x.items) } ≡ with_first cell (pool_of x)
@@ -71,7 +71,7 @@ module _ (x : Entry) (sound : IsSound x) where
     pub put_sound : IsSound (entry_as x x.words items used x.extents x.places)
     put_sound = again items (cell_item cell ∷ drop 5 x.items) h used x.extents x.places sound.numbered (with_first cell (pool_of x)) put_is (put_cells (pool_of x) sound.cells cell in_use) (put_notes (pool_of x) sound.cells cell in_use x.used used sound.noted now) sound.separate sound.placed
 
-  -- an extent comes
+  -- an extent is added
   module _ (items extents places : Items) (start count : ℕ) (h : items ≡ x.items ++ cell_items (pool_of x).settings.size start count)
       (more : map extent_of extents ≡ map extent_of x.extents ++ record { start = start; count = count } ∷ []) where
     grown_parts : items ≡ take 5 x.items ++ (drop 5 x.items ++ cell_items (pool_of x).settings.size start count)

@@ -71,7 +71,7 @@ last_word front w = unpacked_append front (w ∷ []) ∙ ap (λ (z : List ℕ). 
   nil_end [] = refl
   nil_end (x ∷ xs) = ap (λ (z : List ℕ). x ∷ z) (nil_end xs)
 
--- the bytes of a header that is there
+-- the bytes of a header that exists
 module _ (front form : List ℕ) (h : (word form 1 == 0) ≡ false) (small : IfSome (header_in front form) AreBytes) where
   both : AreBytes (unpacked front ++ bytes_in (word form 2))
   both =

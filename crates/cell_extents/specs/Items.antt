@@ -1,4 +1,4 @@
--- How a cell pool stands in a row and its stock.
+-- How a cell pool is kept in a row and its stock.
 --
 -- A row's words are the subpool's number and its owner. Its list has three items of the name, one of the header and one
 -- of its end with the side, both counts and the cell size, then the free cells. Its tables have the cells in use, under
@@ -57,9 +57,9 @@ pool_of e =
     made_of e.id e.words (label_of e.items) (item e.items 3) (item e.items 4) (map extent_of e.extents)
     (map cell_of (drop 5 e.items))
 
--- The row has an id of one word, its texts, cells of some size, and just the words of its name, which is text; its
--- extents are numbered, lie apart and stand in their places, its free cells are cells of these, and the cells in use
--- are noted.
+-- The row has an id of one word, its texts, cells of some size, and exactly the words of its name, which is text; its
+-- extents are numbered, lie apart and are in their places, its free cells are cells of these, and the cells in use are
+-- noted.
 pub record IsSound (e : Entry) : Type 0 where
   pub small : e.id < 2 ^ 32
   pub room : 5 ≤ length e.items

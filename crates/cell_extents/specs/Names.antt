@@ -1,5 +1,5 @@
--- Names and headers as words of elements: three bytes to a word, each as a digit from 1 to 256, and 0 where none is.
--- So the words tell how long the text is.
+-- Names and headers as words of elements: three bytes to a word, each as a digit from 1 to 256, or 0 for none. So the
+-- words say how long the text is.
 use Rattle.std.specs.Prelude.{ℕ, zero, suc, ◌+◌, ◌*◌, ◌/◌, ◌%◌, ◌<◌, Bool, ◌==◌, ◌&&◌, if◌then◌else◌}
 use Rattle.std.specs.Prelude.{List, [], ◌∷◌, ◌++◌, Option, Some, None, IfSome, IsUtf8, slice_get}
 use Rattle.list_table.specs.Entries.{word}
@@ -16,7 +16,7 @@ abbrev pub word_at : List ℕ → ℕ → ℕ
 word_at bytes i =
     digit (slice_get bytes i) * 66049 + digit (slice_get bytes (i + 1)) * 257 + digit (slice_get bytes (i + 2))
 
--- so many words from this place on
+-- that many words from this place on
 abbrev pub words_from : ℕ → List ℕ → ℕ → List ℕ
 words_from zero bytes i = []
 words_from (suc n) bytes i = word_at bytes i ∷ words_from n bytes (i + 3)
@@ -61,7 +61,7 @@ same_label a b = same_words a.first b.first && same_words a.second b.second && s
 abbrev pub location_in : List ℕ → Residence
 location_in form = if word form 0 == 0 then Below else Above
 
--- The header in seven words and the third one of a form, where the second one says that there is one.
+-- The header in seven words and the third one of a form, if the second one says that there is one.
 abbrev pub header_in : List ℕ → List ℕ → Option (List ℕ)
 header_in front form = if word form 1 == 0 then None else Some (unpacked (front ++ word form 2 ∷ []))
 
@@ -70,7 +70,7 @@ abbrev pub AreBytes : List ℕ → Type 0
 AreBytes [] = Unit {0}
 AreBytes (b ∷ bs) = (b < 256) × AreBytes bs
 
--- The name is a text, and a header has bytes alone.
+-- The name is a text, and a header has only bytes.
 pub record AreTexts (name : List ℕ) (header : Option (List ℕ)) : Type 0 where
   pub text : IsUtf8 name
   pub bytes : AreBytes name

@@ -4,16 +4,16 @@ use Rattle.std.specs.Prelude.{◌≡◌, ℕ, ◌+◌, ◌/◌, ◌%◌, ◌^◌
 use Rattle.row_table.specs.Rows.{is_under}
 use Rattle.cell_extents.specs.Pool.{Pool, uses}
 
--- a row stands under this number, whose low byte is the row's first word
+-- a row is under this number, whose low byte is the row's first word
 abbrev pub is_at : ℕ → List ℕ → Bool
 is_at n ws = is_under (n % 256) (n / 256) ws
 
--- one of the rows stands under this address
+-- one of the rows is under this address
 abbrev pub is_noted : ℕ → List (List ℕ) → Bool
 is_noted address [] = false
 is_noted address (ws ∷ rest) = is_at address ws || is_noted address rest
 
--- just the cells in use are noted
+-- exactly the cells in use are noted
 abbrev pub AreNoted : Pool → List (List ℕ) → Type 0
 AreNoted p used = (address : ℕ) → address < 2 ^ 32 → is_noted address used ≡ uses p address
 

@@ -47,12 +47,12 @@ overlaps_place start len ws = overlaps (word ws 4) start len (record { start = w
 abbrev pub place_bytes : List ℕ → ℕ
 place_bytes ws = word ws 3 * word ws 4
 
--- each of the rows says an extent that begins at this address or behind it
+-- each of the rows says an extent that begins at this address or after it
 abbrev pub BeginFrom : ℕ → List (List ℕ) → Type 0
 BeginFrom end [] = Unit {0}
 BeginFrom end (ws ∷ rest) = (end ≤ word ws 2) × BeginFrom end rest
 
--- the rows say extents with cells, each behind the cells of those before it
+-- the rows say extents with cells, each after the cells of those before it
 abbrev pub AreSpread : List (List ℕ) → Type 0
 AreSpread [] = Unit {0}
 AreSpread (ws ∷ rest) =

@@ -45,7 +45,7 @@ uses p address = among address (cells_of p.settings.size p.extents) && not (amon
 abbrev pub rounded : ℕ → ℕ
 rounded len = 8 * ((len + 7) / 8)
 
--- The area and the extent have an address in common, where the extent goes to the end of its last doubleword.
+-- The area and the extent have an address in common; the extent goes to the end of its last doubleword.
 abbrev pub overlaps : ℕ → ℕ → ℕ → Extent → Bool
 overlaps size start len x = nat_lt start (x.start + rounded (x.count * size)) && nat_lt x.start (start + len)
 
@@ -59,18 +59,18 @@ meets start len p = list_any (overlaps p.settings.size start len) p.extents
 abbrev pub without_first : Pool → Pool
 without_first p = record p { cells = drop 1 p.cells }
 
--- a cell is put in front
+-- a cell is put first
 abbrev pub with_first : ℕ → Pool → Pool
 with_first address p = record p { cells = address ∷ p.cells }
 
--- an extent more, its cells behind the free ones
+-- another extent, its cells after the free ones
 abbrev pub extended : ℕ → ℕ → Pool → Pool
 extended start count p = record p {
   extents = p.extents ++ record { start = start; count = count } ∷ [];
   cells = p.cells ++ cells_from p.settings.size start count;
 }
 
--- the last extent gone, with so many cells from the end of the free ones
+-- the last extent is gone, with that many cells from the end of the free ones
 abbrev pub retracted : ℕ → Pool → Pool
 retracted count p = record p {
   extents = take (length p.extents - 1) p.extents;

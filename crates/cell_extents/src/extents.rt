@@ -22,7 +22,7 @@ pub fn extent_of(row: Row) -> Extent
     }
 }
 
-/// The extent of this number; `None` where there are no more than that.
+/// The extent of this number; `None` if there are no more than that many.
 pub fn extent_at(extents: &RowTable, elements: &Elements, number: u32) -> Option<Extent>
     requires table { IsTable elements.now extents.now }
     requires numbered { AreNumbered 0 (rows_of (rows elements.now extents.now)) }
@@ -34,7 +34,7 @@ pub fn extent_at(extents: &RowTable, elements: &Elements, number: u32) -> Option
     }
 }
 
-// The number behind the last one: how many extents there are.
+// The number after the last one: how many extents there are.
 fn next_number(extents: &RowTable, elements: &Elements) -> u32
     requires table { IsTable elements.now extents.now }
     requires numbered { AreNumbered 0 (rows_of (rows elements.now extents.now)) }
@@ -46,7 +46,7 @@ fn next_number(extents: &RowTable, elements: &Elements) -> u32
     }
 }
 
-/// An extent more, behind all others. It takes one element.
+/// Another extent, after all others. It takes one element.
 pub fn push(extents: &mut RowTable, elements: &mut Elements, extent: Extent)
     requires table { IsTable elements.old extents.old }
     requires numbered { AreNumbered 0 (rows_of (rows elements.old extents.old)) }
@@ -71,7 +71,7 @@ pub fn push(extents: &mut RowTable, elements: &mut Elements, extent: Extent)
     extents.insert(elements, words);
 }
 
-/// Takes the last extent away, if there is one, and tells it. Its element becomes a spare one.
+/// Removes the last extent, if there is one, and returns it. Its element becomes a spare one.
 pub fn pop(extents: &mut RowTable, elements: &mut Elements) -> Extent
     requires table { IsTable elements.old extents.old }
     requires numbered { AreNumbered 0 (rows_of (rows elements.old extents.old)) }

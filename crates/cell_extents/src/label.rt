@@ -22,14 +22,14 @@ pub struct Label {
 /// The words of a header, the last of them in the form, of a side, both counts and a size.
 #[derive(Clone, Copy)]
 pub struct LabelForm {
-    /// The words of the header's bytes 0 to 20, zeros where there is none.
+    /// The words of the header's bytes 0 to 20, zeros if it has none.
     pub header: [u32; 7],
-    /// The side (0 is below the 16 MB line), 1 where there is a header, the word of its bytes 21 to 23, the secondary
+    /// The side (0 is below the 16 MB line), 1 if there is a header, the word of its bytes 21 to 23, the secondary
     /// count, the primary count, the cell size, and a zero.
     pub form: [u32; 7],
 }
 
-// One more than the byte at this place, or 0 behind the last.
+// One more than the byte at this place, or 0 after the last.
 fn digit(bytes: &[u8], i: usize) -> u32
     ensures value { result ≡ digit (slice_get bytes.now i) }
     ensures range { result ≤ 256 }
@@ -100,7 +100,7 @@ pub fn label_of_name(name: &CellPoolName) -> Label
     label_of_text(name.as_str().as_bytes())
 }
 
-/// The words of a side, of the counts, of a cell size, and of a header; without one they say so.
+/// The words of a side, of the counts, of a cell size, and of a header; if it has none they say so.
 pub fn form_of(
     location: Residence,
     primary: u32,

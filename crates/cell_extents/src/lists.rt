@@ -1,4 +1,4 @@
-//! What stands in a pool's list: its texts at the head, then its free cells.
+//! What a pool's list contains: its texts first, then its free cells.
 
 ghost use Rattle.std.specs.Prelude.{◌≡◌, ◌+◌, ◌*◌, ◌≤◌, ◌<◌, ◌^◌, ◌++◌, ◌∷◌};
 ghost use Rattle.vsm_elements.specs.Chain.{links, owned, IsChain};
@@ -11,7 +11,7 @@ use crate::label::{Label, LabelForm, same_words};
 use list_table::items::{before, insert, item};
 use vsm_elements::{Chain, Elements};
 
-/// How many items of text stand at the head of each list: three of the name, one of the header, one of its form.
+/// How many items of text begin each list: three of the name, one of the header, one of its form.
 pub const TEXTS: u32 = 5;
 
 /// The words of the name that a pool's list begins with.
@@ -40,7 +40,7 @@ pub fn has_label(list: Chain, elements: &Elements, name: Label) -> bool
         && same_words(name.third, item(list, elements, 2))
 }
 
-/// Puts a pool's name, its header and their form in front of all items. It takes five elements.
+/// Puts a pool's name, its header and their form before all items. It takes five elements.
 pub fn put_texts(list: &mut Chain, elements: &mut Elements, name: Label, form: LabelForm)
     requires chain { IsChain elements.old list.old }
     requires room { 5 ≤ elements.old.spare }
@@ -66,7 +66,7 @@ pub fn cell_of(words: [u32; 7]) -> u32
     words[0]
 }
 
-/// Puts the cells of an extent behind all items, in ascending order: `count` cells of `size` bytes from `start` on.
+/// Puts the cells of an extent after all items, in ascending order: `count` cells of `size` bytes from `start` on.
 ///
 /// It takes an element for each.
 pub fn append_cells(list: &mut Chain, elements: &mut Elements, size: u32, start: u32, count: u32)

@@ -30,7 +30,7 @@ pub fn place(places: &mut RowTable, elements: &mut Elements, size: u32, extent: 
     places.insert(elements, words);
 }
 
-/// The extent that begins at an address has its row no more. Its element becomes a spare one.
+/// The extent that begins at an address no longer has a row. Its element becomes a spare one.
 pub fn displace(places: &mut RowTable, elements: &mut Elements, start: u32)
     requires table { IsTable elements.old places.old }
     requires there { IsSome (placed_at start (rows_of (rows elements.old places.old))) }
@@ -43,7 +43,7 @@ pub fn displace(places: &mut RowTable, elements: &mut Elements, start: u32)
     places.remove(elements, start % NUMBERS, start / NUMBERS);
 }
 
-// Whether an area of so many bytes and an extent have an address in common.
+// Whether an area of that many bytes and an extent have an address in common.
 fn overlaps(size: u32, start: u32, len: u32, extent: Extent) -> bool
     ensures { result ≡ overlaps size start len extent }
 {
@@ -71,8 +71,8 @@ fn ends_by(start: u32, len: u32, address: u32) -> bool
     u64::from(start) + u64::from(len) <= u64::from(address)
 }
 
-/// Whether an area of `len` bytes overlaps one of the extents, each up to the end of its last doubleword. It's found at
-/// the cost of a look-up.
+/// Whether an area of `len` bytes overlaps one of the extents, each up to the end of its last doubleword. It costs one
+/// look-up.
 pub fn meets(places: &RowTable, elements: &Elements, start: u32, len: u32) -> bool
     requires table { IsTable elements.now places.now }
     requires spread { AreSpread (rows_of (rows elements.now places.now)) }

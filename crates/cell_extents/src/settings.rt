@@ -11,7 +11,7 @@ pub type CellPoolHeader = ArrayVec<u8, 24>;
 /// What names a cell pool to the calls: the id of its row, which it keeps while it is parked.
 pub type CellId = Id;
 
-/// What a cell pool is built with beside its name and its header.
+/// What a cell pool is built with, next to its name and its header.
 #[derive(Clone, Copy)]
 pub struct CellSettings {
     /// The subpool that it lies in.
@@ -22,7 +22,7 @@ pub struct CellSettings {
     pub primary: u32,
     /// How many cells each further extent has.
     pub secondary: u32,
-    /// On which side of the 16 MB line the extents may lie: below it alone, or on either side.
+    /// On which side of the 16 MB line the extents may lie: only below it, or on either side.
     pub location: Residence,
 }
 

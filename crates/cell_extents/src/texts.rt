@@ -65,7 +65,7 @@ pub fn name_of(label: Label) -> CellPoolName
     name
 }
 
-/// The header in seven words and a form; `None` where the form says that there is none.
+/// The header in seven words and a form; `None` if the form says that there is none.
 pub fn header_of(front: [u32; 7], form: [u32; 7]) -> Option<CellPoolHeader>
     requires { IfSome (header_in front form) AreBytes }
     ensures { option_map (λ h. h.items) result ≡ header_in front form }

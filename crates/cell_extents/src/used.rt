@@ -9,8 +9,7 @@ ghost use Rattle.cell_extents.specs.Notes.{is_noted};
 use row_table::RowTable;
 use vsm_elements::Elements;
 
-// How many numbers the first word of a row's key has: a cell stands under its address modulo these, and divided by
-// them.
+// How many numbers the first word of a row's key has: a cell is under its address modulo this, and divided by it.
 pub(crate) const NUMBERS: u32 = 256;
 
 /// Whether the cell at an address is noted.
@@ -39,7 +38,7 @@ pub fn note(used: &mut RowTable, elements: &mut Elements, address: u32)
     used.insert(elements, words);
 }
 
-/// The cell at an address is noted no more. Its element becomes a spare one.
+/// The cell at an address is no longer noted. Its element becomes a spare one.
 pub fn strike(used: &mut RowTable, elements: &mut Elements, address: u32)
     requires table { IsTable elements.old used.old }
     requires there { is_noted address (rows_of (rows elements.old used.old)) ≡ true }

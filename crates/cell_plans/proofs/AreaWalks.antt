@@ -93,7 +93,7 @@ pool_as_areas m p None its = refl
 pool_as_areas m p (Some q) its =
     extents_as_areas m p q.settings.size q.extents ∙ ap (λ (z : Subpool). extents_given_back m z q.settings.size q.extents) its
 
--- whose they are
+-- which subpool they belong to
 whose : (o : Option Pool) (its : PoolSettings) → IfSome o (λ q. its ≡ q.settings) → IfSome o (λ q. its.subpool ≡ q.settings.subpool)
 whose None its h = h
 whose (Some q) its h = ap (λ (z : PoolSettings). z.subpool) h
@@ -115,11 +115,11 @@ areas_count (Some q) = mapped_length q.settings.size q.extents
 pub as_needed : {k l m n : ℕ} → k ≡ l → m ≡ n → k + (4 * m + 1) ≡ l + (4 * n + 1)
 as_needed a b = λ i. a i + (4 * b i + 1)
 
--- the cell pool can still go, while records of the change come
+-- the cell pool can still be deleted, while records of the change are added
 pub still_can : (s t : Parts) (pool : ℕ) → state_of t ≡ state_of s → CanBeDeleted (state_of s) (record { pool = pool }) → CanBeDeleted (state_of t) (record { pool = pool })
 still_can s t pool same can = let P : StorageState → Type 0 = λ m. CanBeDeleted m (record { pool = pool }) in subst P (sym same) can
 
--- all areas of a cell pool, their records, and those of the areas behind the first ones
+-- all areas of a cell pool, their records, and those of the areas after the first ones
 abbrev pub all_areas : ℕ → Parts → List Run
 all_areas pool s = areas_of ((state_of s).subpools.cells pool)
 
@@ -129,7 +129,7 @@ whole_records p pool s = areas_given_back (state_of s).subpools p (all_areas poo
 abbrev pub records_from : Subpool → ℕ → Parts → ℕ → List Record
 records_from p pool s count = areas_given_back (freed (state_of s).subpools p (take count (all_areas pool s))) p (drop count (all_areas pool s))
 
--- one area more has its doublewords too
+-- another area also has its doublewords
 or-swap : (a b c : Bool) → (a || (b || c)) ≡ (b || (a || c))
 or-swap true true c = refl
 or-swap true false c = refl
@@ -139,8 +139,8 @@ contains-more : (xs : List Run) (x : Run) (d : ℕ) → contains d (xs ++ x ∷ 
 contains-more [] x d = refl
 contains-more (y ∷ ys) x d = ap (λ b. inside d y || b) (contains-more ys x d) ∙ or-swap (inside d y) (inside d x) (contains d ys)
 
--- Of the areas, so many were given back, and are noted in a queue. Room is made for so many elements at most as there are
--- records and blank elements.
+-- Of the areas, this many were given back, and are noted in a queue. Room is made for at most as many elements as there
+-- are records and blank elements.
 pub record AreasLead (p : Subpool) (pool : ℕ) (s : Parts) (a : ChangeBuilder) (t : Parts) (b : ChangeBuilder) (count : ℕ) (q : FreeQueue) : Type 0 where
   pub builds : BuildsBeside s a t b q
   pub records : records_in t b ++ records_from p pool s count ≡ records_in s a ++ whole_records p pool s
@@ -245,7 +245,7 @@ module _ (p : Subpool) (pool : ℕ) (s : Parts) (a : ChangeBuilder) where
       pub area_room : length whole + (4 * length all + 1) ≤ s.elements.spare → length added ≤ t.elements.spare
       area_room room = omega (arith, w.spare, room, lengths, w.held, w.within)
 
-      -- its records came
+      -- its records were added
       module _ (u : Parts) (c : ChangeBuilder) (k : Builds t b u c) where
         pub pushed_builds : BuildsBeside s a u c q
         pushed_builds = builds-on s a t b q w.builds u c k
@@ -313,11 +313,11 @@ module _ (s : Parts) (a : ChangeBuilder) (added : List Record) (room : ℕ) (t :
     made = omega (arith, k.made, f.as_many);
   }
 
-  -- so much was made before that, and nothing then
+  -- that much was made before, and nothing then
   pub still_made : (n : ℕ) → MakesElements s.elements t.elements n → MakesElements s.elements e n
   still_made n k = omega (arith, k, f.as_many)
 
--- records before and behind
+-- records before and after
 pub pushed-before : (s t u : Parts) (a b c : ChangeBuilder) (xs ys : List Record) (room : ℕ) → Pushes s a xs t b → PushesBeside t b ys 0 room u c → PushesBeside s a (xs ++ ys) 0 room u c
 pushed-before s t u a b c xs ys room p q = record {
   records = q.records ∙ ap (λ (z : List Record). z ++ ys) p.records ∙ append_assoc (records_in s a) xs ys;

@@ -1,4 +1,4 @@
--- The plan of a cell pool that comes leads to what BUILD leaves, or it's refused for the first cause.
+-- The plan of a new cell pool leads to what BUILD leaves, or it's refused for the first cause.
 use Rattle.std.proofs.Common.{◌≡◌, ℕ, ◌+◌, ◌*◌, ◌<◌, ◌≤◌, ◌^◌, Bool, true, false, not, ◌&&◌, nat_le, is_some, Option, Some, None, List, [], ◌∷◌, ◌++◌, length, refl, sym, ap, ◌∙◌, subst, arith}
 use Rattle.std.specs.Prelude.{unwrap_or, option_map, Ok}
 use Rattle.std.proofs.Math.Logic.{∥∥₁_map}
@@ -94,7 +94,7 @@ module _ (settings : Settings) (s : State) (name : List ℕ) (header : Option (L
   pub refused : (names_full : Bool) (cause : Cause) → first_cause (build_causes settings s name header b) ≡ Some cause → step settings names_full s (build name header b) ≡ outcome.Refused cause
   refused names_full cause e = ap (answered settings s (build name header b)) e
 
-  -- where the first extent goes
+  -- where the first extent is placed
   pub goes_is : (sd : Residence) (p : Subpool) (n : ℕ) → sd ≡ side settings b.location → p ≡ seen_or_own s b.number → n ≡ doublewords (b.primary * b.size) →
       place s (regions_for settings sd) p n 1 ≡ goes
   goes_is sd p n is_side is_subpool is_count = λ i. place s (regions_for settings (is_side i)) (is_subpool i) (is_count i) 1
@@ -135,7 +135,7 @@ module _ (settings : Settings) (names_full : Bool) (m : StorageState) (name : Li
   some : 0 < count
   some = (first_few b can.cells).1
 
-  -- With a place for the first extent, and a subpool that is there or is made first.
+  -- With a place for the first extent, and a subpool that exists or is made first.
   module _ (x : AreaPlace) (is_new : Bool) (at : place_of (Some x) ≡ extent_place settings t asked b.primary) (new : is_new ≡ not (sees_one t b.number)) where
     abbrev stands : Place
     stands = place_of (Some x)

@@ -1,4 +1,4 @@
--- A change of records that leads to the outcome of a service on a cell is what its plan comes to.
+-- A change of records that leads to the outcome of a service on a cell is what its plan leads to.
 use Rattle.std.proofs.Common.{◌≡◌, ℕ, ◌+◌, ◌≤◌, ◌^◌, Bool, true, Option, None, IfSome, List, sym, ap, ◌∙◌, subst}
 use Rattle.run_set.specs.Runs.{Run, inside}
 use Rattle.vsm_model.specs.declared.Subpool.{Subpool}

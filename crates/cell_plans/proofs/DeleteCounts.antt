@@ -1,4 +1,4 @@
--- How many records and blank elements the change of a cell pool that goes has.
+-- How many records and blank elements the change that deletes a cell pool has.
 use Rattle.std.proofs.Common.{◌≡◌, ℕ, zero, suc, ◌+◌, ◌-◌, ◌*◌, ◌/◌, ◌<◌, ◌≤◌, min, Bool, true, false, Option, Some, None, List, [], ◌∷◌, ◌++◌, length, arith}
 use Rattle.std.proofs.lemmas.List.{length-append}
 use Rattle.vsm_model.specs.declared.Subpool.{Subpool}
@@ -18,7 +18,7 @@ area-count : (p : Subpool) (start count : ℕ) (free : Bool) → length (area_re
 area-count p start zero free = omega arith
 area-count p start (suc n) free = omega arith
 
--- an area with the pages that it empties is four: on either side of the pages one, and two for the pages
+-- an area with the pages that it empties is four: one on either side of the pages, and two for the pages
 given-back-short : (p : Subpool) (d count page n : ℕ) → length (give_back_records p d count page n) ≤ 4
 given-back-short p d count page zero = omega (arith, area-count p d count true)
 given-back-short p d count page (suc n) =
@@ -42,7 +42,7 @@ given-back-short p d count page (suc n) =
 four-more : (rs ss : List Record) (n : ℕ) → length rs ≤ 4 → length ss ≤ 4 * n → length (rs ++ ss) ≤ 4 * suc n
 four-more rs ss n short rest = omega (arith, length-append rs ss, short, rest)
 
--- so extents are four each
+-- so each extent is four
 pub extents-short : (m : Subpools) (p : Subpool) (size : ℕ) (xs : List Extent) → length (extents_given_back m p size xs) ≤ 4 * length xs
 extents-short m p size [] = omega arith
 extents-short m p size (x ∷ xs) =

@@ -41,7 +41,7 @@ use Rattle.cell_plans.specs.CellPlans.{cells_weight, pool_and_extents, deleting_
 use Rattle.cell_plans.specs.Seen.{IsSeen}
 use Rattle.cell_plans.proofs.GivenAreas.{EndsLow}
 
--- what is there
+-- what exists
 pub found_pool : (o : Option Pool) → IsSome o → (p : Pool) × (o ≡ Some p)
 found_pool (Some p) there = (p, refl)
 found_pool None there = cc
@@ -139,7 +139,7 @@ module _ (m u : StorageState) (same : u ≡ m) (id : ℕ) (p : Pool) (there : m.
   all_counted v kept current now =
       omega (arith, ap length (sym (records_are v kept current now)), length-append ((row id ∷ []) ++ back_in u) (last v current), length-append (row id ∷ []) (back_in u))
 
--- a change of a cell pool that goes has no frame and has parked nothing
+-- a change that deletes a cell pool has no frame and has parked nothing
 pub delete_is : (m : StorageState) (o : Option Pool) → record (change_of (deleting_change m o).records (deleting_change m o).blanks no_pages) { parked = no_subpools } ≡ deleting_change m o
 delete_is m None = refl
 delete_is m (Some p) = refl

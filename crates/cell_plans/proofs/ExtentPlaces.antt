@@ -109,7 +109,7 @@ module _ (settings : Settings) (m : StorageState) (p : Subpool) (side : Residenc
   end_at (areas.Inside d) goes = let end = inside_ends d goes in omega (arith, end)
   end_at (areas.Fresh page) goes = let end = fresh_ends page goes in omega (arith, end)
 
-  -- What an area that has a place has there.
+  -- What an area that has a place has at it.
   module _ (x : AreaPlace) (e : place_of (Some x) ≡ place s (regions_for settings side) p count 1) where
     pub has_room : IsSound settings m → HasRoom m p count (place_of (Some x))
     has_room sound = room_at sound x (goes_at (place_of (Some x)) e)

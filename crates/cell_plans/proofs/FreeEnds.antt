@@ -1,4 +1,4 @@
--- Where free doublewords end that begin with one.
+-- The end of free doublewords that begin with one.
 use Rattle.std.proofs.Common.{◌≡◌, ℕ, zero, suc, ◌+◌, ◌<◌, ◌≤◌, Bool, true, false, ◌||◌, List, [], ◌∷◌, drop, Some, None, refl, sym, ap, ◌∙◌, arith, inl, inr}
 use Rattle.std.specs.Prelude.{slice_get, nat_le, nat_lt}
 use Rattle.std.proofs.lemmas.Bool.{and_parts, and_from, leb-true, ltb-true, le-leb, lt-ltb, cases_lt}
@@ -9,7 +9,7 @@ use Rattle.vsm_model.proofs.Least.{all_pass_from, all_pass_none}
 use Rattle.run_set.specs.Runs.{Run, inside, IsEndFrom}
 use Rattle.cell_plans.specs.Emptied.{IsFreeUpTo}
 
--- what is behind an index
+-- what begins at an index
 pub behind : {A : Type 0} (xs : List A) (i : ℕ) (x : A) → slice_get xs i ≡ Some x → drop i xs ≡ x ∷ drop (suc i) xs
 behind xs i x at = drop-cons xs i x (slice_get_within xs i x at) ∙ ap (λ y. y ∷ drop (suc i) xs) (get_or_from_slice_get xs i x x at)
 
@@ -33,7 +33,7 @@ pub or_there : (a b : Bool) → b ≡ true → (a || b) ≡ true
 or_there true b e = refl
 or_there false b e = e
 
--- the end of a set's doublewords, where the set is that of the free ones
+-- the end of a set's doublewords, if the set is that of the free ones
 pub up_to_end : (set free : ℕ → Bool) (first end : ℕ) → ((d : ℕ) → set d ≡ free d) → IsEndFrom set first end → IsFreeUpTo free first end
 up_to_end set free first end is its = record {
   from = its.from;
@@ -41,7 +41,7 @@ up_to_end set free first end is its = record {
   none = λ e. sym (is first) ∙ ap set (sym e) ∙ its.past;
 }
 
--- the two sets of which the second is behind the first
+-- two sets, the second after the first
 module _ (one two both : ℕ → Bool) (is : (d : ℕ) → both d ≡ (one d || two d)) (d : ℕ) where
   pub ends_in_one : (end : ℕ) → IsFreeUpTo one d end → d < end → IsFreeUpTo both d end
   ends_in_one end its more = record {

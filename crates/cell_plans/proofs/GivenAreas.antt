@@ -22,7 +22,7 @@ use Rattle.cell_plans.specs.Areas.{areas_of}
 use Rattle.cell_plans.specs.Emptied.{area_of, freed}
 use Rattle.cell_plans.proofs.FreeEnds.{inside_from, in_inside, or_here, or_there}
 
--- a doubleword is free where it was, or where an area has it
+-- a doubleword is free if it was, or if an area has it
 freed_or : (same own later was : Bool) → same ≡ true → (later || (if same && own then true else was)) ≡ ((own || later) || was)
 freed_or true true true was e = refl
 freed_or true true false was e = refl
@@ -36,7 +36,7 @@ freed_at m p (area ∷ areas) d =
     freed_at (with_free m p area true) p areas d
     ∙ freed_or (same_subpool p p) (inside d area) (contains d areas) (m.free p d) (same-self p)
 
--- one area more
+-- another area
 pub freed_more : (m : Subpools) (p : Subpool) (areas : List Run) (area : Run) → freed m p (areas ++ area ∷ []) ≡ with_free (freed m p areas) p area true
 freed_more m p [] area = refl
 freed_more m p (one ∷ areas) area = freed_more (with_free m p one true) p areas area
@@ -45,7 +45,7 @@ pub all_and : (P : Run → Type 0) (areas : List Run) (area : Run) → All P are
 all_and P [] area h its = All-cons P area [] its (All-nil P)
 all_and P (one ∷ areas) area h its = All-cons P one (areas ++ area ∷ []) (All-head P one areas h) (all_and P areas area (All-tail P one areas h) its)
 
--- two areas, where the second begins at the end of the first, have the doublewords of one
+-- two areas, of which the second begins at the end of the first, have the doublewords of one
 abbrev pub joined : Run → Run → Run
 joined a b = run_of a.start (a.len + b.len)
 
@@ -75,7 +75,7 @@ freed_joined u p a b e =
           ∙ free_in_both (same_subpool q p) (inside d a) (inside d b) (u.free q d)) i;
     }
 
--- one area more, which may be joined to the last one
+-- another area, which may be joined to the last one
 module _ (m : Subpools) (p : Subpool) (old front now : List Run) (last area : Run) (was : old ≡ front ++ last ∷ []) where
   pub freed_as_one : last.start + last.len ≡ area.start → now ≡ front ++ joined last area ∷ [] → freed m p now ≡ with_free (freed m p old) p area true
   freed_as_one e is =
@@ -98,7 +98,7 @@ all_at P [] k x h e = absurd (no e) where
 all_at P (y ∷ ys) zero x h e = let same : y ≡ x = cc in subst P same (All-head P y ys h)
 all_at P (y ∷ ys) (suc k) x h e = all_at P ys k x (All-tail P y ys h) e
 
--- the extent of a number, by what the cell pool has, if it's there
+-- the extent of a number, by what the cell pool has, if it exists
 module _ (o : Option Pool) (there : IsSome o) (settings : PoolSettings) (are : IfSome o (λ p. settings ≡ p.settings)) (x : Option Extent) (k : ℕ) (is : IfSome o (λ p. x ≡ slice_get p.extents k)) where
   pub area_there : slice_get (areas_of o) k ≡ option_map (area_of settings.size) x
   area_there = go o there are is where
@@ -112,7 +112,7 @@ module _ (o : Option Pool) (there : IsSome o) (settings : PoolSettings) (are : I
     go None h a i l = cc
     go (Some p) h a i l = let P : PoolSettings → Type 0 = λ z. EndsLow z.size y in subst P (sym a) (all_at (EndsLow p.settings.size) p.extents k y l (sym i ∙ e))
 
--- The records of the next extent go over, and those of the others are left.
+-- The records of the next extent move over, and those of the others are left.
 module _ (m : Subpools) (p : Subpool) (size : ℕ) (given : List Run) (x : Extent) (rest left : List Extent) (is : left ≡ x ∷ rest) where
   abbrev area : Run
   area = area_of size x
@@ -134,7 +134,7 @@ module _ (m : Subpools) (p : Subpool) (size : ℕ) (given : List Run) (x : Exten
       ∙ ap (λ xs. records ++ extents_given_back (freed m p given) p size xs) (sym is)
       ∙ e
 
--- and where no extent is left, all records are there
+-- and if no extent is left, no record is missing
 pub records_are_over : (m : Subpools) (p : Subpool) (size : ℕ) (left : List Extent) (records whole : List Record) → left ≡ [] → records ++ extents_given_back m p size left ≡ whole → records ≡ whole
 records_are_over m p size left records whole none e =
     sym (append-nil records) ∙ ap (λ xs. records ++ extents_given_back m p size xs) (sym none) ∙ e

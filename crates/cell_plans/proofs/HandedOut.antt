@@ -220,7 +220,7 @@ module _ (settings : Settings) (names_full : Bool) (m : StorageState) (name : Li
             assigns settings names_full m x plan records 0 (run_of 0 0) is_emptied with_id is_blanks is_fresh (none_assigned _),
           )
 
-    -- None is free, and the conditional form is answered 4.
+    -- None is free, and the conditional form returns 4.
     pub four_planned : ∥ IsSound settings m ∥₁ → names_full ≡ false → p.cells ≡ [] → g.conditional ≡ true → (plan : StoragePlan) → plan.emptied ≡ None
         → plan.records.items ≡ register_records m ((15, 4) ∷ []) → plan.blanks ≡ 0 → plan.fresh ≡ run_of 0 0 → plan.reply ≡ Returned 4 → IsCellPlanned settings names_full m x (Ok plan)
     four_planned sound fits empty conditional plan is_emptied is_records is_blanks is_fresh is_reply = (

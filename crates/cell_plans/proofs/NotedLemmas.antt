@@ -1,4 +1,4 @@
--- A queue of noted areas, beside the change that is being made.
+-- A queue of noted areas, next to the change that is being made.
 use Rattle.std.proofs.Common.{◌≡◌, ℕ, ◌+◌, ◌*◌, ◌-◌, ◌<◌, ◌≤◌, List, [], length, map, IsSome, inl, inr, refl, sym, ap, ◌∙◌, arith}
 use Rattle.vsm_elements.specs.Store.{Store, at, made, live_count, AreLive, SameElements}
 use Rattle.vsm_elements.specs.Chain.{Link, last_or, links, ids, IsChain, owned as links_own}
@@ -32,7 +32,7 @@ owned-live s mine own counted =
 live-step : (blocks e t had has : ℕ) → t + has ≡ e + had → had ≤ blocks - e → (blocks - t) + had ≤ (blocks - e) + has
 live-step blocks e t had has same within = omega (arith, same, within)
 
--- a queue of so many elements has so many, while nothing is made
+-- a queue of `had` elements then has `has`, while nothing is made
 module _ (e t : Store) (had has : List ℕ) (f : Leaves e t had has) (within : length had ≤ live_count e) where
   pub leaves-live : live_count t + length had ≤ live_count e + length has
   leaves-live = omega (arith, live-step (made e) e.spare t.spare (length had) (length has) f.spare within, f.as_many)
@@ -120,7 +120,7 @@ module _ (t : Parts) (b : ChangeBuilder) (q : FreeQueue) (h : StandBeside t b q)
         (λ i. omega arith) (λ i. omega (arith, ap (times i) stays.3));
   }
 
--- The queue becomes another, or goes, and the change that is made stays.
+-- The queue becomes another, or is dropped, and the change that is made stays.
 module _ (t : Parts) (b : ChangeBuilder) (q : FreeQueue) (h : StandBeside t b q) (e : Store) (g : ℕ → ℕ) (m : Moves t.elements e (λ i. times i (owned t.elements q)) g) where
   abbrev had : ℕ → ℕ
   had i = times i (owned t.elements q)
@@ -196,7 +196,7 @@ module _ (t : Parts) (b : ChangeBuilder) (q : FreeQueue) (h : StandBeside t b q)
   noted-once : ((i : ℕ) → g i ≤ 1) → (i : ℕ) → hold (over t e) i + (builder_holds (over t e) b i + g i) ≤ 1
   noted-once own i = omega (arith, rest-once own i, same-holds i, same-builder i)
 
--- The queue became another one, which stands.
+-- The queue became another one, which is well formed.
 module _ (s : Parts) (a : ChangeBuilder) (t : Parts) (b : ChangeBuilder) (q : FreeQueue) (w : BuildsBeside s a t b q) (e : Store) (r : FreeQueue) (stand : IsFreeQueue e r)
     (m : Moves t.elements e (λ i. times i (owned t.elements q)) (λ i. times i (owned e r))) where
   own : (i : ℕ) → times i (owned e r) ≤ 1
@@ -221,7 +221,7 @@ module _ (s : Parts) (a : ChangeBuilder) (t : Parts) (b : ChangeBuilder) (q : Fr
         (λ i. refl) (λ i. omega arith);
   }
 
--- The change went on beside the queue.
+-- The change went on next to the queue.
 pub builds-on : (s : Parts) (a : ChangeBuilder) (t : Parts) (b : ChangeBuilder) (q : FreeQueue) → BuildsBeside s a t b q → (u : Parts) (c : ChangeBuilder) → Builds t b u c → BuildsBeside s a u c q
 builds-on s a t b q w u c k = record {
   beside = stays-beside t b q w.beside u c k;

@@ -11,7 +11,7 @@ use Rattle.storage_changes.specs.StorageActions.{run_of}
 use Rattle.cell_plans.proofs.FreeEnds.{inside_from, in_inside, or_here}
 use Rattle.cell_plans.proofs.GivenAreas.{inside_joined}
 
--- where nothing was done
+-- if nothing was done
 pub leaves-none : (s : Store) (ids : List ℕ) → Leaves s s ids ids
 leaves-none s ids = record {
   others = λ i h k. refl;
@@ -57,7 +57,7 @@ module _ (s t u : Store) (q r v : FreeQueue) (start x : ℕ) (from : start ≤ x
       ∙ ap (λ b. b || is_free s q d) (sym (inside_joined (run_of start (x - start)) (run_of x 1) d (omega (arith, from))))
       ∙ ap (λ (n : ℕ). inside d (run_of start n) || is_free s q d) (sym next)
 
-  -- no element more than the first one took
+  -- no element except the one that the first took
   pub still-spare :
       s.spare ≤ t.spare + 1 → (x ≡ start → t.spare ≡ s.spare) → t.spare ≤ u.spare + 1
       → ((before : ℕ) → before + 1 ≡ x → is_free t r before ≡ true → t.spare ≤ u.spare) → s.spare ≤ u.spare + 1

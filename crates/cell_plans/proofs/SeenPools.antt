@@ -15,7 +15,7 @@ use Rattle.storage_changes.specs.Meaning.{model_of, IsSound}
 use Rattle.storage_changes.specs.State.{StorageState}
 use Rattle.cell_plans.specs.Seen.{IsSeen}
 
--- what holds of a value that is there
+-- what holds of a value that exists
 pub fact_of : (P : Pool → Type 0) (o : Option Pool) (p : Pool) → o ≡ Some p → IfSome o P → P p
 fact_of P o p e h = let Q : Option Pool → Type 0 = λ o. IfSome o P in subst Q e h
 

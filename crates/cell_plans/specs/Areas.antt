@@ -6,7 +6,7 @@ use Rattle.storage_changes.specs.State.{StorageState}
 use Rattle.cell_plans.specs.declared.areas.FirstExtents.{FirstExtents}
 use Rattle.cell_plans.specs.Emptied.{area_of}
 
--- those of a cell pool, if it's there, the first one first
+-- those of a cell pool, if it exists, the first one first
 abbrev pub areas_of : Option Pool → List Run
 areas_of None = []
 areas_of (Some p) = map (area_of p.settings.size) p.extents

@@ -24,7 +24,7 @@ area_given_back m p area =
     let pages = emptied_pages m p area.start area.len in
     give_back_records p area.start area.len pages.start pages.len
 
--- From a doubleword up to another each is free, which is the first one itself where that isn't free.
+-- Each doubleword from one up to another is free; the other is the first one itself if that isn't free.
 pub record IsFreeUpTo (free : ℕ → Bool) (first end : ℕ) : Type 0 where
   pub from : first ≤ end
   pub each : (d : ℕ) → first ≤ d → d < end → free d ≡ true

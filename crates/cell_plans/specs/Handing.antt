@@ -20,7 +20,7 @@ cell_registers named cell = (15, 0) ∷ (1, cell) ∷ named_register named cell
 abbrev pub cell_records : StorageState → ℕ → ℕ → Option ℕ → List Record
 cell_records m id cell named = handed_out_records id cell ++ register_records m (cell_registers named cell)
 
--- behind a further extent at its place, whose first cell it is.
+-- after a further extent at its place, whose first cell it is.
 abbrev pub further_records : StorageState → ℕ → CellSettings → AreaPlace → Option ℕ → List Record
 further_records m id cells place named =
     place_records cells.subpool (doublewords (cells.secondary * cells.size)) place

@@ -1,4 +1,4 @@
-//! The areas of a cell pool's extents, in doublewords, one behind the other.
+//! The areas of a cell pool's extents, in doublewords, one after the other.
 ghost use Rattle.std.specs.Prelude.{◌≡◌, ◌+◌, ◌^◌, ◌<◌, ◌≤◌, slice_get, IfSome};
 ghost use Rattle.storage_swap.specs.Storage.{state_of, Stand};
 ghost use Rattle.cell_plans.specs.Areas.{areas_of};
@@ -10,7 +10,7 @@ use free_queue::FreeQueue;
 use run_set::Run;
 use storage_swap::Parts;
 
-/// The first extents of a cell pool, so many of them, and a queue of their doublewords.
+/// The first `count` extents of a cell pool, and a queue of their doublewords.
 #[derive(Clone, Copy)]
 pub(crate) struct FirstExtents {
     pub(crate) pool: CellId,
@@ -18,8 +18,8 @@ pub(crate) struct FirstExtents {
     pub(crate) areas: FreeQueue,
 }
 
-/// The area of the extent of this number; `None` where the cell pool has no more extents than that. It's found at the
-/// cost of a look-up.
+/// The area of the extent of this number; `None` if the cell pool has no more extents than that. It's found at the cost
+/// of a look-up.
 pub(crate) fn area_at(storage: &Parts, pool: CellId, number: u32) -> Option<Run>
     requires stands { Stand storage.now }
     requires can { CanBeDeleted (state_of storage.now) (record { pool = pool }) }

@@ -35,7 +35,7 @@ use subpool_storage::laws::cell_pools_are_named;
 use vsm_model::geometry::{MOST_CELL_BYTES, MOST_CELL_POOLS, MOST_CELLS};
 use vsm_model::{Build, Cause, Reply, Settings, Subpool};
 
-/// A cell pool that comes, with its first extent. Nothing is changed yet.
+/// A cell pool to be created, with its first extent. Nothing is changed yet.
 #[derive(Drop)]
 pub struct BuildPlan {
     pub name: CellPoolName,
@@ -44,11 +44,11 @@ pub struct BuildPlan {
     pub settings: CellSettings,
     /// The address of its first cell.
     pub start: u32,
-    /// The records of its change behind the one by which it comes, in the order in which they are exchanged.
+    /// The records of its change after the one that creates it, in the order in which they are exchanged.
     pub records: PlanRecords,
     /// How many blank elements the change needs, at most 5.
     pub blanks: u32,
-    /// The pages of 4,096 bytes that come to be assigned; an empty run where there is none.
+    /// The pages of 4,096 bytes that become assigned; an empty run if there is none.
     pub fresh: Run,
     pub reply: Reply,
 }
@@ -64,7 +64,7 @@ fn header_of(text: Option<&str>) -> Option<CellPoolHeader>
     Some(header)
 }
 
-// Whether cells can have this size in bytes, and an extent so many of them.
+// Whether cells can have this size in bytes, and an extent this many of them.
 fn are_cells(size: u32, count: u32) -> bool
     ensures { result ≡ are_cells size count }
 {
@@ -78,7 +78,7 @@ fn has_cells(b: Build) -> bool
     are_cells(b.size, b.primary) && are_cells(b.size, b.secondary.unwrap_or(b.primary))
 }
 
-// Whether there is a cell pool of the name.
+// Whether a cell pool of the name exists.
 fn is_built(storage: &Parts, name: &CellPoolName) -> bool
     requires { Stand storage.now }
     ensures there { result ≡ is_some (cell_pool_in (model_of (state_of storage.now)).cell_pools name.now.bytes) }
@@ -92,7 +92,7 @@ fn is_built(storage: &Parts, name: &CellPoolName) -> bool
     pools.find(&storage.elements, name).is_some()
 }
 
-// How many cell pools there are.
+// How many cell pools exist.
 fn pool_count(storage: &Parts) -> u32
     requires { Stand storage.now }
     ensures { result ≡ length (model_of (state_of storage.now)).cell_pools }
@@ -104,8 +104,8 @@ fn pool_count(storage: &Parts) -> u32
     pools.count(&storage.elements)
 }
 
-// The number of the subpool of a cell pool that can come under the name, or the first cause that refuses it but for
-// want of storage.
+// The number of the subpool of a cell pool that can be created under the name, or the first cause except `NoStorage`
+// that refuses it.
 fn check_build(storage: &Parts, name: &CellPoolName, b: Build) -> Result<u8, Cause>
     requires { Stand storage.now }
     ensures number { IfOk result (λ number. number ≡ b.number) }
@@ -126,7 +126,7 @@ fn check_build(storage: &Parts, name: &CellPoolName, b: Build) -> Result<u8, Cau
     Ok(number)
 }
 
-// The plan by which the cell pool comes, with its first extent at its place.
+// The plan that creates the cell pool, with its first extent at its place.
 fn plan_pool(
     storage: &Parts,
     name: CellPoolName,
@@ -175,12 +175,12 @@ fn plan_pool(
 
 /// A plan for a new cell pool (*Assembler Services Reference*, CPOOL BUILD): with one extent of the primary number of
 /// cells, all of them free, in the subpool that the current task sees at the number, or in a new one of its own.
-/// Register 15 gets 0. Reads alone, and takes no memory.
+/// Register 15 gets 0. Only reads, and takes no memory.
 ///
-/// The causes that refuse it, in order: a number above 127 (`UnsupportedSubpool` for 131 and 132, else
+/// The causes that refuse it, in order: a number above 127 (`UnsupportedSubpool` for 131 and 132, otherwise
 /// `SubpoolNotAllowed`), `BadCells` for a size that isn't a multiple of 4 from 4 to 4,096 bytes or a number of cells
-/// that isn't one from 1 to 4,096, `CellPoolExists`, `TooManyCellPools` where there are 256, and `NoStorage` where its
-/// first extent has no place.
+/// that isn't one from 1 to 4,096, `CellPoolExists`, `TooManyCellPools` if there are 256, and `NoStorage` if its first
+/// extent has no place.
 #[inline(never)]
 pub fn plan_build(
     storage: &Parts,

@@ -23,17 +23,17 @@ use storage_swap::{Change, ChangeBuilder, Parts};
 use subpool_storage::laws::cell_pools_are_named;
 use vsm_model::Cause;
 
-/// A cell pool that goes, with its extents. Nothing is changed yet.
+/// A cell pool to be deleted, with its extents. Nothing is changed yet.
 #[derive(Clone, Copy)]
 pub struct DeletePlan {
     pub pool: CellId,
 }
 
-/// A plan for the end of a cell pool (*Assembler Services Reference*, CPOOL DELETE): each of its extents is given back,
-/// cells in use among them, and the pages that are left without a taken doubleword leave the subpool. Register 15 gets
-/// 0. Reads alone, and takes no memory.
+/// A plan for the deletion of a cell pool (*Assembler Services Reference*, CPOOL DELETE): each of its extents is given
+/// back, including cells in use, and the pages that are left without a taken doubleword leave the subpool. Register 15
+/// gets 0. Only reads, and takes no memory.
 ///
-/// The cause that refuses it: `NoCellPool` where there is no cell pool of the name or the current task doesn't see its
+/// The cause that refuses it: `NoCellPool` if no cell pool of the name exists or the current task doesn't see its
 /// subpool.
 #[inline(never)]
 pub fn plan_delete(storage: &Parts, name: &str) -> Result<DeletePlan, Cause>
@@ -56,9 +56,9 @@ impl DeletePlan {
     /// pages that it empties once those before it are given back; one for register 15 if it isn't 0; and four blank
     /// elements for each extent, and one more. The state of the storage stays as it is.
     ///
-    /// `AllocError` where memory is refused: what was made before that stays, as spare elements. No more spare elements
-    /// are used than it has records and blank elements; where so many are spare, it takes no memory. At most a block of
-    /// elements is made beyond these, whatever the answer, and no frame.
+    /// `AllocError` if memory is refused: what was made before that stays, as spare elements. At most as many spare
+    /// elements are used as it has records and blank elements; if that many are spare, it takes no memory. At most a
+    /// block of elements is made beyond these, whatever the result, and no frame.
     pub fn reserve(self, storage: &mut Parts) -> Result<Change, AllocError>
         requires stands { Stand storage.old }
         requires once { (i : ℕ) → hold storage.old i ≤ 1 }
@@ -88,7 +88,7 @@ impl DeletePlan {
         }
     }
 
-    // The records of the change, in their order. Answers how many blank elements it has.
+    // The records of the change, in their order. Returns how many blank elements it has.
     fn push_records(self, storage: &mut Parts, builder: &mut ChangeBuilder) -> Count
         requires building { IsBuilding storage.old builder.old }
         requires can { CanBeDeleted (state_of storage.old) self }

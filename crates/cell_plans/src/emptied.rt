@@ -14,7 +14,7 @@ use storage_swap::Parts;
 use vsm_model::Subpool;
 use vsm_model::geometry::PAGE_DOUBLEWORDS;
 
-// The end of the free area of the subpool that has the doubleword, or the doubleword itself where it isn't free.
+// The end of the free area of the subpool that has the doubleword, or the doubleword itself if it isn't free.
 fn free_end(storage: &Parts, subpool: Subpool, doubleword: u32) -> u32
     requires { Stand storage.now }
     ensures { IsFreeUpTo ((state_of storage.now).subpools.free subpool) doubleword result }
@@ -24,7 +24,7 @@ fn free_end(storage: &Parts, subpool: Subpool, doubleword: u32) -> u32
 }
 
 // The end of free doublewords of the subpool, with the extents that were given back, that begin with this one; the
-// doubleword itself where it isn't free.
+// doubleword itself if it isn't free.
 fn end_of_free(storage: &Parts, subpool: Subpool, given: FirstExtents, doubleword: u32) -> u32
     requires stands { Stand storage.now }
     requires noted { AreNoted storage.now given }
@@ -77,8 +77,8 @@ fn pages_of(area: Run) -> Run
     }
 }
 
-/// The pages that the area, in doublewords, empties when it's given back to the subpool, once these extents are.
-/// Reads alone.
+/// The pages that the area, in doublewords, empties when it's given back to the subpool, once these extents are. Only
+/// reads.
 pub(crate) fn emptied(storage: &Parts, subpool: Subpool, given: FirstExtents, area: Run) -> Run
     requires stands { Stand storage.now }
     requires noted { AreNoted storage.now given }

@@ -21,7 +21,7 @@ use storage_swap::Parts;
 use subpool_storage::laws::cell_pools_are_named;
 use vsm_model::{Cause, Reply};
 
-// The plan by which a cell in use is the first free one.
+// The plan that makes a cell in use the first free one.
 fn plan_given_back(storage: &Parts, pool: CellId, cell: u32) -> StoragePlan
     requires { Stand storage.now }
     ensures emptied { result.emptied ≡ None }
@@ -48,10 +48,10 @@ fn plan_given_back(storage: &Parts, pool: CellId, cell: u32) -> StoragePlan
 }
 
 /// A plan for a cell that is given back to its cell pool, by the address of its first byte (*Assembler Services
-/// Reference*, CPOOL FREE): it's the next that is handed out. Register 15 gets 0. Reads alone, and takes no memory.
+/// Reference*, CPOOL FREE): it's the next that is handed out. Register 15 gets 0. Only reads, and takes no memory.
 ///
-/// The causes that refuse it, in order: `NoCellPool` where there is no cell pool of the name or the current task
-/// doesn't see its subpool, and `NotInUse` where the address isn't that of a cell that was handed out.
+/// The causes that refuse it, in order: `NoCellPool` if no cell pool of the name exists or the current task doesn't see
+/// its subpool, and `NotInUse` if the address isn't that of a cell that was handed out.
 #[inline(never)]
 pub fn plan_free(storage: &Parts, name: &str, cell: u32) -> PlannedStorage
     requires stands { Stand storage.now }

@@ -51,7 +51,7 @@ fn push_handed_out(
     }
 }
 
-// The plan by which the first free cell is handed out.
+// The plan that hands out the first free cell.
 fn plan_cell(storage: &Parts, pool: CellId, cell: u32, register: Option<u8>) -> StoragePlan
     requires { Stand storage.now }
     ensures emptied { result.emptied ≡ None }
@@ -71,7 +71,7 @@ fn plan_cell(storage: &Parts, pool: CellId, cell: u32, register: Option<u8>) -> 
     }
 }
 
-// The elements that a further extent of so many cells takes: one for each cell, and two of its own.
+// The elements that a further extent of this many cells takes: one for each cell, and two of its own.
 fn extent_blanks(count: u32) -> u32
     requires { count ≤ 2 ^ 12 }
     ensures { result ≡ blanks_for count }
@@ -79,7 +79,7 @@ fn extent_blanks(count: u32) -> u32
     count + 2
 }
 
-// The plan by which the cell pool has a further extent at its place, whose first cell is handed out.
+// The plan by which the cell pool gets a further extent at its place, whose first cell is handed out.
 fn plan_further(
     storage: &Parts,
     pool: CellId,
@@ -112,14 +112,14 @@ fn plan_further(
     }
 }
 
-/// A plan for a cell of a cell pool (*Assembler Services Reference*, CPOOL GET): its first free one; or, where none is
+/// A plan for a cell of a cell pool (*Assembler Services Reference*, CPOOL GET): its first free one; or, if none is
 /// free, the first one of a further extent of the secondary number of cells. Its address goes into register 1, and into
-/// the one that is named; register 15 gets 0. A conditional form never has a further extent: it sets register 15 to 4,
-/// and nothing else. Reads alone, and takes no memory. `names_full` says that the statement defines a name for which
+/// the one that is named; register 15 gets 0. A conditional form never gets a further extent: it sets register 15 to 4,
+/// and nothing else. Only reads, and takes no memory. `names_full` says that the statement defines a name for which
 /// there is no room.
 ///
-/// The causes that refuse it, in order: `NoCellPool` where there is no cell pool of the name or the current task
-/// doesn't see its subpool, `TooManyNames`, and `NoStorage` where a further extent has no place.
+/// The causes that refuse it, in order: `NoCellPool` if no cell pool of the name exists or the current task doesn't see
+/// its subpool, `TooManyNames`, and `NoStorage` if a further extent has no place.
 #[inline(never)]
 pub fn plan_get(
     storage: &Parts,

@@ -26,8 +26,8 @@ use storage_swap::{ChangeBuilder, Parts};
 use vsm_model::Subpool;
 use vsm_model::geometry::PAGE_DOUBLEWORDS;
 
-/// The most extents of a cell pool that goes: with more, its blank elements would be more than there are ids of 32
-/// bits.
+/// The most extents of a cell pool that can be deleted: with more, its blank elements would be more than there are ids
+/// of 32 bits.
 const EXTENTS_MOST: u32 = (1 << 30) - 1;
 
 /// How many there are; or memory was refused.
@@ -69,7 +69,7 @@ fn push_returned(records: &mut PlanRecords, subpool: Subpool, run: Run)
     }));
 }
 
-// The area, in doublewords, is given back with the pages that it empties: what of either lies beside the other becomes
+// The area, in doublewords, is given back with the pages that it empties: what of either lies outside the other becomes
 // free, or taken.
 fn push_given_back(records: &mut PlanRecords, subpool: Subpool, area: Run, pages: Run)
     requires none { records.old.items ≡ [] }
@@ -137,7 +137,7 @@ fn push_area(
     push_all(storage, builder, records.as_slice())
 }
 
-// As many elements are spare as a word can say, at most.
+// At most as many elements are spare as a word can count.
 fn spares_are_few(storage: &Parts)
     ensures { storage.now.elements.spare < 2 ^ 32 }
 {
@@ -145,7 +145,7 @@ fn spares_are_few(storage: &Parts)
 }
 
 // The records by which each extent of the cell pool is given back, the first one first, while their areas are noted.
-// Answers how many extents it has.
+// Returns how many extents it has.
 fn push_each(
     storage: &mut Parts,
     builder: &mut ChangeBuilder,
@@ -187,12 +187,12 @@ fn push_each(
     Ok(count)
 }
 
-/// The records by which each extent of the cell pool is given back, the first one first. Answers how many extents it
+/// The records by which each extent of the cell pool is given back, the first one first. Returns how many extents it
 /// has.
 ///
-/// Meanwhile the extents' areas stand in a queue, an element each at most: it's gone at the end.
+/// Meanwhile the extents' areas are in a queue, at most one element each: it's gone at the end.
 ///
-/// `AllocError` where memory is refused, or the cell pool has more than 2^30 - 1 extents.
+/// `AllocError` if memory is refused, or the cell pool has more than 2^30 - 1 extents.
 pub(crate) fn push_extents(storage: &mut Parts, builder: &mut ChangeBuilder, pool: CellId) -> Count
     requires building { IsBuilding storage.old builder.old }
     requires can { CanBeDeleted (state_of storage.old) (record { pool = pool }) }

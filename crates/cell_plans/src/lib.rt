@@ -1,4 +1,4 @@
-//! Plans of cell pools that come, hand out cells, take them back and go.
+//! Plans of cell pools that are created, hand out cells, take them back and are deleted.
 #![tactic(auto)]
 
 mod areas;

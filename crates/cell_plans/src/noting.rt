@@ -14,7 +14,7 @@ use std::alloc::AllocError;
 use storage_swap::Parts;
 use vsm_elements::Elements;
 
-// The doubleword is noted, if it isn't yet. Where the one before it is noted, it's joined to that and takes no element.
+// The doubleword is noted, if it isn't yet. If the one before it is noted, it's joined to that and takes no element.
 fn note_doubleword(noted: &mut FreeQueue, elements: &mut Elements, doubleword: u32)
     requires queue { IsFreeQueue elements.old noted.old }
     requires range { doubleword < 2 ^ 29 }
@@ -55,8 +55,8 @@ fn note_missing(noted: &mut FreeQueue, elements: &mut Elements, area: Run)
     }
 }
 
-// The doublewords of the area are noted. No two extents of a sound storage have one doubleword, but this doesn't rest
-// on it: what is noted already stays so.
+// The doublewords of the area are noted. No two extents of a sound storage share a doubleword, but this doesn't depend
+// on that: what is already noted stays noted.
 fn note_area(noted: &mut FreeQueue, elements: &mut Elements, area: Run)
     requires queue { IsFreeQueue elements.old noted.old }
     requires range { (0 < area.len) × (area.start + area.len ≤ 2 ^ 29) }
@@ -74,7 +74,7 @@ fn note_area(noted: &mut FreeQueue, elements: &mut Elements, area: Run)
 
 /// The doublewords of the area are noted. It takes one element at most.
 ///
-/// `AllocError` where fewer than two are spare and memory is refused: what is noted then stays as it is.
+/// `AllocError` if fewer than two are spare and memory is refused: what is noted then stays as it is.
 pub(crate) fn note(storage: &mut Parts, noted: &mut FreeQueue, area: Run) -> Result<(), AllocError>
     requires queue { IsFreeQueue storage.old.elements noted.old }
     requires range { (0 < area.len) × (area.start + area.len ≤ 2 ^ 29) }

@@ -25,7 +25,7 @@ pub(crate) fn name_of(text: &str) -> CellPoolName
     name
 }
 
-// Whether the current task sees this very subpool.
+// Whether the current task sees exactly this subpool.
 fn sees_subpool(storage: &Parts, subpool: Subpool) -> bool
     requires { Stand storage.now }
     ensures { result ≡ sees (model_of (state_of storage.now)) subpool }
@@ -40,7 +40,7 @@ fn sees_subpool(storage: &Parts, subpool: Subpool) -> bool
     }
 }
 
-/// The cell pool of the name, if there is one and the current task sees its subpool; else the cause `NoCellPool`.
+/// The cell pool of the name, if one exists and the current task sees its subpool; otherwise the cause `NoCellPool`.
 pub(crate) fn find_seen(storage: &Parts, name: &str) -> Result<CellId, Cause>
     requires stands { Stand storage.now }
     requires name { length name.now ≤ 63 }

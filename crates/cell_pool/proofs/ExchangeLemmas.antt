@@ -25,7 +25,7 @@ use Rattle.cell_pool.proofs.HandLemmas.{row_ids}
 use Rattle.cell_pool.proofs.ParkLemmas.{append_none, leaves_same}
 use Rattle.cell_pool.proofs.LawLemmas.{pools_are_one, pools_own, pools_stay}
 
--- what is found, where some of it goes
+-- what is found, if some of it goes
 
 no_pool : (p : Pool) → None ≡ Some p → ⊥
 no_pool p e = cc
@@ -99,7 +99,7 @@ one_exchanged id i x y hx hy = go (i == id) refl where
       let t : (id == i) ≡ false = eqb_swap id i ∙ e in
       ap (λ (z : Option Pool). either_of z (all_but (is_of id) x)) (only_none (is_of id) y (tells y hy false t)).0 ∙ (only_none (is_of id) x (tells x hx false t)).1
 
--- where no pool has the id
+-- if no pool has the id
 module _ (s : Store) (q : CellPools) (kept : IsCellPools s q) (id : ℕ) (none : is_some (by_id s q id) ≡ false) where
   other : (p : Pool) → by_id s q p.id ≡ Some p → is_of id p ≡ false
   other p h = go (id == p.id) refl where
@@ -137,7 +137,7 @@ id_owned s q i p h = in_left i (ids (links s q.table.chain)) (listed s (links s 
 pub ids_apart : (s : Store) (a b : CellPools) → Apart (owned s a) (owned s b) → (i : ℕ) (x y : Pool) → by_id s a i ≡ Some x → by_id s b i ≡ Some y → ⊥
 ids_apart s a b apart i x y h k = not_both (among i (owned s b)) (id_owned s b i y k) (apart i (id_owned s a i x h))
 
--- pools that a call leaves alone, which stand apart from what it has then
+-- pools that a call leaves unchanged, which are apart from what it has then
 pub beside : (s t : Store) (had has : List ℕ) (q : CellPools) → Leaves s t had has → IsCellPools s q → Apart had (owned s q) → AreSame s t q × Apart has (owned t q)
 beside s t had has q leaves stand apart =
     let same : AreSame s t q = pools_stay s t had has q leaves stand apart in
@@ -316,7 +316,7 @@ together s a b ha hb subpool h n x y e f =
 pub never_both : (goes : Pool → Bool) (s : Store) (a b : CellPools) → Apart (owned s a) (owned s b) → (i : ℕ) → Alike goes (by_id s a i) (by_id s b i)
 never_both goes s a b apart i x y e f = absurd (ids_apart s a b apart i x y e f)
 
--- the pool of one id, whose name is not there on the other side
+-- the pool of one id, whose name doesn't exist on the other side
 module _ (s : Store) (a b : CellPools) (ha : IsCellPools s a) (hb : IsCellPools s b) (id : ℕ) where
   abbrev pub IfFound : CellPools → CellPools → Type 0
   IfFound c d = IfSome (by_id s c id) (λ (p : Pool). pool s d p.name ≡ None)

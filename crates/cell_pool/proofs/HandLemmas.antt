@@ -1,4 +1,4 @@
--- Pools that are handed on to another owner.
+-- Pools that are passed to another owner.
 use Rattle.std.proofs.Common.{◌≡◌, ℕ, ◌+◌, ◌%◌, ◌<◌, ◌≤◌, ◌==◌, take, drop, Bool, true, false, List, [], ◌∷◌, ◌++◌, length, Some, refl, sym, ap, ◌∙◌, subst, arith, append_assoc, length-append, length-drop}
 use Rattle.std.proofs.lemmas.Bool.{cond-false, cond-true}
 use Rattle.std.specs.Prelude.{map, option_map, slice_get, if◌then◌else◌}
@@ -22,7 +22,7 @@ use Rattle.cell_pool.specs.CellPools.{pool, by_id}
 use Rattle.cell_pool.proofs.PoolLemmas.{entry_ids, first_map, single_map}
 use Rattle.cell_pool.proofs.ParkLemmas.{earlier_is, later_is, front_is}
 
--- the place of a row depends on the ids of the rows alone
+-- the place of a row depends only on the ids of the rows
 
 last_id : ℕ → List ℕ → ℕ
 last_id a [] = a

@@ -41,7 +41,7 @@ and_parts : (a b : Bool) → (a && b) ≡ true → (a ≡ true) × (b ≡ true)
 and_parts true b h = (refl, h)
 and_parts false b h = absurd (not_both false h refl)
 
--- what is between is behind the low one
+-- what is between is after the low one
 pub between_low : (low high : Option (List ℕ)) (name : List ℕ) → is_between low high name ≡ true → is_after low name ≡ true
 between_low low None name h = h
 between_low low (Some high) name h = (and_parts (is_after low name) (is_before name high) h).0
@@ -54,7 +54,7 @@ between_less low (Some high) name other h k =
     let q = and_parts (is_after low name) (is_before name high) h in
     low_passes low high other p.0 ∙ before_chain other name high p.1 q.1
 
--- where none passes a test, none passes one that says more
+-- if none passes a test, none passes one that says more
 pub fewer : (test more : Pool → Bool) → ((p : Pool) → more p ≡ true → test p ≡ true) → (ps : List Pool) → first_with test ps ≡ None → first_with more ps ≡ None
 fewer test more less [] h = refl
 fewer test more less (p ∷ ps) h =

@@ -120,7 +120,7 @@ module _ (s s1 s2 s3 : Store) (k : Stock) (h : IsStock s k) (extents : RowTable)
   pub grown_places : rows s3 places ≡ rows s2 places
   grown_places = third.3
 
--- what stands when the extents have changed, and when their places have, too
+-- what is kept when the extents have changed, and when their places have, too
 module _ (s s1 : Store) (k : Stock) (h : IsStock s k) (extents : RowTable) (f : Leaves s s1 (RowTable.owned s k.extents) (RowTable.owned s1 extents)) (c : IsTable s1 extents) where
   behind_extents : ChangesTo s s1 k (record { items = k.items; used = k.used; extents = extents; places = k.places }) × (links s1 k.items ≡ links s k.items) × (rows s1 k.used ≡ rows s k.used) × (rows s1 k.places ≡ rows s k.places)
   behind_extents = extents_change s s1 k extents h f c
@@ -138,7 +138,7 @@ pub record Becomes (s t : Store) (r : ListRow) (d : Stock) (f : Pool → Pool) :
   pub made : pool_of (entry_with r.id r.words (contents t d)) ≡ f (pool_of (entry_of s r))
   pub sound : IsSound (entry_with r.id r.words (contents t d))
 
--- the first free cell comes in use
+-- the first free cell is now in use
 pub taken : (s s1 s2 : Store) (r : ListRow) (h : IsStock s r.stock) → IsSound (entry_of s r) → (items : Chain) → Leaves s s1 (Chain.owned s r.stock.items) (Chain.owned s1 items) → IsChain s1 items
     → (used : RowTable) → Leaves s1 s2 (RowTable.owned s1 r.stock.used) (RowTable.owned s2 used) → IsTable s2 used
     → items_of (links s1 items) ≡ take 5 (items_of (links s r.stock.items)) ++ drop 6 (items_of (links s r.stock.items)) → (cell : ℕ) → slice_get (pool_of (entry_of s r)).cells 0 ≡ Some cell
@@ -160,7 +160,7 @@ taken s s1 s2 r h sound items f c used g d out cell first now =
       sound = subst P (sym (taken_extents s s1 s2 r.stock h items f c used g d)) (subst Q (sym (taken_places s s1 s2 r.stock h items f c used g d)) (taken_sound x sound (items_of (links s2 items)) (rows_of (rows s2 used)) cell its first notes));
     }
 
--- a cell in use comes back in front of the free ones
+-- a cell in use becomes the first of the free ones
 pub put : (s s1 s2 : Store) (r : ListRow) (h : IsStock s r.stock) → IsSound (entry_of s r) → (used : RowTable) → Leaves s s1 (RowTable.owned s r.stock.used) (RowTable.owned s1 used) → IsTable s1 used
     → (items : Chain) → Leaves s1 s2 (Chain.owned s1 r.stock.items) (Chain.owned s2 items) → IsChain s2 items → (cell : ℕ)
     → items_of (links s2 items) ≡ take 5 (items_of (links s1 r.stock.items)) ++ cell_item cell ∷ drop 5 (items_of (links s1 r.stock.items)) → uses (pool_of (entry_of s r)) cell ≡ true
@@ -182,7 +182,7 @@ put s s1 s2 r h sound used f c items g d cell in_front in_use now =
       sound = subst P (sym (put_extents s s1 s2 r.stock h used f c items g d)) (subst Q (sym (put_places s s1 s2 r.stock h used f c items g d)) (put_sound x sound (items_of (links s2 items)) (rows_of (rows s2 used)) cell its in_use notes));
     }
 
--- an extent comes, in its place, and its cells behind the free ones
+-- an extent is added, in its place, and its cells after the free ones
 pub grown : (s s1 s2 s3 : Store) (r : ListRow) (h : IsStock s r.stock) → IsSound (entry_of s r) → (extents : RowTable) → Leaves s s1 (RowTable.owned s r.stock.extents) (RowTable.owned s1 extents) → IsTable s1 extents
     → (places : RowTable) → Leaves s1 s2 (RowTable.owned s1 r.stock.places) (RowTable.owned s2 places) → IsTable s2 places → (items : Chain) → Leaves s2 s3 (Chain.owned s2 r.stock.items) (Chain.owned s3 items) → IsChain s3 items → (size start count : ℕ) → size ≡ (pool_of (entry_of s r)).settings.size
     → items_of (links s3 items) ≡ items_of (links s2 r.stock.items) ++ cell_items size start count → AreNumbered 0 (rows_of (rows s1 extents))
@@ -278,13 +278,13 @@ has_place x sound ext y same =
     let are : pool_of x ≡ extended y.start y.count ext.rest = ext.is ∙ ap (λ (z : Extent). extended z.start z.count ext.rest) same in
     subst O (sym (subst L are sound.placed y.start ∙ ap (option_map (place_words ext.rest.settings.size)) (begins_last ext.rest.settings.size (subst B are sound.size) ext.rest.extents y (subst S are sound.separate)))) refl
 
--- and one that comes has none yet
+-- and one that is added has none yet
 pub no_place_yet : (x : Entry) → IsSound x → (start count : ℕ) → 0 < count → meets start (count * (pool_of x).settings.size) (pool_of x) ≡ false → placed_at start x.places ≡ None
 no_place_yet x sound start count some clear =
     sound.placed start
     ∙ ap (option_map (place_words (pool_of x).settings.size)) (begins_elsewhere (pool_of x).settings.size sound.size start count some (pool_of x).extents sound.separate clear)
 
--- an area meets the extents in their places just where it meets the pool
+-- an area meets the extents in their places exactly if it meets the pool
 pub met_pool : (s : Store) (r : ListRow) → IsStock s r.stock → IsSound (entry_of s r) → (start len : ℕ)
     → list_any (overlaps_place start len) (rows_of (rows s r.stock.places)) ≡ meets start len (pool_of (entry_of s r))
 met_pool s r h sound start len = met s r.stock.places h.places (pool_of (entry_of s r)) sound.size sound.separate sound.placed start len

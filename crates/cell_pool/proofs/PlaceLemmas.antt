@@ -12,7 +12,7 @@ use Rattle.cell_extents.specs.Items.{extent_of, cell_of, pool_of}
 abbrev Items : Type 0
 Items = List (List ℕ)
 
--- the item at a place, and those behind it
+-- the item at a place, and those after it
 pub items_step : (items : Items) (k end : ℕ) (words : List ℕ) → k < end → slice_get items k ≡ Some words → take (end - k) (drop k items) ≡ words ∷ take (end - (k + 1)) (drop (k + 1) items)
 items_step items k end words h there =
     let n : end - k ≡ suc (end - (k + 1)) = omega arith in
@@ -22,12 +22,12 @@ items_step items k end words h there =
     ∙ ap (λ (z : List ℕ). z ∷ take (end - (k + 1)) (drop (suc k) items)) (get_or_from_slice_get items k words words there)
     ∙ ap (λ (z : ℕ). words ∷ take (end - (k + 1)) (drop z items)) m
 
--- the free cells of the pool in an entry are all items behind its texts
+-- the free cells of the pool in an entry are all items after its texts
 pub items_cells : (e : Entry) (n : ℕ) → length e.items ≡ n → map cell_of (take (n - 5) (drop 5 e.items)) ≡ (pool_of e).cells
 unfolding pool_of
 items_cells e n long = ap (map cell_of) (take_all (n - 5) (drop 5 e.items) (omega (arith, length-drop 5 e.items)))
 
--- the row at a place, and those behind it
+-- the row at a place, and those after it
 pub rows_step : (rs : List Row) (k : ℕ) (r : Row) → slice_get rs k ≡ Some r → map extent_of (drop k (rows_of rs)) ≡ extent_of r.words ∷ map extent_of (drop (k + 1) (rows_of rs))
 rows_step [] zero r h = absurd (no h) where
   no : None ≡ Some r → ⊥

@@ -1,4 +1,4 @@
--- How cell pools stand in a table of lists: a pool to a row. No public clause cites this module.
+-- How cell pools are kept in a table of lists: a pool to a row. No public clause cites this module.
 use Rattle.std.specs.Prelude.{List, [], ◌∷◌, map}
 use Rattle.vsm_elements.specs.Store.{Store}
 use Rattle.list_table.specs.Entries.{Entry}

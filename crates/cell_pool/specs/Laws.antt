@@ -15,7 +15,7 @@ pub record AreOne (s : Store) (q : CellPools) : Type 0 where
 abbrev pub PoolsAreOne : Type 0
 PoolsAreOne = (s : Store) (q : CellPools) → IsCellPools s q → AreOne s q
 
--- cell pools that stand own their elements
+-- cell pools own their elements
 abbrev pub PoolsOwn : Type 0
 PoolsOwn = (s : Store) (q : CellPools) → IsCellPools s q → Owns s (owned s q)
 
@@ -31,16 +31,16 @@ abbrev pub PoolsKept : Type 0
 PoolsKept = (s t : Store) (q : CellPools) → IsCellPools s q
     → ((id : ℕ) → among id (owned s q) ≡ true → at t id ≡ at s id) → AreSame s t q
 
--- cell pools that stand apart from what a call owns are as they were
+-- cell pools that are apart from what a call owns are as they were
 abbrev pub PoolsStay : Type 0
 PoolsStay = (s t : Store) (had has : List ℕ) (q : CellPools) → Leaves s t had has → IsCellPools s q
     → Apart had (owned s q) → AreSame s t q
 
--- where every id keeps what it had, so do cell pools
+-- if every id keeps what it had, so do cell pools
 abbrev pub GrowthKeepsPools : Type 0
 GrowthKeepsPools = (s t : Store) (q : CellPools) → SameElements s t → IsCellPools s q → AreSame s t q
 
--- an extent that was added last is what is taken back
+-- an extent that was added last is what is removed
 abbrev pub RetractsBack : Type 0
 RetractsBack = (p : Pool) (start count : ℕ) → retracted count (extended start count p) ≡ p
 

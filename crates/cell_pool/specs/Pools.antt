@@ -38,16 +38,16 @@ Single (p ∷ ps) = (pool_in p.name ps ≡ None) × Single ps
 abbrev pub Meets : (List ℕ → Option Pool) → ℕ → ℕ → Type 0
 Meets pools start len = (name : List ℕ) × (p : Pool) × (pools name ≡ Some p) × (meets start len p ≡ true)
 
--- the change is made to the pool of this id alone
+-- only the pool of this id is changed
 abbrev pub at_id : ℕ → (Pool → Pool) → Pool → Pool
 at_id id change p = if id == p.id then change p else p
 
--- the pool, where the test holds of it
+-- the pool, if the test holds of it
 abbrev pub only : (Pool → Bool) → Option Pool → Option Pool
 only test None = None
 only test (Some p) = if test p then Some p else None
 
--- the pool, where the test does not hold of it
+-- the pool, if the test does not hold of it
 abbrev pub all_but : (Pool → Bool) → Option Pool → Option Pool
 all_but test None = None
 all_but test (Some p) = if test p then None else Some p
@@ -56,29 +56,29 @@ all_but test (Some p) = if test p then None else Some p
 abbrev pub lies_in : Subpool → Pool → Bool
 lies_in subpool p = same_subpool p.settings.subpool subpool
 
--- where the pool lies in the subpool, it lies in that of the same number of another owner
+-- if the pool lies in the subpool, it lies in that of the same number of another owner
 abbrev pub handed_on : Subpool → ℕ → Pool → Pool
 handed_on subpool to p =
     if lies_in subpool p
     then record p { settings = record p.settings { subpool = record p.settings.subpool { owner = to } } }
     else p
 
--- the first of the two that is there
+-- the first of the two that exists
 abbrev pub either_of : Option Pool → Option Pool → Option Pool
 either_of None y = y
 either_of (Some x) y = Some x
 
--- the test holds of a pool that is there
+-- the test holds of a pool that exists
 abbrev pub holds_of : (Pool → Bool) → Option Pool → Bool
 holds_of test None = false
 holds_of test (Some p) = test p
 
--- What is found of `x`, where all pools of a subpool change places with those of it among others, where `y` is found:
--- the other one, where one of the two lies in the subpool.
+-- What is found of `x`, if all pools of a subpool change places with those of it among others, where `y` is found: the
+-- other one, if one of the two lies in the subpool.
 abbrev pub exchanged : Subpool → Option Pool → Option Pool → Option Pool
 exchanged subpool x y = if holds_of (lies_in subpool) (either_of x y) then y else x
 
--- Pools of both that have one name lie both in the subpool, or both outside it. So no name comes to be there twice.
+-- Pools of both that have one name lie both in the subpool, or both outside it. So no name then appears twice.
 abbrev pub GoTogether : Subpool → (ℕ → Option Pool) → (ℕ → Option Pool) → Type 0
 GoTogether subpool pools others = (i j : ℕ) (x y : Pool) → pools i ≡ Some x → others j ≡ Some y → x.name ≡ y.name
     → lies_in subpool x ≡ lies_in subpool y

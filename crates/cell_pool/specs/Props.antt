@@ -1,4 +1,4 @@
--- That cell pools stand has one proof at most, and what they are is a set.
+-- That cell pools are kept in elements has at most one proof, and what they are is a set.
 use Rattle.std.specs.Prelude.{ℕ, ◌+◌, List, [], ◌∷◌, Option, Some, None, IfSome}
 use Rattle.std.proofs.Props.{props}
 use mathlib.Core.HLevel.{Unit-prop, ×_prop}

@@ -19,7 +19,7 @@ use list_table::items::{insert, item, remove};
 use list_table::{ListRow, Stock};
 use vsm_elements::Elements;
 
-// The size of the cells of the pool in a row, which stands in the form in its list.
+// The size of the cells of the pool in a row, which is in the form in its list.
 fn cell_size(row: ListRow, elements: &Elements) -> u32
     requires chain { IsChain elements.now row.stock.items }
     requires room { 5 ≤ row.stock.items.count }
@@ -32,7 +32,7 @@ fn cell_size(row: ListRow, elements: &Elements) -> u32
 impl CellPools {
     ghost use Rattle.cell_pool.specs.CellPools.{pool, by_id, owned, IsCellPools};
 
-    /// The first free cell of the pool; `None` where none is free.
+    /// The first free cell of the pool; `None` if none is free.
     pub fn first_free(&self, elements: &Elements, id: CellId) -> Option<u32>
         requires pools { IsCellPools elements.now self.now }
         requires there { IsSome (by_id elements.now self.now id) }
@@ -77,7 +77,7 @@ impl CellPools {
         cell
     }
 
-    /// Puts a cell in front of the free ones. It has to be in use.
+    /// Puts a cell before the free ones. It has to be in use.
     ///
     /// It takes no element and gives none.
     pub fn put_cell(&mut self, elements: &mut Elements, id: CellId, cell: u32)
@@ -105,8 +105,8 @@ impl CellPools {
         self.table.write(elements, row);
     }
 
-    /// An extent more, behind all others, which overlaps none of them. Its cells stand in ascending order behind
-    /// the free ones.
+    /// Another extent, after all others, which overlaps none of them. Its cells are in ascending order after the free
+    /// ones.
     ///
     /// It takes two elements for the extent, and one for each cell.
     pub fn extend(&mut self, elements: &mut Elements, id: CellId, start: u32, count: u32)
@@ -143,7 +143,7 @@ impl CellPools {
         self.table.write(elements, row);
     }
 
-    /// Takes the last extent back, with its cells, which have to be the end of the free ones.
+    /// Removes the last extent, with its cells, which have to be the end of the free ones.
     ///
     /// The elements of the extent and those of its cells become spare ones.
     pub fn retract(&mut self, elements: &mut Elements, id: CellId) -> Extent

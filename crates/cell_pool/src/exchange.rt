@@ -15,8 +15,8 @@ impl CellPools {
     ghost use Rattle.cell_pool.specs.CellPools.{pool, by_id, owned, IsCellPools, IsParked, TakesOut};
     ghost use Rattle.cell_pool.specs.CellPools.{parked_pool, parked_by_id, parked_owned};
 
-    /// Hands the pools of a subpool on: each that lies in it lies in the subpool of the same number of the owner `to`
-    /// from now on. All else of them stays.
+    /// Passes the pools of a subpool on: each that lies in it lies from now on in the subpool of the same number of the
+    /// owner `to`. All else of them stays.
     pub fn hand_on(&self, elements: &mut Elements, subpool: Subpool, to: u8)
         requires { IsCellPools elements.old self.now }
         ensures pools { IsCellPools elements.new self.now }
@@ -46,8 +46,7 @@ impl CellPools {
         }
     }
 
-    /// The pool of this id changes sides: it goes over to the others, or comes from them. Where it is in neither, all
-    /// stays.
+    /// The pool of this id changes sides: it moves to the others, or from them. If it is in neither, all stays.
     ///
     /// It takes no element and gives none; the pool keeps its own.
     pub fn exchange_pool(&mut self, elements: &mut Elements, id: CellId, others: &mut CellPools)

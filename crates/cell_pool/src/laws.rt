@@ -19,7 +19,7 @@ pub fn pools_kept()
     ensures { PoolsKept }
 {}
 
-/// A call that leaves what it doesn't own leaves all cell pools that stand apart.
+/// A call that leaves what it doesn't own leaves all cell pools that are apart.
 pub fn pools_stay()
     ensures { PoolsStay }
 {}
@@ -29,12 +29,12 @@ pub fn growth_keeps_pools()
     ensures { GrowthKeepsPools }
 {}
 
-/// To retract an extent undoes that it was added.
+/// Retracting an extent undoes adding it.
 pub fn retracts_back()
     ensures { RetractsBack }
 {}
 
-/// To put back what was taken out undoes the taking, whichever pools it were.
+/// Putting back what was taken out undoes the taking, for any pools.
 pub fn parked_pools_come_back()
     ensures { ParkedPoolsComeBack }
 {}

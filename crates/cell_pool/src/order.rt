@@ -1,4 +1,4 @@
-//! Cell pools in the order of their names, the reader going on from where it was.
+//! Cell pools in the order of their names; the reader continues from where it was.
 
 ghost use Rattle.std.specs.Prelude.{◌≡◌, IsSome, IfSome, IfNone, option_map};
 ghost use Rattle.cell_pool.specs.Order.{is_after, is_between, IsNext, IsLast};
@@ -9,14 +9,14 @@ use cell_extents::texts::name_of;
 use cell_extents::{CellId, CellPoolName};
 use vsm_elements::Elements;
 
-// The pool whose name is the first behind the given one so far.
+// The pool whose name is the first after the given one so far.
 #[derive(Clone, Copy)]
 struct Candidate {
     id: CellId,
     name: CellPoolName,
 }
 
-// Whether a name comes behind the one that is given, if one is.
+// Whether a name comes after the one that is given, if one is.
 fn is_after(low: Option<&CellPoolName>, name: &CellPoolName) -> bool
     ensures { result ≡ is_after (option_map (λ n. n.now.bytes) low.entry) name.now.bytes }
 {
@@ -26,7 +26,7 @@ fn is_after(low: Option<&CellPoolName>, name: &CellPoolName) -> bool
     }
 }
 
-// Whether it comes before the candidate besides, if there is any.
+// Whether it also comes before the candidate, if there is any.
 fn is_between(low: Option<&CellPoolName>, name: &CellPoolName, high: &Option<Candidate>) -> bool
     ensures { result ≡ is_between (option_map (λ n. n.now.bytes) low.entry)
         (option_map (λ c. c.name.bytes) high.now) name.now.bytes }
@@ -40,8 +40,8 @@ fn is_between(low: Option<&CellPoolName>, name: &CellPoolName, high: &Option<Can
 impl CellPools {
     ghost use Rattle.cell_pool.specs.CellPools.{pool, by_id, IsCellPools};
 
-    /// The pool whose name comes next behind this one in byte order, or comes first where none is given; `None` past
-    /// the last.
+    /// The pool whose name is the next after this one in byte order, or the first if none is given; `None` past the
+    /// last.
     ///
     /// It walks over all pools.
     pub fn pool_after(&self, elements: &Elements, behind: Option<&CellPoolName>) -> Option<CellId>

@@ -20,13 +20,13 @@ use vsm_model::Subpool;
 
 /// The head of all cell pools, each under its name.
 ///
-/// It is kept by value. Every call is handed the elements that it stands in, and changes those of its own alone.
+/// It is kept by value. Every call is passed the elements that it is in, and changes only its own.
 #[derive(Clone, Copy)]
 pub struct CellPools {
     pub(crate) table: ListTable,
 }
 
-// A place between two rows: how many stand before it, and the id of the last of these, or 0.
+// A place between two rows: how many are before it, and the id of the last of these, or 0.
 #[derive(Clone, Copy)]
 pub(crate) struct TablePlace {
     pub index: u32,
@@ -250,7 +250,7 @@ impl CellPools {
         self.table.row_of(elements, id)
     }
 
-    // The place of the row of this id, or that behind the last.
+    // The place of the row of this id, or the one after the last.
     pub(crate) fn seek(&self, elements: &Elements, id: CellId) -> TablePlace
         requires { IsCellPools elements.now self.now }
         ensures place { IsPlace elements.now self.now.table result.index result.before }

@@ -26,8 +26,8 @@ impl CellPools {
         is_noted(&row.stock.used, elements, address)
     }
 
-    /// Whether the area of so many bytes from an address on overlaps an extent of some pool, up to the end of the last
-    /// doubleword of which a cell is a part. A look-up for each pool tells.
+    /// Whether the area of that many bytes from an address on overlaps an extent of some pool, up to the end of the
+    /// last doubleword of which a cell is a part. It costs one look-up for each pool.
     pub fn holds(&self, elements: &Elements, start: u32, len: u32) -> bool
         requires { IsCellPools elements.now self.now }
         ensures { IsTrue result ↔ Meets (pool elements.now self.now) start len }
@@ -50,8 +50,8 @@ impl CellPools {
         false
     }
 
-    /// The pool's extent of this number, in the order in which they were made, from 0 on; `None` where it has no more
-    /// than that. It's found at the cost of a look-up.
+    /// The pool's extent of this number, in the order in which they were made, from 0 on; `None` if it has no more than
+    /// that many. It costs one look-up.
     pub fn extent_at(&self, elements: &Elements, id: CellId, number: u32) -> Option<Extent>
         requires pools { IsCellPools elements.now self.now }
         requires there { IsSome (by_id elements.now self.now id) }
@@ -71,7 +71,7 @@ impl CellPools {
         name_of(label(row.stock.items, elements))
     }
 
-    /// The pool's header; `None` where it was built without one.
+    /// The pool's header; `None` if it was built without one.
     pub fn header(&self, elements: &Elements, id: CellId) -> Option<CellPoolHeader>
         requires pools { IsCellPools elements.now self.now }
         requires there { IsSome (by_id elements.now self.now id) }

@@ -14,8 +14,8 @@ use list_table::items::before;
 use row_table::{RowPlace, RowTable};
 use vsm_elements::{Chain, Elements, Id};
 
-// A place before, between or behind some items of a pool's list: how many items stand before it, the id of the last of
-// these, or 0, and how many stand before the end of the walk.
+// A place before, between or after some items of a pool's list: how many items are before it, the id of the last of
+// these, or 0, and how many are before the end of the walk.
 #[derive(Clone, Copy)]
 struct ItemPlace {
     list: Chain,
@@ -24,7 +24,7 @@ struct ItemPlace {
     end: u32,
 }
 
-/// A place before, between or behind the extents of a pool, from which [`CellPools::next_extent`] goes on without a
+/// A place before, between or after the extents of a pool, from which [`CellPools::next_extent`] continues without a
 /// walk. It is one as long as the pools stay as they are.
 #[derive(Clone, Copy)]
 pub struct CellExtentPlace {
@@ -32,7 +32,7 @@ pub struct CellExtentPlace {
     place: RowPlace,
 }
 
-/// A place before, between or behind the free cells of a pool, from which [`CellPools::next_cell`] goes on likewise.
+/// A place before, between or after the free cells of a pool, from which [`CellPools::next_cell`] continues likewise.
 #[derive(Clone, Copy)]
 pub struct CellPlace {
     items: ItemPlace,
@@ -56,7 +56,7 @@ impl ItemPlace {
         }
     }
 
-    // The words of the item behind the place, and the place behind that item; `None` at the end.
+    // The words of the item after the place, and the place after that item; `None` at the end.
     fn next(self, elements: &Elements) -> Option<([u32; 7], ItemPlace)>
         requires { StandsAt elements.now self }
         ensures none { IfNone result (items_left elements.now self ≡ []) }
@@ -79,7 +79,7 @@ impl ItemPlace {
 }
 
 #[tactic(auto, unfolding(
-// where a walk over extents stands, and what is left of it
+// where a walk over extents is, and what is left of it
 crate::specs::Walks::IsExtentPlace, crate::specs::Walks::extents_left,
 // and one over free cells
 crate::specs::Walks::IsCellPlace, crate::specs::Walks::cells_left))]
@@ -100,8 +100,8 @@ impl CellPools {
         }
     }
 
-    /// The extent behind the place, and the place behind that extent; `None` behind the last. From the first place on,
-    /// the extents come in the order in which they were made.
+    /// The extent after the place, and the place after that extent; `None` after the last. From the first place on, the
+    /// extents are in the order in which they were made.
     pub fn next_extent(
         elements: &Elements,
         place: CellExtentPlace,
@@ -133,8 +133,8 @@ impl CellPools {
         }
     }
 
-    /// The free cell behind the place, and the place behind that cell; `None` behind the last. From the first place on,
-    /// the cells come in the order in which they are handed out.
+    /// The free cell after the place, and the place after that cell; `None` after the last. From the first place on,
+    /// the cells are in the order in which they are handed out.
     pub fn next_cell(elements: &Elements, place: CellPlace) -> Option<(u32, CellPlace)>
         requires { IsCellPlace elements.now place }
         ensures none { IfNone result (cells_left elements.now place ≡ []) }

@@ -1,4 +1,4 @@
--- That extents and unassigned pages stand has one proof at most.
+-- That elements hold extents, or unassigned pages, has at most one proof.
 use Rattle.vsm_elements.specs.Store.{Store}
 use Rattle.run_set.specs.Props.{IsRunSet-prop}
 use Rattle.descriptor_queue.specs.declared.extents.Extents.{Extents}

@@ -27,11 +27,11 @@ use Rattle.script_steps.proofs.Standings.{stands_for}
 use Rattle.vsm_bench.proofs.Served.{accepted_is_its_service}
 use Rattle.newly_taken.specs.Newly.{taken_by, newly_between}
 use Rattle.newly_taken.proofs.ByReply.{taken_by_the_reply}
-use Rattle.explain_who.specs.Lined.{plain}
-use Rattle.explain_who.specs.Notes.{with_told}
-use Rattle.explain_who.specs.Trails.{Marks}
-use Rattle.explain_who.proofs.Followed.{IsRead, Marked_by, acts_of, alone_after, alone_is, follow_more, lined, state_behind}
-use Rattle.explain_who.proofs.Lines.{lines_are_of_statements}
+use Rattle.line_changes.specs.Lined.{plain}
+use Rattle.line_changes.specs.Notes.{with_told}
+use Rattle.line_changes.specs.Trails.{Marks}
+use Rattle.line_changes.proofs.Followed.{IsRead, Marked_by, acts_of, alone_after, alone_is, follow_more, lined, state_behind}
+use Rattle.line_changes.proofs.Lines.{lines_are_of_statements}
 use Rattle.explain_areas.specs.Followed.{IsKnown, noted, taken_in}
 use Rattle.explain_areas.specs.Takings.{newly_after}
 use Rattle.explain_areas.specs.declared.tracing.Known.{Known}
@@ -51,7 +51,7 @@ module _ (settings : Settings) (answers more : List Marked) (told : Option (ℕ 
   replied : (x : Act) (n : NamedState) (r : Reply) (o : Outcome NamedState Reply Why) (kept : ℕ) → o ≡ Accepted n r → response_to (Apply x) (outcome_answer o) kept ≡ response.Replied r
   replied x n r o kept e = ap (λ o. response_to (Apply x) (outcome_answer o) kept) e
 
-  -- what was told
+  -- what was reported
   told_is : (m : Marked) (x : Act) (n : NamedState) (r : Reply) → m.unmet ≡ false → m.answer.what ≡ Ok (act x) →
       statement_step settings (alone_now settings (stands_all settings nothing_stands answers)) x ≡ Accepted n r →
       (t : Option (ℕ × Response)) → Brings settings answers (m ∷ []) t → (b c : ℕ) → noted b c t ≡ record { items = taken_by r b c }

@@ -18,16 +18,16 @@ use Rattle.line_areas.specs.Ahead.{AreLinesOf}
 use Rattle.line_areas.specs.Areas.{areas_of}
 use Rattle.line_areas.specs.declared.parts.LineArea.{LineArea}
 use Rattle.line_areas.specs.declared.taken.Taking.{Taking}
-use Rattle.explain_who.specs.Lined.{lined_all}
-use Rattle.explain_who.specs.Trails.{marks_of}
-use Rattle.explain_who.specs.declared.trail.TrailEntry.{TrailEntry}
-use Rattle.explain_who.proofs.Followed.{alone_after, alone_is}
-use Rattle.explain_who.proofs.Lines.{lines_are_of_statements}
-use Rattle.explain_who.proofs.Moves.{standing_marks}
+use Rattle.line_changes.specs.Lined.{lined_all}
+use Rattle.line_changes.specs.Trails.{marks_of}
+use Rattle.line_changes.specs.declared.trail.TrailEntry.{TrailEntry}
+use Rattle.line_changes.proofs.Followed.{alone_after, alone_is}
+use Rattle.line_changes.proofs.Lines.{lines_are_of_statements}
+use Rattle.line_changes.proofs.Moves.{standing_marks}
 use Rattle.explain_areas.specs.Followed.{IsFollowedBy}
 use Rattle.explain_areas.specs.Since.{acts, storage_after, taken_areas}
 use Rattle.explain_areas.specs.Takings.{newly_after, taking, takings_of}
-use Rattle.explain_areas.specs.Texts.{standing}
+use Rattle.explain_areas.specs.Told.{standing}
 use Rattle.explain_areas.specs.declared.tracing.Followed.{Followed}
 use Rattle.explain_areas.proofs.Lines.{all_areas, are_lines, its_line}
 use Rattle.explain_areas.proofs.Newest.{acts_are, all_taken, newest_first}

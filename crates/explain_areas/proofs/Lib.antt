@@ -4,3 +4,5 @@ pub mod Newest
 pub mod Lines
 pub mod Left
 pub mod Told
+mod Stops
+mod Ordering

@@ -85,7 +85,7 @@ module _ (settings : Settings) (stood : List (Stood (ℕ × Act) Reply)) (s : St
       (λ d from to. (are_lines p).elsewhere d
       (is_false ((state_in_place s).subpools.pages p (d / 512)) (λ own. both_ways (is_there (state_in_place s).subpools p) (is_there_too s p (d / 512) own) none))))
 
-  -- The areas of the subpools that are there are all areas.
+  -- The areas of the subpools that exist are all areas.
   pub all_areas : flat_map (λ p. areas_of p (its_line p)) (subpools_in_order (state_in_place s).subpools) ≡ taken_areas settings (lined settings stood)
   all_areas =
       sym (in_order (state_in_place s).subpools (λ number owner. areas_of (record { number = number; owner = owner }) (its_line (record { number = number; owner = owner }))) none_there 128 64 refl refl)

@@ -14,9 +14,9 @@ use Rattle.vsm_model.specs.State.{State}
 use Rattle.newly_taken.specs.Newly.{is_newly, newly_between}
 use Rattle.line_areas.specs.Taken.{has, line_at}
 use Rattle.line_areas.specs.declared.taken.Taking.{Taking}
-use Rattle.explain_who.specs.Trails.{seen_along}
-use Rattle.explain_who.specs.declared.trail.TrailEntry.{TrailEntry}
-use Rattle.explain_who.proofs.Moves.{onto, onto_turned, seen_both, turned}
+use Rattle.line_changes.specs.Trails.{seen_along}
+use Rattle.line_changes.specs.declared.trail.TrailEntry.{TrailEntry}
+use Rattle.line_changes.proofs.Moves.{onto, onto_turned, seen_both, turned}
 use Rattle.explain_areas.specs.Since.{acts, since, storage_after, taken_since}
 use Rattle.explain_areas.specs.Takings.{newly_after, taking}
 
@@ -25,7 +25,7 @@ use Rattle.explain_areas.specs.Takings.{newly_after, taking}
 abbrev is_in : ℕ → List (ℕ × ℕ) → Bool
 is_in d rs = list_any (λ r. among r.0 r.1 d) rs
 
--- one number in front of runs
+-- one number before runs
 one : (k d : ℕ) → among k 1 d ≡ (d == k)
 one k d = grind arith
 

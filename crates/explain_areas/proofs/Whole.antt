@@ -8,17 +8,17 @@ use Rattle.script_steps.specs.Output.{Marked}
 use Rattle.script_steps.specs.Steps.{IsLineOf}
 use Rattle.script_steps.specs.Taken.{Took}
 use Rattle.script_steps.specs.declared.session.Session.{Session}
-use Rattle.explain_who.specs.Faults.{FollowsNot}
-use Rattle.explain_who.specs.Notes.{IsNextLine}
-use Rattle.explain_who.specs.declared.faults.WhoFault.{WhoFault}
-use Rattle.explain_who.specs.declared.trail.Trail.{Trail}
+use Rattle.line_changes.specs.Faults.{FollowsNot}
+use Rattle.line_changes.specs.Notes.{IsNextLine}
+use Rattle.line_changes.specs.declared.faults.WhoFault.{WhoFault}
+use Rattle.line_changes.specs.declared.trail.Trail.{Trail}
 use Rattle.explain_areas.specs.Followed.{Follows, FollowsLine, FollowsEnd, IsEndFollowed, IsFollowed}
 use Rattle.explain_areas.specs.declared.tracing.Followed.{Followed}
 
 abbrev Noted : Type 0
 Noted = Trail (ArrayVec (ℕ × ℕ))
 
--- One line more is followed.
+-- Another line is followed.
 pub next_followed : (settings : Settings) (script : List ℕ) (at : ℕ) (r : Option ℕ) (next : ℕ) (old new : Session) (t u : Noted) →
     r ≡ Some next → IsNextLine script at (Ok r) →
     ((answers : List Marked) × Took settings (take at script) answers old × Follows settings answers t) →
@@ -31,7 +31,7 @@ next_followed settings script at r next old new t u is place (answers, took, f) 
     subst (λ r. FollowsLine settings script at answers new u (Ok r)) is (line settings answers took f) in
     (beyond, (answers ++ more.0, more.1, more.2))
 
--- What stands there is followed.
+-- What is in effect there is followed.
 pub script_followed : (settings : Settings) (script rest : List ℕ) (at : ℕ) (r : Option ℕ) (old new : Session) (t u w : Noted) (k : Result Bench WhoFault) →
     ((next : ℕ) → r ≡ Some next → ⊥) → rest ≡ drop at script →
     ((answers : List Marked) × Took settings (take at script) answers old × Follows settings answers t) →

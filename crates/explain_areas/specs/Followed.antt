@@ -1,4 +1,4 @@
--- A script that was followed to its end: what each standing statement took.
+-- A script that was followed to its end: what each statement in effect took.
 use Rattle.std.specs.Prelude.{◌≡◌, ℕ, true, List, [], ◌++◌, length, take, Option, Some, None, Result, Ok, Err}
 use Rattle.arrayvec.specs.ArrayVec.{ArrayVec}
 use Rattle.bench_core.specs.Stands.{bench_of, settings_in}
@@ -12,14 +12,14 @@ use Rattle.script_steps.specs.declared.responses.Response.{Response}
 use Rattle.script_steps.specs.declared.responses.Response.TheVariants as response
 use Rattle.script_steps.specs.declared.session.Session.{Session}
 use Rattle.newly_taken.specs.Newly.{taken_by}
-use Rattle.explain_who.specs.Faults.{FollowsNot}
-use Rattle.explain_who.specs.Lined.{lined_all}
-use Rattle.explain_who.specs.Notes.{IsNextLine}
-use Rattle.explain_who.specs.ScriptLines.{LinesBegin}
-use Rattle.explain_who.specs.Trails as marks
-use Rattle.explain_who.specs.Trails.{marks_of}
-use Rattle.explain_who.specs.declared.faults.WhoFault.{WhoFault}
-use Rattle.explain_who.specs.declared.trail.Trail.{Trail}
+use Rattle.line_changes.specs.Faults.{FollowsNot}
+use Rattle.line_changes.specs.Lined.{lined_all}
+use Rattle.line_changes.specs.Notes.{IsNextLine}
+use Rattle.line_changes.specs.ScriptLines.{LinesBegin}
+use Rattle.line_changes.specs.Trails as marks
+use Rattle.line_changes.specs.Trails.{marks_of}
+use Rattle.line_changes.specs.declared.faults.WhoFault.{WhoFault}
+use Rattle.line_changes.specs.declared.trail.Trail.{Trail}
 use Rattle.explain_areas.specs.Takings.{newly_after}
 use Rattle.explain_areas.specs.declared.tracing.Followed.{Followed}
 use Rattle.explain_areas.specs.declared.tracing.Known.{Known}
@@ -33,13 +33,13 @@ pub record IsKnown (b : Bench) (known : Known) : Type 0 where
   pub kept : known.kept ≡ length (bench_of b).past
   pub taken : known.taken ≡ taken_in b
 
--- what is noted of what a line told, if so many bytes were taken before it and are after it
+-- what is noted of the answer of a line, by the bytes that are taken before and after it
 abbrev pub noted : ℕ → ℕ → Option (ℕ × Response) → ArrayVec (ℕ × ℕ)
 noted before after (Some (line, response.Replied reply)) = record { items = taken_by reply before after }
 noted before after _ = record { items = [] }
 
--- The trail has the statements that stand by the definition after these answers, and those that are undone, each with
--- its line and what it took.
+-- The trail has the statements in effect after these answers, and those that are undone, each with its line and what
+-- it took.
 abbrev pub Follows : Settings → List Marked → Trail (ArrayVec (ℕ × ℕ)) → Type 0
 Follows settings answers trail =
     marks.Follows (newly_after settings) (lined_all settings nothing_stands answers) (marks_of trail)
@@ -54,7 +54,7 @@ FollowsLine settings script at answers s trail (Ok None) =
     Took settings (take at script) answers s × Follows settings answers trail
 FollowsLine settings script at answers s trail (Err fault) = FollowsNot settings script fault
 
--- A line from a place on is followed, where what stands before it is: where the next begins, and what it brought.
+-- A line from a place on is followed, if the bytes before it are: where the next begins, and what it brought.
 pub record IsLineFollowed (script : List ℕ) (at : ℕ) (old new : Session) (t u : Trail (ArrayVec (ℕ × ℕ)))
     (r : Result (Option ℕ) WhoFault) : Type 0 where
   pub place : IsNextLine script at r
@@ -68,7 +68,7 @@ FollowsEnd settings script trail (Ok bench) =
     × (settings_in bench ≡ settings)
 FollowsEnd settings script trail (Err fault) = FollowsNot settings script fault
 
--- What stands after the last line feed is followed to the script's end, where what stands before it is.
+-- What follows the last line feed is followed to the script's end, if the bytes before it are.
 abbrev pub IsEndFollowed : List ℕ → Session → Trail (ArrayVec (ℕ × ℕ)) → Trail (ArrayVec (ℕ × ℕ))
     → Result Bench WhoFault → Type 0
 IsEndFollowed rest s t u r =

@@ -1,4 +1,9 @@
 pub mod Since
 pub mod Takings
 pub mod Followed
+pub mod Ends
+pub mod Orders
 pub mod Texts
+pub mod Objects
+pub mod Forms
+pub mod Told

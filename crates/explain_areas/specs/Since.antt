@@ -1,5 +1,6 @@
 -- Which line took a doubleword, and the areas that are taken by that.
-use Rattle.std.specs.Prelude.{ℕ, ◌/◌, Bool, true, false, if◌then◌else◌, Option, Some, None, List, [], ◌∷◌, flat_map, map}
+use Rattle.std.specs.Prelude.{ℕ, ◌/◌, Bool, true, false, if◌then◌else◌, Option, Some, None, List, [], ◌∷◌, flat_map}
+use Rattle.std.specs.Prelude.{map}
 use Rattle.macro_statements.specs.Requests.{Act}
 use Rattle.vsm_model.specs.declared.Subpool.{Subpool}
 use Rattle.vsm_model.specs.declared.limits.Settings.{Settings}
@@ -25,12 +26,12 @@ since true true line older = older
 since true false line older = Some line
 
 module _ (settings : Settings) where
-  -- the storage after these statements alone, the newest first
+  -- the storage after only these statements, the newest first
   abbrev pub storage_after : List Act → State
   storage_after xs = (alone first_named_state (statement_step settings) xs).storage
 
   -- The line of the newest of these statements after which a doubleword is taken and before which it wasn't; none if it
-  -- isn't taken after all of them. The newest comes first.
+  -- isn't taken after all of them. The newest is first.
   abbrev pub taken_since : List (ℕ × Act) → ℕ → Option ℕ
   taken_since [] d = None
   taken_since (x ∷ older) d =

@@ -1,9 +1,9 @@
-//! What the statements that stand took, by lines.
+//! What the statements in effect took, by lines.
 ghost use Rattle.std.specs.Prelude.{◌≡◌, ◌++◌, IfOk, OnOk, map};
 ghost use Rattle.explain_areas.specs.Takings.{taking, takings_of};
 
-use explain_who::TrailEntry;
 use line_areas::Taking;
+use line_changes::TrailEntry;
 use newly_taken::Newly;
 use std::alloc::{AllocError, Global};
 
@@ -21,7 +21,7 @@ fn add_runs(takings: &mut Vec<Taking>, line: u32, runs: &[(u32, u32)]) -> Result
     Ok(())
 }
 
-/// What these statements took, which come with the oldest first: the newest first.
+/// What these statements took, the newest first; they are given with the oldest first.
 pub(crate) fn takings(
     alloc: Global,
     entries: &[TrailEntry<Newly>],

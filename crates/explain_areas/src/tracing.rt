@@ -1,12 +1,12 @@
-//! A script is followed on a bench: which of its statements stand, and what each of them took.
+//! A script is followed on a bench: which of its statements are in effect, and what each of them took.
 ghost use Rattle.std.specs.Prelude.{◌≡◌, ◌≤◌, [], ◌∷◌, ◌++◌, drop, length, OnOk};
 ghost use Rattle.bench_core.specs.Stands.{bench_of};
 ghost use Rattle.script_steps.specs.Script.{NoFeed};
-ghost use Rattle.explain_who.specs.Notes.{with_told};
-ghost use Rattle.explain_who.specs.Trails.{marks_of};
+ghost use Rattle.line_changes.specs.Notes.{with_told};
+ghost use Rattle.line_changes.specs.Trails.{marks_of};
 ghost use Rattle.explain_areas.specs.Followed.{IsEndFollowed, IsFollowed, IsKnown, IsLineFollowed, noted, taken_in};
 
-use explain_who::{Trail, WhoFault};
+use line_changes::{Trail, WhoFault};
 use newly_taken::{Newly, taken_by};
 use script_steps::{Bench, Response, Session, Watch};
 use std::alloc::{AllocError, Global};
@@ -18,7 +18,7 @@ use vsm_model::Settings;
 pub struct Followed {
     /// The bench as the script left it.
     pub bench: Bench,
-    /// The statements that stand, and those that are undone, each with its line and what it took.
+    /// The statements in effect, and those that are undone, each with its line and what it took.
     pub trail: Trail<Newly>,
     /// Where each line begins in the script.
     pub starts: Vec<usize>,
@@ -40,7 +40,7 @@ fn taken(bench: &Bench) -> u64
     totals(bench.storage()).taken
 }
 
-/// What is to be known of a bench before a line.
+/// What is known of a bench before a line.
 fn known_of(bench: &Bench) -> Known
     ensures { IsKnown bench.now result }
 {
@@ -50,7 +50,7 @@ fn known_of(bench: &Bench) -> Known
     }
 }
 
-/// Notes what a line told: a statement that stands now, with what it took, or a step over some.
+/// Notes what a line brought: an accepted statement with what it took, or a step over some.
 fn note(
     trail: &mut Trail<Newly>,
     bench: &Bench,
@@ -92,7 +92,7 @@ fn note_start(starts: &mut Vec<usize>, at: usize) -> Result<(), AllocError>
 }
 
 /// Follows the line that begins at a place of the script, and gives the place of the next. `None`, and nothing is
-/// taken, where no line feed stands from there on.
+/// taken, if there is no line feed from there on.
 fn follow_at(
     session: &mut Session,
     trail: &mut Trail<Newly>,
@@ -132,7 +132,7 @@ fn follow_line(
     }
 }
 
-/// Follows what stands behind the last line feed, and gives the bench as it is then.
+/// Follows the bytes after the last line feed, and gives the bench after them.
 fn follow_end(session: Session, trail: &mut Trail<Newly>, rest: &[u8]) -> Result<Bench, WhoFault>
     requires { NoFeed rest.now }
     ensures { IsEndFollowed rest.now session trail.old trail.new result }
@@ -164,8 +164,8 @@ fn follow_end(session: Session, trail: &mut Trail<Newly>, rest: &[u8]) -> Result
     }
 }
 
-/// What stands in a script from a place on.
-fn rest_from(script: &[u8], at: usize) -> &[u8]
+/// The bytes of a script from a place on.
+pub(crate) fn rest_from(script: &[u8], at: usize) -> &[u8]
     requires { at ≤ length script.now }
     ensures { result.now ≡ drop at script.now }
 {

@@ -1,122 +1,104 @@
--- Listings that grow by rows and by answers.
-use Rattle.std.proofs.Common.{◌≡◌, ℕ, List, [], ◌∷◌, ◌++◌, map, Option, refl, sym, ap, ◌∙◌, subst, append_assoc}
+-- Listings that grow by pages.
+use Rattle.std.proofs.Common.{◌≡◌, ℕ, List, [], ◌∷◌, ◌++◌, if◌then◌else◌, Option, Some, None, refl, sym, ap, ◌∙◌, subst, append_assoc}
 use Rattle.std.proofs.lemmas.List.{append-nil}
-use Rattle.std.proofs.lemmas.List.Concat.{flat_map-cons}
-use Rattle.std.specs.List.{flat_map, AllByRecursion}
+use Rattle.std.specs.List.{flat_map}
 use Rattle.macro_statements.specs.Requests.{Act}
 use Rattle.vsm_model.specs.declared.limits.Settings.{Settings}
 use Rattle.vsm_model.specs.declared.replies.Reply.{Reply}
 use Rattle.vsm_model.specs.Standing.{Standing, nothing_stands}
-use Rattle.script_steps.specs.Output.{Marked, stands_after, stands_all}
+use Rattle.script_steps.specs.Output.{Marked, stands_all}
 use Rattle.script_steps.proofs.Feeds.{each_append}
 use Rattle.text_output.specs.Writing.{Holds, Puts}
 use Rattle.text_output.specs.declared.writing.Gathered.{Gathered}
 use Rattle.statement_faults.specs.declared.lines.SourceLine.{SourceLine}
-use Rattle.explain_list.specs.Listing.{Item, row, answer, answers_in, lines_in, IsItemOf, IsListing, listed_answer, listed_answers, listing_text, HoldsListing}
-use Rattle.explain_list.specs.Rows.{Row, source, lost, pointed, on_file, lines_of, row_text, IsRowOf, PutsRows}
+use Rattle.explain_list.specs.Listing.{AreNoted, IsNoted, Item, paged, answers_in, head_in, is_written, item_text, items_text, lines_in, listing_text, one_of, stands_past, HoldsListing, IsItemOf, PutsFilePage}
+use Rattle.list_rows.specs.Answers.{Notes}
+use Rattle.list_rows.specs.Rows.{Row, lines_of, row_in}
+use Rattle.explain_list.specs.declared.layouts.Layout.{Layout}
 
 -- the answers among items, some after others
 answers_push : (xs ys : List Item) → answers_in (xs ++ ys) ≡ answers_in xs ++ answers_in ys
 answers_push [] ys = refl
-answers_push (row r ∷ xs) ys = answers_push xs ys
-answers_push (answer m ∷ xs) ys = ap (λ t. m ∷ t) (answers_push xs ys)
+answers_push (paged rows m last notes ∷ xs) ys =
+    ap (λ t. one_of m ++ t) (answers_push xs ys) ∙ sym (append_assoc (one_of m) (answers_in xs) (answers_in ys))
 
--- rows have none,
-rows_bring_none : (rs : List Row) → answers_in (map row rs) ≡ []
-rows_bring_none [] = refl
-rows_bring_none (r ∷ rs) = rows_bring_none rs
-
--- answers are their own,
-answers_bring : (ms : List Marked) → answers_in (map answer ms) ≡ ms
-answers_bring [] = refl
-answers_bring (m ∷ ms) = ap (λ t. m ∷ t) (answers_bring ms)
-
--- the lines among items, some after others
+-- and the lines
 lines_push : (xs ys : List Item) → lines_in (xs ++ ys) ≡ lines_in xs ++ lines_in ys
 lines_push [] ys = refl
-lines_push (row r ∷ xs) ys = ap (λ t. lines_of (r ∷ []) ++ t) (lines_push xs ys) ∙ sym (append_assoc (lines_of (r ∷ [])) (lines_in xs) (lines_in ys))
-lines_push (answer m ∷ xs) ys = lines_push xs ys
+lines_push (paged rows m last notes ∷ xs) ys =
+    ap (λ t. lines_of rows ++ t) (lines_push xs ys) ∙ sym (append_assoc (lines_of rows) (lines_in xs) (lines_in ys))
 
-rows_lines : (rs : List Row) → lines_in (map row rs) ≡ lines_of rs
-rows_lines [] = refl
-rows_lines (source line ∷ rs) = ap (λ t. line ∷ t) (rows_lines rs)
-rows_lines (lost line before ∷ rs) = ap (λ t. line ∷ t) (rows_lines rs)
-rows_lines (pointed line place said words ∷ rs) = rows_lines rs
-rows_lines (on_file words ∷ rs) = rows_lines rs
+module _ (layout : Layout) (settings : Settings) (script : List ℕ) where
+  stands_one : (l : Standing Act Reply) (m : Option Marked) (ms : List Marked)
+      → stands_all settings l (one_of m ++ ms) ≡ stands_all settings (stands_past settings l m) ms
+  stands_one l None ms = refl
+  stands_one l (Some m) ms = refl
 
-answers_lines : (ms : List Marked) → lines_in (map answer ms) ≡ []
-answers_lines [] = refl
-answers_lines (m ∷ ms) = answers_lines ms
-
-rows_are : (script : List ℕ) (rs : List Row) → AllByRecursion (IsRowOf script) rs → AllByRecursion (IsItemOf script) (map row rs)
-rows_are script [] h = tt
-rows_are script (r ∷ rs) h = (h.0, rows_are script rs h.1)
-
-answers_are : (script : List ℕ) (ms : List Marked) → AllByRecursion (IsItemOf script) (map answer ms)
-answers_are script [] = tt
-answers_are script (m ∷ ms) = (tt, answers_are script ms)
-
-module _ (settings : Settings) (script : List ℕ) where
   -- the text of items, some after others
   text_push : (l : Standing Act Reply) (xs ys : List Item)
-      → listing_text settings script l (xs ++ ys) ≡ listing_text settings script l xs ++ listing_text settings script (stands_all settings l (answers_in xs)) ys
+      → items_text settings layout script l (xs ++ ys) ≡ items_text settings layout script l xs ++ items_text settings layout script (stands_all settings l (answers_in xs)) ys
   text_push l [] ys = refl
-  text_push l (row r ∷ xs) ys = ap (λ t. row_text script r ++ t) (text_push l xs ys) ∙ sym (append_assoc (row_text script r) _ _)
-  text_push l (answer m ∷ xs) ys =
-      let text = listed_answer settings l m in
-      ap (λ t. text ++ t) (text_push (stands_after settings l m) xs ys) ∙ sym (append_assoc text _ _)
+  text_push l (paged rows m last notes ∷ xs) ys =
+      let its = item_text settings layout script l (paged rows m last notes) in
+      let next = stands_past settings l m in
+      let more = items_text settings layout script next xs in
+      ap (λ t. its ++ t) (text_push next xs ys) ∙ sym (append_assoc its more (items_text settings layout script (stands_all settings next (answers_in xs)) ys))
+      ∙ ap (λ k. (its ++ more) ++ items_text settings layout script k ys) (sym (stands_one l m (answers_in xs)))
 
-  rows_text : (l : Standing Act Reply) (rs : List Row) → listing_text settings script l (map row rs) ≡ flat_map (row_text script) rs
-  rows_text l [] = refl
-  rows_text l (r ∷ rs) = ap (λ t. row_text script r ++ t) (rows_text l rs) ∙ sym (flat_map-cons (row_text script) r rs)
+  one_text : (l : Standing Act Reply) (rows : List Row) (m : Option Marked) (last : SourceLine) (notes : Notes)
+      → items_text settings layout script l (paged rows m last notes ∷ []) ≡ item_text settings layout script l (paged rows m last notes)
+  one_text l rows m last notes = append-nil (item_text settings layout script l (paged rows m last notes))
 
-  answers_text : (l : Standing Act Reply) (ms : List Marked) → listing_text settings script l (map answer ms) ≡ listed_answers settings l ms
-  answers_text l [] = refl
-  answers_text l (m ∷ ms) = ap (λ t. listed_answer settings l m ++ t) (answers_text (stands_after settings l m) ms)
-
-  -- a listing with further items
-  holds_items : (first old now : Option (List ℕ)) (before after : Gathered) (answers more : List Marked) (lines others : List SourceLine) (ys : List Item) (text : List ℕ)
-      → IsListing script more others ys → listing_text settings script (stands_all settings nothing_stands answers) ys ≡ text
-      → Puts old now before after text → HoldsListing settings script first old before answers lines
-      → HoldsListing settings script first now after (answers ++ more) (lines ++ others)
-  holds_items first old now before after answers more lines others ys text (bring, have, are) is p (xs, (same, has, each), h) = (
-    xs ++ ys,
-    (
-      answers_push xs ys ∙ (λ i. same i ++ bring i),
-      lines_push xs ys ∙ (λ i. has i ++ have i),
-      each_append (IsItemOf script) xs ys each are,
-    ),
-    subst (Holds first now after)
-        (ap (λ t. listing_text settings script nothing_stands xs ++ t) (sym is)
-        ∙ ap (λ a. listing_text settings script nothing_stands xs ++ listing_text settings script (stands_all settings nothing_stands a) ys) (sym same)
-        ∙ sym (text_push nothing_stands xs ys))
-        (p first (listing_text settings script nothing_stands xs) h),
+  -- what pages say of their statements, some after others
+  noted_push : (l : Standing Act Reply) (xs ys : List Item) → AreNoted settings layout.form l xs
+      → AreNoted settings layout.form (stands_all settings l (answers_in xs)) ys → AreNoted settings layout.form l (xs ++ ys)
+  noted_push l [] ys h k = k
+  noted_push l (paged rows m last notes ∷ xs) ys h k = (
+    h.0,
+    noted_push (stands_past settings l m) xs ys h.1 (subst (λ s. AreNoted settings layout.form s ys) (stands_one l m (answers_in xs)) k),
   )
 
-  -- with further rows,
-  pub holds_rows : (first old now : Option (List ℕ)) (before after : Gathered) (answers : List Marked) (lines others : List SourceLine) → PutsRows script others old now before after
-      → HoldsListing settings script first old before answers lines → HoldsListing settings script first now after answers (lines ++ others)
-  holds_rows first old now before after answers lines others (rs, are, have, p) h =
-      subst (λ ms. HoldsListing settings script first now after ms (lines ++ others)) (append-nil answers)
-      (holds_items first old now before after answers [] lines others (map row rs) (flat_map (row_text script) rs) (rows_bring_none rs, rows_lines rs ∙ have, rows_are script rs are)
-      (rows_text (stands_all settings nothing_stands answers) rs) p h)
+  -- a listing with another page
+  pub holds_item : (first old now : Option (List ℕ)) (before after : Gathered) (answers : List Marked) (lines : List SourceLine) (rows : List Row) (m : Option Marked) (last : SourceLine)
+      (notes : Notes) → IsItemOf script (paged rows m last notes)
+      → IsNoted settings layout.form (stands_all settings nothing_stands answers) m notes
+      → Puts old now before after (item_text settings layout script (stands_all settings nothing_stands answers) (paged rows m last notes))
+      → HoldsListing layout settings script first old before answers lines
+      → HoldsListing layout settings script first now after (answers ++ one_of m) (lines ++ lines_of rows)
+  holds_item first old now before after answers lines rows m last notes is noted p (xs, (same, has, each, all_noted), h) =
+      let head = head_in layout.form in
+      let text = items_text settings layout script nothing_stands xs in
+      let its = λ (ms : List Marked). item_text settings layout script (stands_all settings nothing_stands ms) (paged rows m last notes) in
+      let all : items_text settings layout script nothing_stands (xs ++ paged rows m last notes ∷ []) ≡ text ++ its answers =
+      text_push nothing_stands xs (paged rows m last notes ∷ [])
+      ∙ ap (λ t. text ++ t) (one_text (stands_all settings nothing_stands (answers_in xs)) rows m last notes ∙ ap its same) in (
+        xs ++ paged rows m last notes ∷ [],
+        (
+          answers_push xs (paged rows m last notes ∷ []) ∙ (λ i. same i ++ append-nil (one_of m) i),
+          lines_push xs (paged rows m last notes ∷ []) ∙ (λ i. has i ++ append-nil (lines_of rows) i),
+          each_append (IsItemOf script) xs (paged rows m last notes ∷ []) each (is, tt),
+          noted_push nothing_stands xs (paged rows m last notes ∷ []) all_noted
+              (subst (λ ms. IsNoted settings layout.form (stands_all settings nothing_stands ms) m notes) (sym same) noted, tt),
+        ),
+        subst (Holds first now after) (append_assoc head text (its answers) ∙ ap (λ t. head ++ t) (sym all))
+            (p first (listing_text layout settings script xs) h),
+      )
 
-  -- and with further answers
-  pub holds_answers : (first old now : Option (List ℕ)) (before after : Gathered) (answers more : List Marked) (lines : List SourceLine) (text : List ℕ)
-      → text ≡ listed_answers settings (stands_all settings nothing_stands answers) more → Puts old now before after text
-      → HoldsListing settings script first old before answers lines → HoldsListing settings script first now after (answers ++ more) lines
-  holds_answers first old now before after answers more lines text is p h =
-      subst (HoldsListing settings script first now after (answers ++ more)) (append-nil lines)
-      (holds_items first old now before after answers more lines [] (map answer more) text (answers_bring more, answers_lines more, answers_are script more)
-      (answers_text (stands_all settings nothing_stands answers) more ∙ sym is) p h)
+  -- a listing that has only begun
+  pub holds_head : (first old now : Option (List ℕ)) (before after : Gathered) → Puts old now before after (head_in layout.form) → Holds first old before []
+      → HoldsListing layout settings script first now after [] []
+  holds_head first old now before after p h =
+      ([], (refl, refl, tt, tt), subst (Holds first now after) (sym (append-nil (head_in layout.form))) (p first [] h))
 
-  -- What the end of a script brings: rows and answers, twice.
-  pub holds_end : (first a b c d e : Option (List ℕ)) (f g h i j : Gathered) (answers more also : List Marked) (lines xs ys : List SourceLine) (text others : List ℕ)
-      → PutsRows script xs a b f g → Puts b c g h text → PutsRows script ys c d h i → Puts d e i j others
-      → text ≡ listed_answers settings (stands_all settings nothing_stands answers) more
-      → others ≡ listed_answers settings (stands_all settings nothing_stands (answers ++ more)) also
-      → HoldsListing settings script first a f answers lines → HoldsListing settings script first e j ((answers ++ more) ++ also) ((lines ++ xs) ++ ys)
-  holds_end first a b c d e f g h i j answers more also lines xs ys text others p q r s is are held =
-      holds_answers first d e i j (answers ++ more) also ((lines ++ xs) ++ ys) others are s
-      (holds_rows first c d h i (answers ++ more) (lines ++ xs) ys r
-      (holds_answers first b c g h answers more (lines ++ xs) text is q (holds_rows first a b f g answers lines xs p held)))
+  -- and its first page, without an answer
+  pub holds_file : (first old now : Option (List ℕ)) (before after : Gathered) → PutsFilePage layout script old now before after
+      → HoldsListing layout settings script first old before [] [] → HoldsListing layout settings script first now after [] []
+  holds_file first old now before after (rows, are, have, p) h =
+      let l = stands_all settings nothing_stands [] in
+      let text = flat_map (row_in layout.form script) rows in
+      let none : SourceLine = record { number = 0; start = 0; end = 0 } in
+      let notes : Notes = record { cause = []; name = []; pool = [] } in
+      let same : (if is_written layout None then text else []) ≡ item_text settings layout script l (paged rows None none notes) =
+      sym (ap (λ (t : List ℕ). if is_written layout None then t else []) (append-nil text)) in
+      subst (λ ls. HoldsListing layout settings script first now after [] ls) have
+      (holds_item first old now before after [] [] rows None none notes are tt (subst (Puts old now before after) same p) h)

@@ -1,4 +1,4 @@
--- Lines of a script that were taken, and what stands in front of them.
+-- Lines of a script that were taken, and what is before them.
 use Rattle.std.proofs.Common.{◌≡◌, ◌≢◌, inl, inr, ℕ, zero, suc, ◌+◌, ◌-◌, ◌<◌, ◌≤◌, List, [], ◌∷◌, ◌++◌, length, take, drop, get_or, Some, Ok, refl, sym, ap, subst, ◌∙◌, arith, zero-add, append_assoc}
 use Rattle.std.proofs.lemmas.List.{append-nil, length-append, length-drop, length-take-le, take_all}
 use Rattle.std.specs.List.{flat_map, AllByRecursion}
@@ -11,7 +11,8 @@ use Rattle.script_steps.specs.declared.session.Session.{Session}
 use Rattle.script_steps.specs.declared.steps.Step.{Step}
 use Rattle.statement_faults.specs.declared.lines.SourceLine.{SourceLine}
 use Rattle.explain_list.specs.Pages.{TakesLast, line_of, open_of, shown_of}
-use Rattle.explain_list.specs.Rows.{AreAllLines, AreFirstLines, Follow, IsLineAt, IsLineStart}
+use Rattle.explain_list.specs.Pages.{AreAllLines, AreFirstLines, Follow, IsLineStart}
+use Rattle.list_rows.specs.Rows.{IsLineAt}
 use Rattle.explain_list.specs.declared.pages.ListingPage.{ListingPage}
 
 each_at : (xs : List ℕ) (n : ℕ) → n < length xs → NoFeed xs → get_or xs n 0 ≢ 10
@@ -51,7 +52,7 @@ each_plain [] h = tt
 each_plain (line ∷ lines) h = (h.0.0, each_plain lines h.1)
 
 module _ (settings : Settings) (script : List ℕ) (at : ℕ) (answers : List Marked) (s : Session) where
-  -- whole lines stand before a line that begins there
+  -- whole lines precede a line that begins there
   lines_before : (took : Took settings (take at script) answers s) → IsLineStart script at → at ≤ length script
       → take at script ≡ flat_map with_feed took.lines
   lines_before took start inside =
@@ -74,7 +75,7 @@ module _ (settings : Settings) (script : List ℕ) (at : ℕ) (answers : List Ma
     ends = inr over.feed;
   }
 
-  -- and what stands after the last line feed
+  -- and what follows the last line feed
   pub rest_line : (line : SourceLine) → Took settings (take at script) answers s → IsLineStart script at → at ≤ length script
       → line.start ≡ at → line.end ≡ length script → (s.lines ≤ 1048576 → line.number ≡ s.lines + 1) → NoFeed (drop at script) → IsLineAt script line
   rest_line line took start inside begins ends is plain = record {
@@ -91,7 +92,7 @@ module _ (settings : Settings) (script : List ℕ) (at : ℕ) (answers : List Ma
     ends = inl ends;
   }
 
--- lines that follow one another, and one line more
+-- lines that follow one another, and another line
 follow_more : (from to next : ℕ) (xs : List SourceLine) (line : SourceLine) → Follow from xs to → line.start ≡ to → line.end + 1 ≡ next
     → Follow from (xs ++ line ∷ []) next
 follow_more from to next [] line h begins ends = (begins ∙ sym h, ends)

@@ -4,12 +4,12 @@ use Rattle.std.specs.Prelude.{slice_get}
 use Rattle.std.specs.List.{AllByRecursion}
 use Rattle.macro_operands.specs.declared.faults.FaultKind.{FaultKind}
 use Rattle.script_steps.proofs.Feeds.{each_push}
-use Rattle.statement_faults.specs.Places.{first_card, further_cards, MarksOperand}
+use Rattle.statement_faults.specs.Places.{caret_width, first_card, further_cards, MarksOperand}
 use Rattle.statement_faults.specs.declared.carets.Caret.{Caret}
 use Rattle.statement_faults.specs.declared.lines.SourceLine.{SourceLine}
 use Rattle.statement_faults.specs.declared.roles.Role.{Role}
 use Rattle.explain_list.specs.Pages.{AreLinesOf, IsPage, open_of, shown_of}
-use Rattle.explain_list.specs.Rows.{IsCaretAt, IsLineAt}
+use Rattle.list_rows.specs.Rows.{IsCaretAt, IsLineAt}
 use Rattle.explain_list.specs.declared.pages.ListingPage.{ListingPage}
 
 each_get : {X : Type 0} (P : X → Type 0) (xs : List X) (i : ℕ) (d : X) → i < length xs → AllByRecursion P xs → P (get_or xs i d)
@@ -26,7 +26,7 @@ pub if_some : {X : Type 0} (P Q : X → Type 0) (o : Option X) → ((x : X) → 
 if_some P Q None f h = tt
 if_some P Q (Some x) f h = f x h
 
--- lines that are there, or none
+-- lines that exist, or none
 pub none_of : (script : List ℕ) (lines : List SourceLine) → lines ≡ [] → AllByRecursion (IsLineAt script) lines
 none_of script lines is = subst (AllByRecursion (IsLineAt script)) (sym is) tt
 
@@ -78,10 +78,17 @@ shown_line script page shown i d h (inl is) inside =
 shown_line script page shown i d h (inr is) inside =
     each_get (IsLineAt script) shown i d inside (none_of script shown is)
 
+pub shown_are : (script : List ℕ) (page : ListingPage) → IsPage script page → AllByRecursion (IsLineAt script) (shown_of page)
+shown_are script page h =
+    elim (either_of (is_some page.last) page.lines.lines.items) [
+      | inl e ↦ subst (AllByRecursion (IsLineAt script)) (sym e) h.lines.each
+      | inr e ↦ none_of script (shown_of page) e
+    ]
+
 -- and the caret of the fault that is shown is on one of them
 pub caret_on : (script : List ℕ) (page : ListingPage) (shown : List SourceLine) (i : ℕ) (d : SourceLine) (caret : Caret) (kind : FaultKind) → IsPage script page
     → (shown ≡ page.lines.lines.items) ⊎ (shown ≡ []) → i < length shown → page.fault ≡ Some (caret, kind) → caret.place.line ≡ i
-    → IsCaretAt script (get_or shown i d) caret.place.column kind
+    → IsCaretAt script (get_or shown i d) caret.place.column (caret_width kind caret) kind
 caret_on script page shown i d caret kind h (inl is) inside fault on = record {
   lines = page.lines.lines.items;
   each = h.lines.each;
@@ -89,6 +96,7 @@ caret_on script page shown i d caret kind h (inl is) inside fault on = record {
   marks = subst (λ f. IfSome f (λ x. MarksOperand (first_card script page.lines.lines.items) (further_cards script page.lines.lines.items) x.1 x.0)) fault h.marks;
   on = (λ j. slice_get (sym is j) (on j)) ∙ get_some shown i d inside;
   column = refl;
+  width = refl;
 }
 caret_on script page shown i d caret kind h (inr is) inside fault on =
     absurd (let none : length shown ≡ 0 = ap (λ (xs : List SourceLine). length xs) is in omega (arith, none, inside))

@@ -13,7 +13,7 @@ use Rattle.script_steps.specs.declared.session.Session.{Session}
 use Rattle.script_steps.specs.declared.session.TooLong.{TooLong}
 use Rattle.text_output.specs.Writing.{AppendsFront, Holds}
 use Rattle.text_output.specs.declared.writing.Gathered.{Gathered}
-use Rattle.explain_list.specs.Rows.{CheckLine, check_text, IsCheckLine}
+use Rattle.list_rows.specs.Rows.{CheckLine, check_text, IsCheckLine}
 use Rattle.explain_list.specs.declared.faults.ListFault.{ListFault}
 use Rattle.explain_list.specs.declared.faults.ListFault.TheVariants as fault
 
@@ -26,13 +26,13 @@ IsNewFault settings new_fault.NoMemory = settings_valid settings ≡ true
 abbrev pub AreAnswers : Settings → List ℕ → List Marked → Type 0
 AreAnswers settings script answers = Ended settings script answers ⊎ PassesBound settings script answers
 
--- The writer holds lines that begin with this name and a place, but for what is gathered;
+-- The writer holds lines that begin with this name and a place, except what is gathered;
 abbrev pub HoldsChecks : List ℕ → Option (List ℕ) → Option (List ℕ) → Gathered → Type 0
 HoldsChecks name at_first now g =
     (lines : List CheckLine) × AllByRecursion IsCheckLine lines
     × Holds at_first now g (flat_map (check_text name) lines)
 
--- such lines stand behind what it held at first, or a front of them.
+-- such lines follow what it held at first, or a prefix of them does.
 abbrev pub AppendsChecks : List ℕ → Option (List ℕ) → Option (List ℕ) → Type 0
 AppendsChecks name at_first now =
     (lines : List CheckLine) × AllByRecursion IsCheckLine lines
@@ -43,7 +43,7 @@ AppendsFrontOfChecks name at_first now =
     (lines : List CheckLine) × AllByRecursion IsCheckLine lines
     × AppendsFront at_first now (flat_map (check_text name) lines)
 
--- Whether an answer of the script is a refusal is told, and what goes out is lines with this name and a place.
+-- It says whether an answer of the script is a refusal, and what goes out is lines with this name and a place.
 abbrev pub Checked : Settings → List ℕ → List ℕ → Option (List ℕ) → Option (List ℕ) → Result Bool ListFault → Type 0
 Checked settings script name at_first now (Ok wrong) =
     (answers : List Marked) × Ended settings script answers

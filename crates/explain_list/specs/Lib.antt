@@ -1,4 +1,3 @@
 pub mod Checked
 pub mod Listing
 pub mod Pages
-pub mod Rows

@@ -1,12 +1,12 @@
 -- The lines of the statement that is open or shown.
 use Rattle.std.specs.Prelude.{◌≡◌, ◌≤◌, ◌<◌, ◌⊎◌, List, [], ◌∷◌, ◌++◌, ℕ, ◌-◌, if◌then◌else◌, is_some, length}
-use Rattle.std.specs.Prelude.{IfSome, Option, Some, None, Result, Ok, Err}
+use Rattle.std.specs.Prelude.{◌+◌, slice_index, IfSome, Option, Some, None, Result, Ok, Err}
 use Rattle.std.specs.List.{AllByRecursion}
 use Rattle.script_steps.specs.declared.session.TooLong.{TooLong}
 use Rattle.script_steps.specs.declared.steps.Step.{Step}
 use Rattle.statement_faults.specs.Places.{first_card, further_cards, MarksOperand}
 use Rattle.statement_faults.specs.declared.lines.SourceLine.{SourceLine}
-use Rattle.explain_list.specs.Rows.{IsLineAt}
+use Rattle.list_rows.specs.Rows.{IsLineAt}
 use Rattle.explain_list.specs.declared.pages.ListingPage.{ListingPage}
 
 -- The line that was taken in a step, without its line feed.
@@ -48,8 +48,29 @@ pub record IsPage (script : List ℕ) (page : ListingPage) : Type 0 where
       IfSome page.fault (λ f. MarksOperand (first_card script page.lines.lines.items)
       (further_cards script page.lines.lines.items) f.1 f.0)
 
--- So they are after a line that was taken; and the lines still are where none was.
+-- So they are after a line that was taken; and if none was, the lines still are.
 abbrev pub IsPageAfter : List ℕ → Result (Option Step) TooLong → ListingPage → Type 0
 IsPageAfter script (Ok (Some step)) page = IsPage script page
 IsPageAfter script (Ok None) page = AreLinesOf script page
 IsPageAfter script (Err e) page = Unit {0}
+
+-- A line begins at this place of a script.
+abbrev pub IsLineStart : List ℕ → ℕ → Type 0
+IsLineStart script at = (at ≡ 0) ⊎ (slice_index script (at - 1) ≡ 10)
+
+-- Lines follow one another from one place of a script to another: each begins after the line feed of the one before.
+abbrev pub Follow : ℕ → List SourceLine → ℕ → Type 0
+Follow from [] to = from ≡ to
+Follow from (line ∷ lines) to = (line.start ≡ from) × Follow (line.end + 1) lines to
+
+-- They are all lines of the script: what follows its last line feed is one if it has any bytes.
+abbrev pub EndsWith : List ℕ → List SourceLine → SourceLine → Type 0
+EndsWith script lines line =
+    Follow 0 lines (line.end + 1) × (line.start < length script) × (line.end ≡ length script)
+
+abbrev pub AreAllLines : List ℕ → List SourceLine → Type 0
+AreAllLines script lines = Follow 0 lines (length script) ⊎ ((line : SourceLine) × EndsWith script lines line)
+
+-- Or the first ones.
+abbrev pub AreFirstLines : List SourceLine → Type 0
+AreFirstLines lines = (to : ℕ) × Follow 0 lines to

@@ -7,10 +7,13 @@ ghost use Rattle.explain_list.specs.Checked.{Checked, HoldsChecks, IsReached, Re
 ghost use Rattle.explain_list.specs.Listing.{IsRest, Shows};
 
 use crate::faults::ListFault;
+use crate::layouts::Layout;
 use crate::listing::{listing, rest_from};
 use crate::pages::{ListingPage, rest_line};
-use crate::places::{put_checks, put_file_check};
+use crate::places::put_checks;
 use bench_core::Bench;
+use list_rows::put_file_check;
+use macro_reader::Request;
 use script_steps::{Session, TooLong, Watch};
 use std::alloc::Global;
 use std::io::Write;
@@ -20,8 +23,8 @@ use vsm_model::Settings;
 /// What is shown of a script.
 #[derive(Clone, Copy)]
 pub enum Shown<'a> {
-    /// Its listing.
-    Listing,
+    /// Its listing, in this layout.
+    Listing(Layout),
     /// A line for each fault and each warning, `FILE:LINE:COLUMN: text`, with this name of the file.
     Check(&'a [u8]),
 }
@@ -42,9 +45,10 @@ fn check_lines<W: Write, P: Watch>(
     ensures holds { (first : Option (List ℕ)) → HoldsChecks name.now first (W.contents writer.old) gathered.old
         → HoldsChecks name.now first (W.contents writer.new) gathered.new }
 {
+    let mut request = Request::Map;
     let mut at = 0;
     while at < script.len() {
-        match page.take_line(session, script, at) {
+        match page.take_line(session, script, at, &mut request) {
             Err(fault) => return Err(fault),
             Ok(None) => return Ok(at),
             Ok(Some(step)) => {
@@ -57,7 +61,7 @@ fn check_lines<W: Write, P: Watch>(
     Ok(at)
 }
 
-/// Checks what stands after the last line feed, and the end of the script.
+/// Checks what follows the last line feed, and the end of the script.
 fn check_end<W: Write>(
     session: Session,
     gathered: &mut Gathered,
@@ -98,7 +102,7 @@ fn stop<W: Write>(gathered: &mut Gathered, writer: &mut W) -> Result<bool, ListF
     }
 }
 
-/// Takes what stands after the last line feed, and checks it and the end of the script.
+/// Takes what follows the last line feed, and checks it and the end of the script.
 fn check_rest<W: Write>(
     session: Session,
     gathered: &mut Gathered,
@@ -127,6 +131,7 @@ fn check_rest<W: Write>(
 
 /// Checks a script on a new bench.
 fn check_on<W: Write, P: Watch>(
+    alloc: Global,
     bench: Bench,
     script: &[u8],
     name: &[u8],
@@ -138,7 +143,7 @@ fn check_on<W: Write, P: Watch>(
 {
     let mut session = Session::new(bench);
     let mut gathered = Gathered::new();
-    let mut page = ListingPage::new();
+    let mut page = ListingPage::new(alloc);
     put_file_check(&mut gathered, out, script, name);
     match check_lines(
         &mut session,
@@ -169,17 +174,18 @@ fn checking<W: Write, P: Watch>(
     ensures { Checked settings script.now name.now (W.contents out.old) (W.contents out.new) result }
 {
     match Bench::new(alloc, settings) {
-        Ok(bench) => check_on(bench, script, name, out, watch),
+        Ok(bench) => check_on(alloc, bench, script, name, out, watch),
         Err(fault) => Err(ListFault::New(fault)),
     }
 }
 
 /// Shows a script: its listing, each line with its number, after the last line of a statement its answer, and below
-/// the first operand that is wrong a caret with what is expected; lines that aren't carried out have an `x`. Or only a
-/// line for each fault and each warning.
+/// the first operand that is wrong a caret with what is expected; lines that aren't carried out have an `x`; or an
+/// object of JSON for each of these except lines; all, or only refused statements. Or only a line for each fault and
+/// each warning.
 ///
-/// Gives whether a statement was refused or faulty. `TooLong` comes after the lines before that one; `Write` after a
-/// front of what is shown; `New` with nothing written.
+/// Gives whether a statement was refused or faulty. `TooLong` follows the lines before that one; `Write` a prefix of
+/// what is shown, also if no memory is left for the text of a cause; `New` with nothing written.
 pub fn list<W: Write, P: Watch>(
     alloc: Global,
     script: &[u8],
@@ -191,7 +197,7 @@ pub fn list<W: Write, P: Watch>(
     ensures { Shows settings script.now shown.entry (W.contents out.old) (W.contents out.new) result }
 {
     match shown {
-        Shown::Listing => listing(alloc, script, settings, out, watch),
+        Shown::Listing(layout) => listing(alloc, script, settings, layout, out, watch),
         Shown::Check(name) => checking(alloc, script, settings, name, out, watch),
     }
 }

@@ -1,14 +1,14 @@
 //! Listings of scripts: each line with its answer, and where a statement is wrong.
 #![tactic(auto)]
 
+mod answers;
 mod checking;
 mod faults;
-mod laws;
+mod layouts;
 mod listing;
 mod pages;
 mod places;
-mod rows;
 
 pub use checking::{Shown, list};
 pub use faults::ListFault;
-pub use laws::rows_begin_as_no_answer;
+pub use layouts::Layout;

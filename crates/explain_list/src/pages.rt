@@ -1,19 +1,22 @@
 //! The lines of the statement that is shown, and what each of them is.
 ghost use Rattle.std.specs.Prelude.{◌≡◌, ◌≤◌, ◌+◌, ◌∷◌, ◌++◌, ℕ, List, [], None, Some, true, false, IfSome};
 ghost use Rattle.std.specs.Prelude.{length, take};
+ghost use Rattle.macro_statements.specs.Requests.{asked_in};
 ghost use Rattle.vsm_model.specs.declared.limits.Settings.{Settings};
 ghost use Rattle.script_steps.specs.Output.{Marked};
-ghost use Rattle.script_steps.specs.Steps.{ShowsStep, StepsOver, TakesStep};
+ghost use Rattle.script_steps.specs.Steps.{AsksStep, StepsOver, TakesStep};
 ghost use Rattle.script_steps.specs.Taken.{Took};
 ghost use Rattle.statement_faults.specs.Places.{first_card, further_cards, MarksOperand};
 ghost use Rattle.explain_list.specs.Pages.{AreLinesOf, IsPage, IsPageAfter, TakesLast, TakesLine, line_of};
-ghost use Rattle.explain_list.specs.Pages.{open_of, shown_of};
-ghost use Rattle.explain_list.specs.Rows.{IsLineAt, IsLineBefore, IsLineStart};
+ghost use Rattle.explain_list.specs.Pages.{IsLineStart, open_of, shown_of};
+ghost use Rattle.list_rows.specs.Rows.{IsLineAt, IsLineBefore};
 
+use macro_reader::Request;
 use script_steps::{Ending, FaultKind, ReaderState, Response, Session, Step, TooLong};
 use statement_faults::carets::{Caret, caret_of};
 use statement_faults::lines::{OpenLines, SourceLine};
 use statement_faults::roles::{Brought, Role, role_of};
+use std::alloc::Global;
 
 /// What a line brings, by the answer to it.
 fn brought_by(told: &Option<(u32, Response)>) -> Brought {
@@ -42,7 +45,7 @@ fn is_next(before: &SourceLine, line: &SourceLine) -> bool
     before.number < line.number && line.number - before.number == 1
 }
 
-/// What stands after the last line feed of a script, as a line after so many.
+/// What follows the last line feed of a script, as a line after this many.
 pub(crate) fn rest_line(lines: u32, script: &[u8], at: usize) -> SourceLine
     ensures number { lines ≤ 1048576 → result.number ≡ lines + 1 }
     ensures start { result.start ≡ at }
@@ -55,7 +58,7 @@ pub(crate) fn rest_line(lines: u32, script: &[u8], at: usize) -> SourceLine
     }
 }
 
-/// Where the statement of these lines is wrong, if it brings a fault.
+/// The place at which the statement of these lines is wrong, if it has a fault.
 fn fault_of(script: &[u8], lines: &OpenLines, brought: Brought) -> Option<(Caret, FaultKind)>
     ensures { IfSome result (λ f. MarksOperand (first_card script.now lines.now.lines.items)
         (further_cards script.now lines.now.lines.items) f.1 f.0) }
@@ -78,10 +81,12 @@ pub(crate) struct ListingPage {
     current: Option<SourceLine>,
     /// The line before that.
     before: Option<SourceLine>,
+    /// Gives memory for the text of a cause.
+    alloc: Global,
 }
 
 impl ListingPage {
-    pub(crate) fn new() -> ListingPage
+    pub(crate) fn new(alloc: Global) -> ListingPage
         ensures lines { (script : List ℕ) → AreLinesOf script result }
         ensures open { open_of result ≡ [] }
     {
@@ -91,10 +96,16 @@ impl ListingPage {
             fault: None,
             current: None,
             before: None,
+            alloc,
         }
     }
 
-    /// Nothing is shown any more. An open statement keeps its lines.
+    /// Gives memory for the text of a cause.
+    pub(crate) fn alloc(&self) -> Global {
+        self.alloc
+    }
+
+    /// Nothing is shown any longer. An open statement keeps its lines.
     fn hide(&mut self)
         ensures lines { (script : List ℕ) → AreLinesOf script self.old → AreLinesOf script self.new }
         ensures open { open_of self.new ≡ open_of self.old }
@@ -164,7 +175,7 @@ impl ListingPage {
         }
     }
 
-    /// Takes a line that was taken, where the reader stood before it and stands after it.
+    /// Takes a line that was taken, by the reader's state before and after it.
     fn take_step(
         &mut self,
         script: &[u8],
@@ -195,6 +206,16 @@ impl ListingPage {
         match self.last {
             Some(_) => self.lines.as_slice(),
             None => &[],
+        }
+    }
+
+    /// The last of these lines; this one if there is none.
+    pub(crate) fn last_line(&self, line: SourceLine) -> SourceLine
+        ensures { (script : List ℕ) → AreLinesOf script self.now → IsLineAt script line → IsLineAt script result }
+    {
+        match self.lines().last() {
+            Some(last) => *last,
+            None => line,
         }
     }
 
@@ -279,20 +300,21 @@ impl ListingPage {
         }
     }
 
-    /// Takes the line that begins at a place of the script, as `Session::take_line` does, and shows what it answers.
+    /// Takes the line that begins at a place of the script, as `Session::take_line_into` does, and shows what it answers.
     pub(crate) fn take_line(
         &mut self,
         session: &mut Session,
         script: &[u8],
         at: usize,
+        request: &mut Request,
     ) -> Result<Option<Step>, TooLong>
         requires { at ≤ length script.now }
         ensures takes { (settings : Settings) (answers : List Marked)
             → Took settings (take at script.now) answers session.old
             → TakesStep settings script.now at answers session.new result }
-        ensures shows { (settings : Settings) (answers : List Marked)
+        ensures asks { (settings : Settings) (answers : List Marked)
             → Took settings (take at script.now) answers session.old
-            → ShowsStep settings script.now answers session.new result }
+            → AsksStep settings script.now answers session.new result (asked_in request.new) }
         ensures place { StepsOver script.now at result }
         ensures page { (settings : Settings) (answers : List Marked)
             → Took settings (take at script.now) answers session.old → IsLineStart script.now at
@@ -301,7 +323,7 @@ impl ListingPage {
     {
         let before = session.stand();
         let number = session.lines().saturating_add(1);
-        match session.take_line(script, at) {
+        match session.take_line_into(script, at, request) {
             Err(fault) => Err(fault),
             Ok(None) => Ok(None),
             Ok(Some(step)) => {

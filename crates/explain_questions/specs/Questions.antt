@@ -1,4 +1,4 @@
--- What is asked of a script, by what was read of the words.
+-- What is asked about a script, by what was read of the arguments.
 use Rattle.std.specs.Prelude.{◌≡◌, ◌⊎◌, ◌≤◌, ◌<◌, ◌+◌, ◌&&◌, ◌||◌, ◌==◌, ℕ, List, [], ◌++◌, codes, drop, length}
 use Rattle.std.specs.Prelude.{if◌then◌else◌, map, nat_le, nat_lt, slice_index_or, true, false, ⊤, IfSome}
 use Rattle.std.specs.Prelude.{Bool, Option, Some, None, is_some, option_map, unwrap_or}
@@ -7,6 +7,8 @@ use Rattle.std.specs.Option.{option_map_or}
 use Rattle.std.specs.Str.{bytes_eq}
 use Rattle.std.specs.Char.{to_ascii_uppercase}
 use Rattle.clap.specs.Words.{Row, Text, first_of}
+use Rattle.listed_text.specs.declared.json.Form.{Form}
+use Rattle.listed_text.specs.declared.json.Form.TheVariants as form
 use Rattle.operand_texts.specs.Values.{number_of}
 use Rattle.operand_texts.specs.Words.{is_name}
 use Rattle.vsm_bench.specs.Settings.{settings_asked}
@@ -73,25 +75,26 @@ IsThere _ = ⊤
 abbrev pub IsAskable : Question → Type 0
 IsAskable (question.Why line) = IsLine line
 IsAskable (question.Report line) = IfSome line IsLine
+IsAskable (question.Areas line longest) = IfSome line IsLine
 IsAskable (question.OverTime subpool) = IfSome subpool IsSeenThere
 IsAskable (question.Who it) = IsThere it
 IsAskable _ = ⊤
 
--- The script is the one that is named, where one is read.
+-- The script is the one that is named, if one is read.
 abbrev pub IsOfFile : List Row → Question → Option Text → Type 0
 IsOfFile rows (question.Code first second) file = file ≡ None
 IsOfFile rows _ file = file ≡ first_of (codes "FILE") rows
 
--- ---- what the words of a command say
+-- ---- what the arguments of a command say
 
--- the option is written
+-- the option is given
 abbrev pub is_set : Text → List Row → Bool
 is_set name rows = option_map_or (λ text. bytes_eq text (codes "true")) (first_of name rows) false
 
 abbrev pub is_given : Text → List Row → Bool
 is_given name rows = is_some (first_of name rows)
 
--- a word that begins with a digit is meant as a line
+-- an argument that begins with a digit is meant as a line
 abbrev pub is_line : Text → Bool
 is_line text = nat_lt 0 (length text) && nat_le 48 (slice_index_or text 0 0) && nat_le (slice_index_or text 0 0) 57
 
@@ -118,7 +121,7 @@ register_in text =
     if has_comma text then both (number_within 1 255 (before_comma text)) (number_within 0 15 (after_comma text))
     else None
 
--- a task and the number of a subpool; without a task it's task 1
+-- a task and the number of a subpool; task 1 if none is written
 abbrev pub seen_in : Text → Option (ℕ × ℕ)
 seen_in text =
     if has_comma text then both (number_within 1 255 (before_comma text)) (number_within 0 127 (after_comma text))
@@ -129,7 +132,7 @@ abbrev pub count_in : Option Text → Option ℕ
 count_in None = Some 1
 count_in (Some text) = number_within 1 256 text
 
--- A word that may be left out says this.
+-- What an argument says that may be left out.
 abbrev pub Says : {X : Type 0} → (Text → Option X) → Option Text → Option X → Type 0
 Says of None None = ⊤
 Says of (Some text) (Some x) = of text ≡ Some x
@@ -137,7 +140,7 @@ Says of _ _ = ⊥
 
 -- ---- what they ask
 
--- `why` asks of a line if its second word is meant as one, else what an answer of one or two words means.
+-- `why` asks about a line if its second argument is meant as one, else what an answer of one or two words means.
 abbrev pub IsWhyAsked : List Row → Question → Type 0
 IsWhyAsked rows (question.Why line) =
     (text : Text) × (first_of (codes "LINE") rows ≡ Some text) × (is_line text ≡ true) × (line_in text ≡ Some line)
@@ -147,17 +150,20 @@ IsWhyAsked rows (question.Code first second) =
     × (option_map_or is_line (first_of (codes "LINE") rows) false ≡ false)
 IsWhyAsked rows _ = ⊥
 
--- `report` asks of the statement of a line, or of the last; with --areas of what is taken at the end; with --over-time
--- of each statement, of all storage or of a subpool.
+-- `report` asks of the statement of a line, or of the last; with --areas of what is taken then, with --longest the
+-- longest first; with --over-time of each statement, of all storage or of a subpool.
 abbrev pub IsReportAsked : List Row → Question → Type 0
 IsReportAsked rows (question.Report line) =
     (is_set (codes "over-time") rows ≡ false) × (is_set (codes "areas") rows ≡ false)
-    × (is_given (codes "subpool") rows ≡ false) × Says line_in (first_of (codes "LINE") rows) line
-IsReportAsked rows question.Areas =
+    × (is_set (codes "longest") rows ≡ false) × (is_given (codes "subpool") rows ≡ false)
+    × Says line_in (first_of (codes "LINE") rows) line
+IsReportAsked rows (question.Areas line longest) =
     (is_set (codes "over-time") rows ≡ false) × (is_set (codes "areas") rows ≡ true)
-    × (is_given (codes "subpool") rows ≡ false) × (is_given (codes "LINE") rows ≡ false)
+    × (is_given (codes "subpool") rows ≡ false) × (longest ≡ is_set (codes "longest") rows)
+    × Says line_in (first_of (codes "LINE") rows) line
 IsReportAsked rows (question.OverTime subpool) =
-    (is_set (codes "over-time") rows ≡ true) × (is_set (codes "areas") rows ≡ false) × (is_given (codes "LINE") rows ≡ false)
+    (is_set (codes "over-time") rows ≡ true) × (is_set (codes "areas") rows ≡ false)
+    × (is_set (codes "longest") rows ≡ false) × (is_given (codes "LINE") rows ≡ false)
     × Says seen_in (first_of (codes "subpool") rows) subpool
 IsReportAsked rows _ = ⊥
 
@@ -196,9 +202,18 @@ IsWhoAsked rows (question.Who it) =
 IsWhoAsked rows question.Log = (is_set (codes "log") rows ≡ true) × (count_asked rows ≤ 1)
 IsWhoAsked rows _ = ⊥
 
+-- only refused statements are asked for
+abbrev pub IsOnly : Option Text → Bool → Type 0
+IsOnly None only = only ≡ false
+IsOnly (Some text) only = (text ≡ codes "refused") × (only ≡ true)
+
 -- `list` asks for the listing, or for the places of faults.
 abbrev pub IsListAsked : List Row → Question → Type 0
-IsListAsked rows (question.List is_check) = is_check ≡ is_set (codes "check") rows
+IsListAsked rows (question.List only) =
+    (is_set (codes "check") rows ≡ false) × IsOnly (first_of (codes "only") rows) only
+IsListAsked rows question.Check =
+    (is_set (codes "check") rows ≡ true) × (is_set (codes "json") rows ≡ false)
+    × (is_given (codes "only") rows ≡ false)
 IsListAsked rows _ = ⊥
 
 -- what a command asks, by its name
@@ -215,11 +230,15 @@ IsWrongWord name of rows text = (first_of name rows ≡ Some text) × (of text �
 
 abbrev pub IsWrong : List Row → WordRefusal → Type 0
 IsWrong rows (refusal.NoLine word) = ⊥
+IsWrong rows (refusal.Only word) =
+    (first_of (codes "only") rows ≡ Some word.now) × (bytes_eq word.now (codes "refused") ≡ false)
+IsWrong rows refusal.CheckWithMore =
+    (is_set (codes "check") rows ≡ true) × (is_set (codes "json") rows || is_given (codes "only") rows ≡ true)
 IsWrong rows (refusal.Line word) = IsWrongWord (codes "LINE") line_in rows word.now
 IsWrong rows refusal.LineOverTime =
     (is_set (codes "over-time") rows ≡ true) × (is_given (codes "LINE") rows ≡ true)
-IsWrong rows refusal.LineOfAreas =
-    (is_set (codes "areas") rows ≡ true) × (is_given (codes "LINE") rows ≡ true)
+IsWrong rows refusal.LongestOfAreas =
+    (is_set (codes "longest") rows ≡ true) × (is_set (codes "areas") rows ≡ false)
 IsWrong rows refusal.AreasOverTime =
     (is_set (codes "over-time") rows ≡ true) × (is_set (codes "areas") rows ≡ true)
 IsWrong rows refusal.SubpoolAtOnce =
@@ -236,10 +255,15 @@ IsWrong rows refusal.NothingAsked = count_asked rows ≡ 0
 IsWrong rows refusal.MoreAsked = 1 < count_asked rows
 IsWrong rows refusal.Settings = settings_asked rows ≡ None
 
--- What is asked is what the command's words ask; it can be asked, of the script that they name, under the settings that
--- they name.
+-- the form of the answer
+abbrev pub form_in : List Row → Form
+form_in rows = if is_set (codes "json") rows then form.Json else form.Text
+
+-- What is asked is what the command's arguments ask; it can be asked, about the script and under the settings that they
+-- name, in the form that they name.
 pub record Asks (command : Text) (rows : List Row) (asking : Asking) : Type 0 where
   pub asked : IsAskedBy command rows asking.question
   pub askable : IsAskable asking.question
   pub file : IsOfFile rows asking.question (option_map (λ s. s.now) asking.file)
   pub settings : Some asking.settings ≡ settings_asked rows
+  pub form : asking.form ≡ form_in rows

@@ -1,4 +1,4 @@
-//! What the words of `vsm-explain`'s command line ask for.
+//! What the arguments of `vsm-explain` ask for.
 #![tactic(auto)]
 
 mod questions;

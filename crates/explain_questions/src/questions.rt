@@ -1,4 +1,4 @@
-//! Questions, as words ask them.
+//! Questions, as arguments ask them.
 ghost use Rattle.std.specs.Prelude.{◌≡◌, ◌≤◌, IfErr, IfOk, IfSome, IsSomeAnd, OnErr, None, Some, codes, false, map};
 ghost use Rattle.std.specs.Prelude.{option_map};
 ghost use Rattle.std.specs.Char.{to_ascii_uppercase};
@@ -10,7 +10,7 @@ ghost use Rattle.explain_questions.specs.Questions.{Asks, IsAskable, IsLine, IsO
 ghost use Rattle.explain_questions.specs.Questions.{IsAboutAsked, IsAskedBy, IsListAsked, IsReportAsked, IsWhoAsked};
 ghost use Rattle.explain_questions.specs.Questions.{IsWhyAsked, IsWrong, Says, count_asked, count_in, is_given};
 ghost use Rattle.explain_questions.specs.Questions.{is_line};
-ghost use Rattle.explain_questions.specs.Questions.{both, is_set, line_in, register_in, seen_in};
+ghost use Rattle.explain_questions.specs.Questions.{IsOnly, both, form_in, is_set, line_in, register_in, seen_in};
 ghost use Rattle.explain_questions.specs.Questions.{address_number, hexadecimal, is_marked, is_printed, is_zero_first};
 ghost use Rattle.explain_questions.specs.Questions.{number_within, quoted};
 ghost use Rattle.explain_questions.specs.declared.questions.About.TheVariants as about;
@@ -19,6 +19,7 @@ ghost use Rattle.explain_questions.specs.declared.refusals.WordRefusal.TheVarian
 use crate::refusals::WordRefusal;
 use arrayvec::ArrayVec;
 use clap::ArgMatches;
+use listed_text::Form;
 use operand_texts::Name;
 use operand_texts::numbers::number_of;
 use operand_texts::words::{is_name, upper_name};
@@ -29,44 +30,46 @@ use vsm_model::geometry::LAST_SUBPOOL;
 /// The greatest number of a line.
 const LAST_LINE: u32 = 1_048_576;
 
-/// The most bytes that are asked for at once.
+/// The most bytes that can be asked for at once.
 const MOST_BYTES: u32 = 256;
 
-/// The greatest number that is taken for a task; a storage has fewer.
+/// The greatest number that is accepted for a task; a storage has fewer.
 const LAST_TASK: u32 = 255;
 
 /// The greatest number of a register.
 const LAST_REGISTER: u32 = 15;
 
-/// What is asked for that lines change.
+/// What may be changed by lines.
 #[derive(Clone, Copy)]
 pub enum About {
-    /// So many bytes from this address on.
+    /// Bytes from this address on.
     Bytes { address: u32, count: u32 },
     /// A register of a task.
     Register { task: u8, register: u8 },
-    /// The word of a name.
+    /// The value of a name.
     Name(Name),
     /// What the subpool has that a task sees at a number.
     Subpool { task: u8, number: u8 },
-    /// Whose the page of this address is.
+    /// The subpool that the page of this address belongs to.
     Holder(u32),
     /// How the storage at this address is taken.
     Taken(u32),
 }
 
-/// What is asked of a script.
+/// What is asked about a script.
 #[derive(Clone, Copy)]
 pub enum Question<'a> {
-    /// Its listing, or the places of its faults alone.
+    /// Its listing; perhaps only the refused statements.
     List {
-        is_check: bool,
+        only_refused: bool,
     },
+    /// The places of its faults.
+    Check,
     /// Why the statement of this line was answered as it was.
     Why {
         line: u32,
     },
-    /// What is left behind the statement of this line, or behind the last.
+    /// What is left after the statement of this line, or after the last.
     Report {
         line: Option<u32>,
     },
@@ -74,29 +77,34 @@ pub enum Question<'a> {
     OverTime {
         subpool: Option<(u8, u8)>,
     },
-    /// What is taken at the end, and by which line.
-    Areas,
+    /// What is taken after the statement of this line, or after the last, and by which line; or the longest first.
+    Areas {
+        line: Option<u32>,
+        longest: bool,
+    },
     /// Which lines changed this.
     Who(About),
     /// Which lines made the changes that are kept and undone.
     Log,
-    /// What an answer means, of one word or two; no script is read.
+    /// What an answer of one word or two means; no script is read.
     Code {
         first: &'a str,
         second: Option<&'a str>,
     },
 }
 
-/// A question, with the script of which it's asked and the settings under which that runs.
+/// A question, with the script that it's about and the settings under which that runs.
 #[derive(Clone, Copy)]
 pub struct Asking<'a> {
     pub question: Question<'a>,
     /// `None` for standard input.
     pub file: Option<&'a str>,
     pub settings: Settings,
+    /// The form of the answer.
+    pub form: Form,
 }
 
-/// The number that a word spells as in a script, where that is one from `least` to `most`.
+/// The number that an argument spells as in a script, if it's from `least` to `most`.
 fn number_within(word: &str, least: u32, most: u32) -> Option<u32>
     ensures value { result ≡ number_within least most word.now }
     ensures within { IfSome result (λ n. (least ≤ n) × (n ≤ most)) }
@@ -122,7 +130,7 @@ fn line_of(word: &str) -> Result<u32, WordRefusal<'_>>
     }
 }
 
-/// Whether a word is meant as the number of a line: it begins with a digit.
+/// Whether an argument is meant as the number of a line: it begins with a digit.
 fn is_line(word: &str) -> bool
     ensures { result ≡ is_line word.now }
 {
@@ -152,7 +160,7 @@ fn hexadecimal(digits: &[u8]) -> Option<u32>
     number_of(quoted(digits).as_slice())
 }
 
-/// Whether a text has two bytes at least, of which the first is a 0.
+/// Whether a text has at least two bytes, of which the first is a 0.
 fn is_zero_first(text: &[u8]) -> bool
     ensures { result ≡ is_zero_first text.now }
 {
@@ -166,7 +174,7 @@ fn is_marked(text: &[u8]) -> bool
     is_zero_first(text) && (text[1] == b'x' || text[1] == b'X')
 }
 
-/// Whether a text is like an address that answers print.
+/// Whether a text looks like an address that answers print.
 fn is_printed(text: &[u8]) -> bool
     ensures { result ≡ is_printed text.now }
 {
@@ -187,7 +195,7 @@ fn address_number(text: &[u8]) -> Option<u32>
     }
 }
 
-/// The address that a word spells.
+/// The address that an argument spells.
 fn address_of(word: &str) -> Result<u32, WordRefusal<'_>>
     ensures address { IfOk result (λ address. address_number word.now ≡ Some address) }
     ensures wrong { OnErr result (address_number word.now ≡ None) }
@@ -199,7 +207,7 @@ fn address_of(word: &str) -> Result<u32, WordRefusal<'_>>
     }
 }
 
-/// The count of bytes that a word spells; one where none is written.
+/// The count of bytes that an argument spells; 1 if it's left out.
 fn count_of(word: Option<&str>) -> Result<u32, WordRefusal<'_>>
     ensures count { IfOk result (λ n. count_in (option_map (λ s. s.now) word.entry) ≡ Some n) }
     ensures there { IfOk result (λ n. (1 ≤ n) × (n ≤ 256)) }
@@ -215,7 +223,7 @@ fn count_of(word: Option<&str>) -> Result<u32, WordRefusal<'_>>
     }
 }
 
-/// So many bytes from an address on.
+/// Bytes from an address on.
 fn bytes_of<'a>(address: &'a str, count: Option<&'a str>) -> Result<About, WordRefusal<'a>>
     ensures there { IfOk result IsThere }
     ensures asked { (rows : List Row) → first_of (codes "ADDRESS") rows ≡ Some address.entry.now
@@ -251,7 +259,7 @@ fn register_of(word: &str) -> Result<About, WordRefusal<'_>>
     }
 }
 
-/// Two numbers below 256, if both are there.
+/// Two numbers below 256, if neither is missing.
 fn both(first: Option<u32>, second: Option<u32>) -> Option<(u8, u8)>
     requires first { IfSome first (λ n. n ≤ 255) }
     requires second { IfSome second (λ n. n ≤ 255) }
@@ -280,7 +288,7 @@ fn seen_in(word: &str) -> Option<(u8, u8)>
     }
 }
 
-/// The task and the number of a subpool that a word spells.
+/// The task and the number of a subpool that an argument spells.
 fn seen_of(word: &str) -> Result<(u8, u8), WordRefusal<'_>>
     ensures there { IfOk result IsSeenThere }
     ensures seen { IfOk result (λ seen. seen_in word.entry.now ≡ Some seen) }
@@ -305,7 +313,7 @@ fn subpool_of(word: &str) -> Result<About, WordRefusal<'_>>
     Ok(About::Subpool { task, number })
 }
 
-/// Whose the page of an address is.
+/// The subpool that the page of an address belongs to.
 fn holder_of(word: &str) -> Result<About, WordRefusal<'_>>
     ensures there { IfOk result IsThere }
     ensures asked { (rows : List Row) → first_of (codes "holds") rows ≡ Some word.entry.now
@@ -327,7 +335,7 @@ fn taken_of(word: &str) -> Result<About, WordRefusal<'_>>
     Ok(About::Taken(address_of(word)?))
 }
 
-/// The word of a name.
+/// The value of a name.
 fn name_of(word: &str) -> Result<About, WordRefusal<'_>>
     ensures there { IfOk result IsThere }
     ensures asked { (rows : List Row) → first_of (codes "name") rows ≡ Some word.entry.now
@@ -343,7 +351,7 @@ fn name_of(word: &str) -> Result<About, WordRefusal<'_>>
     }
 }
 
-/// A question with the script of which it's asked.
+/// A question with the script that it's about.
 type AskedOfScript<'a> = (Question<'a>, Option<&'a str>);
 
 /// The first value of an argument.
@@ -353,7 +361,7 @@ fn text_of<'a>(matches: &ArgMatches<'a>, id: &str) -> Option<&'a str>
     matches.get_str(id)
 }
 
-/// Whether an option that takes no value is written.
+/// Whether an option without a value is given.
 fn is_set(matches: &ArgMatches<'_>, id: &str) -> bool
     ensures { result ≡ is_set id.now (rows_of (found_of matches.now)) }
 {
@@ -363,24 +371,48 @@ fn is_set(matches: &ArgMatches<'_>, id: &str) -> bool
     }
 }
 
-/// Whether an option or operand is written.
+/// Whether an option or operand is given.
 fn is_given(matches: &ArgMatches<'_>, id: &str) -> bool
     ensures { result ≡ is_given id.now (rows_of (found_of matches.now)) }
 {
     text_of(matches, id).is_some()
 }
 
-/// What `list` asks.
-fn list_asked<'a>(matches: &ArgMatches<'a>) -> AskedOfScript<'a>
-    ensures asked { IsListAsked (rows_of (found_of matches.now)) result.0 }
-    ensures askable { IsAskable result.0 }
-    ensures file { IsOfFile (rows_of (found_of matches.now)) result.0 (option_map (λ s. s.now) result.1) }
+/// Whether only refused statements are asked for: all are, if the argument isn't given.
+fn only_asked(word: Option<&str>) -> Result<bool, WordRefusal<'_>>
+    ensures only { IfOk result (IsOnly (option_map (λ s. s.now) word.entry)) }
+    ensures wrong { (rows : List Row) → option_map (λ s. s.now) word.entry ≡ first_of (codes "only") rows
+        → IfErr result (IsWrong rows) }
 {
-    let is_check = is_set(matches, "check");
-    (Question::List { is_check }, text_of(matches, "FILE"))
+    let Some(word) = word else {
+        return Ok(false);
+    };
+    if word == "refused" {
+        Ok(true)
+    } else {
+        Err(WordRefusal::Only(word))
+    }
 }
 
-/// What `why` asks: of a line, or of an answer where what stands behind its first word is no line.
+/// What `list` asks.
+fn list_asked<'a>(matches: &ArgMatches<'a>) -> Result<AskedOfScript<'a>, WordRefusal<'a>>
+    ensures asked { IfOk result (λ a. IsListAsked (rows_of (found_of matches.now)) a.0) }
+    ensures wrong { IfErr result (IsWrong (rows_of (found_of matches.now))) }
+    ensures askable { IfOk result (λ a. IsAskable a.0) }
+    ensures file { IfOk result (λ a. IsOfFile (rows_of (found_of matches.now)) a.0 (option_map (λ s. s.now) a.1)) }
+{
+    let file = text_of(matches, "FILE");
+    if !is_set(matches, "check") {
+        let only_refused = only_asked(text_of(matches, "only"))?;
+        Ok((Question::List { only_refused }, file))
+    } else if is_set(matches, "json") || is_given(matches, "only") {
+        Err(WordRefusal::CheckWithMore)
+    } else {
+        Ok((Question::Check, file))
+    }
+}
+
+/// What `why` asks: about a line, or about an answer if its second argument isn't the number of a line.
 fn why_asked<'a>(matches: &ArgMatches<'a>) -> Result<AskedOfScript<'a>, WordRefusal<'a>>
     ensures asked { IfOk result (λ a. IsWhyAsked (rows_of (found_of matches.now)) a.0) }
     ensures wrong { IfErr result (IsWrong (rows_of (found_of matches.now))) }
@@ -399,7 +431,7 @@ fn why_asked<'a>(matches: &ArgMatches<'a>) -> Result<AskedOfScript<'a>, WordRefu
     Ok((Question::Code { first, second }, None))
 }
 
-/// The line that a word spells, where there is one.
+/// The line that an argument spells, if it's given.
 fn line_asked(word: Option<&str>) -> Result<Option<u32>, WordRefusal<'_>>
     ensures there { IfOk result (λ line. IfSome line IsLine) }
     ensures says { IfOk result (Says line_in (option_map (λ s. s.now) word.entry)) }
@@ -412,7 +444,7 @@ fn line_asked(word: Option<&str>) -> Result<Option<u32>, WordRefusal<'_>>
     }
 }
 
-/// The task and the number of a subpool that a word spells, where there is one.
+/// The task and the number of a subpool that an argument spells, if it's given.
 fn seen_asked(word: Option<&str>) -> Result<Option<(u8, u8)>, WordRefusal<'_>>
     ensures there { IfOk result (λ seen. IfSome seen IsSeenThere) }
     ensures says { IfOk result (Says seen_in (option_map (λ s. s.now) word.entry)) }
@@ -435,27 +467,31 @@ fn report_asked<'a>(matches: &ArgMatches<'a>) -> Result<AskedOfScript<'a>, WordR
     let file = text_of(matches, "FILE");
     let line = line_asked(text_of(matches, "LINE"))?;
     let subpool = seen_asked(text_of(matches, "subpool"))?;
-    let areas = is_set(matches, "areas");
-    if is_set(matches, "over-time") {
-        if areas {
+    let longest = is_set(matches, "longest");
+    if is_set(matches, "areas") {
+        if is_set(matches, "over-time") {
             Err(WordRefusal::AreasOverTime)
-        } else if line.is_some() {
+        } else if subpool.is_some() {
+            Err(WordRefusal::SubpoolAtOnce)
+        } else {
+            Ok((Question::Areas { line, longest }, file))
+        }
+    } else if longest {
+        Err(WordRefusal::LongestOfAreas)
+    } else if is_set(matches, "over-time") {
+        if line.is_some() {
             Err(WordRefusal::LineOverTime)
         } else {
             Ok((Question::OverTime { subpool }, file))
         }
     } else if subpool.is_some() {
         Err(WordRefusal::SubpoolAtOnce)
-    } else if !areas {
-        Ok((Question::Report { line }, file))
-    } else if line.is_some() {
-        Err(WordRefusal::LineOfAreas)
     } else {
-        Ok((Question::Areas, file))
+        Ok((Question::Report { line }, file))
     }
 }
 
-/// How many things the words ask for that lines change.
+/// How many things the arguments of `who` ask for.
 fn count_asked(matches: &ArgMatches<'_>) -> u32
     ensures { result ≡ count_asked (rows_of (found_of matches.now)) }
 {
@@ -468,7 +504,7 @@ fn count_asked(matches: &ArgMatches<'_>) -> u32
         + u32::from(is_given(matches, "ADDRESS"))
 }
 
-/// The thing that the words ask for, of which there is one at most.
+/// The thing that the arguments of `who` ask for, if it's only one.
 fn about_asked<'a>(matches: &ArgMatches<'a>) -> Result<About, WordRefusal<'a>>
     requires { is_set (codes "log") (rows_of (found_of matches.now)) ≡ false }
     ensures there { IfOk result IsThere }
@@ -510,7 +546,7 @@ fn who_asked<'a>(matches: &ArgMatches<'a>) -> Result<AskedOfScript<'a>, WordRefu
     Ok((Question::Who(about), file))
 }
 
-/// What the words of this command ask, or what is wrong with them.
+/// What the arguments of this command ask, or what is wrong with them.
 fn question_of<'a>(
     command: &str,
     matches: &ArgMatches<'a>,
@@ -524,11 +560,22 @@ fn question_of<'a>(
         "why" => why_asked(matches),
         "report" => report_asked(matches),
         "who" => who_asked(matches),
-        _ => Ok(list_asked(matches)),
+        _ => list_asked(matches),
     }
 }
 
-/// What the words of a command ask for, or what is wrong with them.
+/// The form that is asked for.
+fn form_asked(matches: &ArgMatches<'_>) -> Form
+    ensures { result ≡ form_in (rows_of (found_of matches.now)) }
+{
+    if is_set(matches, "json") {
+        Form::Json
+    } else {
+        Form::Text
+    }
+}
+
+/// What the arguments of a command ask for, or what is wrong with them.
 fn asking_within<'a>(command: &str, matches: &ArgMatches<'a>) -> Result<Asking<'a>, WordRefusal<'a>>
     ensures asks { IfOk result (Asks command.now (rows_of (found_of matches.now))) }
     ensures wrong { IfErr result (IsWrong (rows_of (found_of matches.now))) }
@@ -541,12 +588,13 @@ fn asking_within<'a>(command: &str, matches: &ArgMatches<'a>) -> Result<Asking<'
             question,
             file,
             settings,
+            form: form_asked(matches),
         }),
         Err(refusal) => Err(refusal),
     }
 }
 
-/// What the words ask for that were read, or what is wrong with them. Numbers are read as in a script.
+/// What the arguments ask for that were read, or what is wrong with them. Numbers are read as in a script.
 pub fn asking_of<'a>(matches: &ArgMatches<'a>) -> Result<Asking<'a>, WordRefusal<'a>>
     ensures asks { IfOk result (λ a. IsSomeAnd (subcommand_rows_of matches.now) (λ p. Asks p.0 p.1 a)) }
     ensures wrong { IfErr result (λ e. IfSome (subcommand_rows_of matches.now) (λ p. IsWrong p.1 e)) }

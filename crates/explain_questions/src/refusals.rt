@@ -1,50 +1,55 @@
-//! Why words ask for nothing.
+//! What can be wrong with arguments.
 
 use std::fmt;
 use std::fmt::{Display, Formatter};
 
-/// What is wrong with words that name a command.
+/// What is wrong with the arguments of a command.
 #[derive(Clone, Copy)]
 pub enum WordRefusal<'a> {
-    /// `why` has one word, which may be a script without its line.
+    /// `why` has one argument that is no answer: perhaps a script without its line.
     NoLine(&'a str),
-    /// It's no number of a line.
+    /// It isn't `refused`.
+    Only(&'a str),
+    /// `list` has `--check`, and `--json` or `--only`.
+    CheckWithMore,
+    /// It isn't the number of a line.
     Line(&'a str),
     /// `report --over-time` has the number of a line.
     LineOverTime,
-    /// `report --areas` has the number of a line.
-    LineOfAreas,
+    /// `report` has `--longest`, and no `--areas`.
+    LongestOfAreas,
     /// `report` has `--areas` and `--over-time`.
     AreasOverTime,
     /// `report` has a subpool, and no `--over-time`.
     SubpoolAtOnce,
-    /// It's no address.
+    /// It isn't an address.
     Address(&'a str),
-    /// It's no count of bytes.
+    /// It isn't a count of bytes.
     Count(&'a str),
-    /// It's no task and register.
+    /// It isn't a task and a register.
     Register(&'a str),
-    /// It's no name.
+    /// It isn't a name.
     Name(&'a str),
-    /// It's no subpool, nor a task and a subpool.
+    /// It's neither a subpool nor a task and a subpool.
     Subpool(&'a str),
-    /// `who` names nothing that it's asked for.
+    /// `who` is asked for nothing.
     NothingAsked,
-    /// `who` names more than one thing.
+    /// `who` is asked for more than one thing.
     MoreAsked,
     /// An option of the bench is out of its limits.
     Settings,
 }
 
 impl<'a> WordRefusal<'a> {
-    /// What is said of a word: the text before it, the word, and the text behind it.
+    /// The message about an argument: the text before it, the argument, and the text after it.
     fn told(self) -> (&'static str, &'a str, &'static str) {
         match self {
             WordRefusal::NoLine(word) => (
                 "'",
                 word,
-                "' is no answer, and no LINE of a script FILE stands behind it",
+                "' isn't an answer, and no LINE follows it as the name of a script",
             ),
+            WordRefusal::Only(word) => ("--only takes 'refused', and not '", word, "'"),
             WordRefusal::Line(word) => ("LINE is a number from 1 to 1048576, and not '", word, "'"),
             WordRefusal::Address(word) => (
                 "ADDRESS is a number as in a script, 24582 or X'6006', or as answers print it, 00006006, and not '",
@@ -57,13 +62,13 @@ impl<'a> WordRefusal<'a> {
                 "'",
             ),
             WordRefusal::Register(word) => (
-                "--register takes a task and a register from 0 to 15, as 1,3, and not '",
+                "--register takes a task and a register from 0 to 15, such as 1,3, and not '",
                 word,
                 "'",
             ),
             WordRefusal::Name(word) => ("--name takes a name as in a script, and not '", word, "'"),
             WordRefusal::Subpool(word) => (
-                "--subpool takes a subpool from 0 to 127, or a task and a subpool, as 2,5, and not '",
+                "--subpool takes a subpool from 0 to 127, or a task and a subpool, such as 2,5, and not '",
                 word,
                 "'",
             ),
@@ -71,19 +76,22 @@ impl<'a> WordRefusal<'a> {
         }
     }
 
-    /// What is said where it's about no word.
+    /// The message if it's about no single argument.
     fn text(self) -> &'static str {
         match self {
+            WordRefusal::CheckWithMore =>
+                "--check prints the places of faults, and goes with neither --json nor --only",
             WordRefusal::LineOverTime => "--over-time goes over all lines, and takes no LINE",
-            WordRefusal::LineOfAreas => "--areas tells what is taken at the end, and takes no LINE",
+            WordRefusal::LongestOfAreas => "--longest goes with --areas",
             WordRefusal::AreasOverTime =>
-                "--areas tells what is taken at the end, and --over-time what after each statement",
+                "--areas lists what is taken after one statement, and --over-time the sums after each",
             WordRefusal::SubpoolAtOnce =>
                 "--subpool goes with --over-time: a report has each subpool",
             WordRefusal::NothingAsked =>
                 "who asks for an ADDRESS, or by --taken, --holds, --subpool, --register, --name or --log",
             WordRefusal::MoreAsked =>
-                "who asks for one thing at a time: an ADDRESS, or by --taken, --holds, --subpool, --register, --name or --log",
+                "who asks for one thing at a time: an ADDRESS, or by --taken, --holds, --subpool, --register, --name \
+                or --log",
             _ =>
                 "settings out of their limits: --low is a multiple of 4 from 4 to 16360, --high one from 4 to \
                 1572864, --history from 1 to 65536",
@@ -91,7 +99,7 @@ impl<'a> WordRefusal<'a> {
     }
 }
 
-/// A text with a point in place of each control character, so that none reaches a terminal.
+/// A text with a point for each control character, so that none reaches a terminal.
 #[derive(Clone, Copy)]
 pub struct PlainText<'a>(pub &'a str);
 

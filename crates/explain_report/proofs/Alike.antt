@@ -20,11 +20,11 @@ use Rattle.vsm_model.specs.Step.{step, causes, answered}
 use Rattle.vsm_machine.specs.Machine.{Why, served, statement_step, service_asked, name_asked, family_asked, or_abend}
 use Rattle.script_steps.specs.Output.{Marked, alone_now, responded, stands_with, stands_after}
 use Rattle.script_steps.specs.Responses.{response_to}
-use Rattle.explain_report.specs.Figures.{may_change}
+use Rattle.explain_report.specs.Changes.{may_change}
 use Rattle.explain_report.specs.OverTime.{HaveSameAreas}
 
 pub same : (s : State) → HaveSameAreas s s
-same s = record { subpools = refl; sight = refl; pages = refl; taken = refl }
+same s = record { subpools = refl; sight = refl; pages = refl; taken = refl; cell_pools = refl }
 
 pub both : (s t u : State) → HaveSameAreas s t → HaveSameAreas t u → HaveSameAreas s u
 both s t u h k = record {
@@ -32,9 +32,10 @@ both s t u h k = record {
   sight = h.sight ∙ k.sight;
   pages = h.pages ∙ k.pages;
   taken = h.taken ∙ k.taken;
+  cell_pools = h.cell_pools ∙ k.cell_pools;
 }
 
--- ---- a store changes bytes alone, and no other service is answered as a store is
+-- ---- a store changes only bytes, and no other service is answered as a store is
 
 abbrev is_store_reply : Reply → Bool
 is_store_reply (Obtained address count) = false
@@ -64,7 +65,7 @@ cell_reply settings s name = either (has_no_cell (pool_of s name)) _ _ refl refl
 
 service_stored : (settings : Settings) (s t : State) (x : Service) → answered settings s x None ≡ Accepted t Stored → HaveSameAreas s t
 service_stored settings s t (store address bytes) e =
-    let stays : HaveSameAreas s (with_bytes s address bytes) = record { subpools = refl; sight = refl; pages = refl; taken = refl } in
+    let stays : HaveSameAreas s (with_bytes s address bytes) = record { subpools = refl; sight = refl; pages = refl; taken = refl; cell_pools = refl } in
     subst (HaveSameAreas s) (ap (state_in s) e) stays
 service_stored settings s t (obtain o) e = absurd (not_stored (answered settings s (obtain o) None) t refl e)
 service_stored settings s t (release r) e = absurd (not_stored (answered settings s (release r) None) t refl e)

@@ -1,8 +1,7 @@
--- The first line of a report, and the rows over time, one answer more.
+-- What a report says of its statement, and the rows over time, after another answer.
 use Rattle.std.proofs.Common.{◌≡◌, ◌≤◌, ℕ, zero, suc, arith, nat_le, Bool, true, false, true≢false, not, ◌&&◌, if◌then◌else◌, List, [], ◌∷◌, ◌++◌, length, take, drop, Option, Some, None, is_some, Result, Ok, Err, refl, sym, ap, subst, ◌∙◌, append_assoc}
 use Rattle.std.proofs.lemmas.List.{append-nil, take-append-drop}
-use Rattle.std.specs.Prelude.{codes}
-use Rattle.std.specs.Fmt.{decimal}
+use Rattle.listed_text.specs.declared.json.Form.{Form}
 use Rattle.macro_operands.specs.declared.faults.FaultKind.{FaultKind}
 use Rattle.macro_statements.specs.Requests.{Act, Asked, act, peek, map_asked, back, forward}
 use Rattle.vsm_model.specs.declared.limits.Settings.{Settings}
@@ -21,13 +20,15 @@ use Rattle.script_steps.specs.declared.session.Session.{Session}
 use Rattle.script_steps.proofs.Standings.{call_text, reading_text, stands_push, stands_for}
 use Rattle.text_output.specs.Writing.{Puts}
 use Rattle.text_output.specs.declared.writing.Gathered.{Gathered}
-use Rattle.explain_report.specs.Figures.{may_change, seen_in}
+use Rattle.explain_report.specs.Changes.{may_change}
+use Rattle.report_rows.specs.Figures.{seen_in}
 use Rattle.explain_report.specs.OverTime.{AreFiguresAt, AreFiguresAfter, AreRows, ArePut, IsOverTime}
 use Rattle.explain_report.specs.Reports.{IsAnsweredEnd, IsReached}
 use Rattle.explain_report.specs.Said.{state_after, said_of, said_from, said_last, said_with}
-use Rattle.explain_report.specs.Texts.{figures_text, heading_text, said_text, told_row}
+use Rattle.report_rows.specs.Forms.{figures_in, heading_in}
+use Rattle.explain_report.specs.Texts.{told_row}
 use Rattle.explain_report.specs.declared.runs.LastAnswer.{LastAnswer}
-use Rattle.explain_report.specs.declared.times.Figures.{Figures}
+use Rattle.report_rows.specs.declared.times.Figures.{Figures}
 use Rattle.explain_report.proofs.Alike.{alike, both}
 
 -- ---- the first line
@@ -45,7 +46,7 @@ module _ (settings : Settings) where
   shown_is l true (Ok (forward n)) bytes h = call_text (Forward n) (if nat_le n (length l.undone) then Moved else TooFar (length l.undone)) _ bytes []
   shown_is l false (Ok (forward n)) bytes h = call_text (Forward n) (if nat_le n (length l.undone) then Moved else TooFar (length l.undone)) _ bytes []
 
-  said_push : (l : Standing Act Reply) (before : List ℕ) (xs ys : List Marked)
+  said_push : (l : Standing Act Reply) (before : Option (ℕ × List ℕ)) (xs ys : List Marked)
       → said_from settings l before (xs ++ ys) ≡ said_from settings (stands_all settings l xs) (said_from settings l before xs) ys
   said_push l before [] ys = refl
   said_push l before (x ∷ xs) ys = said_push (stands_after settings l x) (said_of settings l x) xs ys
@@ -58,8 +59,7 @@ module _ (settings : Settings) where
       let l = stands_all settings nothing_stands answers in
       let text : response_text bytes told.1 ≡ response_text (bytes_shown settings l m.answer.what) (responded settings l m.unmet m.answer.what) =
       ap (response_text bytes) response ∙ shown_is l m.unmet m.answer.what bytes shows in
-      (λ i. codes "line " ++ decimal (line i) ++ codes ": " ++ text i ++ 10 ∷ [])
-      ∙ sym (said_push nothing_stands (said_text [] None) answers (m ∷ []))
+      (λ i. Some (line i, text i)) ∙ sym (said_push nothing_stands None answers (m ∷ []))
   said_more answers [] (Some told) bytes brings shows = absurd brings
   said_more answers (m ∷ []) None bytes brings shows = absurd brings
   said_more answers (m ∷ k ∷ more) None bytes brings shows = absurd brings
@@ -71,16 +71,16 @@ module _ (settings : Settings) where
 
 -- ---- the rows
 
-module _ (settings : Settings) (seen : Option (ℕ × ℕ)) where
-  rows_push : (l : Standing Act Reply) (xs ys : List Marked) (a b : List ℕ) → AreRows settings seen l xs a → AreRows settings seen (stands_all settings l xs) ys b
-      → AreRows settings seen l (xs ++ ys) (a ++ b)
-  rows_push l [] ys a b none rows = subst (λ x. AreRows settings seen l ys (x ++ b)) (sym none) rows
+module _ (settings : Settings) (form : Form) (seen : Option (ℕ × ℕ)) where
+  rows_push : (l : Standing Act Reply) (xs ys : List Marked) (a b : List ℕ) → AreRows settings form seen l xs a → AreRows settings form seen (stands_all settings l xs) ys b
+      → AreRows settings form seen l (xs ++ ys) (a ++ b)
+  rows_push l [] ys a b none rows = subst (λ x. AreRows settings form seen l ys (x ++ b)) (sym none) rows
   rows_push l (m ∷ xs) ys a b (f, more, same, at, text, rest) rows = (
     f,
     more ++ b,
     same,
     at,
-    ap (λ x. x ++ b) text ∙ append_assoc (figures_text m.answer.line f) more b,
+    ap (λ x. x ++ b) text ∙ append_assoc (figures_in form m.answer.line f) more b,
     rows_push (stands_after settings l m) xs ys more b rest rows,
   )
 
@@ -102,12 +102,12 @@ module _ (settings : Settings) (seen : Option (ℕ × ℕ)) where
 
   -- Rows are put for further answers: none, or one.
   pub put_more : (first old now : Option (List ℕ)) (g h : Gathered) (answers more : List Marked) (told : Option (ℕ × Response)) (state : State) (before after : Figures)
-      → ArePut settings seen first old g answers before → Brings settings answers more told → state ≡ state_after settings (answers ++ more)
-      → Puts old now g h (told_row told after) → AreFiguresAfter settings state before told after → ArePut settings seen first now h (answers ++ more) after
+      → ArePut settings form seen first old g answers before → Brings settings answers more told → state ≡ state_after settings (answers ++ more)
+      → Puts old now g h (told_row form told after) → AreFiguresAfter settings state before told after → ArePut settings form seen first now h (answers ++ more) after
   put_more first old now g h answers [] None state before after p brings is puts h_after =
-      subst (λ xs. ArePut settings seen first now h xs after) (sym (append-nil answers)) (record {
+      subst (λ xs. ArePut settings form seen first now h xs after) (sym (append-nil answers)) (record {
         text = p.text ++ [];
-        over = subst (IsOverTime settings seen answers) (sym (append-nil p.text)) p.over;
+        over = subst (IsOverTime settings form seen answers) (sym (append-nil p.text)) p.over;
         held = puts first p.text p.held;
         figures = subst (AreFiguresAt settings (state_after settings answers)) (sym h_after) p.figures;
         same = ap seen_in h_after ∙ p.same;
@@ -116,13 +116,13 @@ module _ (settings : Settings) (seen : Option (ℕ × ℕ)) where
       let l = stands_all settings nothing_stands answers in
       let at = figures_one answers m told state before after p.figures response is h_after (may_change told.1) refl in
       let same = h_after.seen ∙ p.same in
-      let row = figures_text told.0 after in
-      let one : AreRows settings seen l (m ∷ []) row = (
+      let row = figures_in form told.0 after in
+      let one : AreRows settings form seen l (m ∷ []) row = (
         after,
         [],
         same,
         subst (λ s. AreFiguresAt settings s after) (after_one answers m) at,
-        ap (λ n. figures_text n after) line ∙ sym (append-nil _),
+        ap (λ n. figures_in form n after) line ∙ sym (append-nil _),
         refl,
       ) in
       record {
@@ -130,7 +130,7 @@ module _ (settings : Settings) (seen : Option (ℕ × ℕ)) where
         over = (
           p.over.0 ++ row,
           rows_push nothing_stands answers (m ∷ []) p.over.0 row p.over.1 one,
-          ap (λ x. x ++ row) p.over.2 ∙ append_assoc (heading_text (is_some seen)) p.over.0 row,
+          ap (λ x. x ++ row) p.over.2 ∙ append_assoc (heading_in form (is_some seen)) p.over.0 row,
         );
         held = puts first p.text p.held;
         figures = at;
@@ -143,7 +143,7 @@ module _ (settings : Settings) (seen : Option (ℕ × ℕ)) where
 
 -- ---- what is left of a script
 
--- behind the end stands nothing
+-- nothing follows the end
 pub rest_none : (xs : List ℕ) (n : ℕ) → length xs ≤ n → NoFeed (drop n xs)
 rest_none [] zero h = tt
 rest_none [] (suc n) h = tt

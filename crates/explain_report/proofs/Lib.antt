@@ -1,8 +1,4 @@
--- Lemmas on tallies of runs.
-mod TallyLemmas
-mod Few
-mod Areas
-pub mod Remaining
+-- Lemmas on reports and rows.
 pub mod Lines
 pub mod Alike
 pub mod Following

@@ -1,5 +1,5 @@
 -- Lines that are taken up to the end of a statement.
-use Rattle.std.proofs.Common.{◌≡◌, ℕ, ◌+◌, ◌<◌, ◌≤◌, inl, inr, true, false, ◌&&◌, List, [], ◌++◌, is_some, take, drop, Option, Some, None, unwrap_or, sym, ap, ◌∙◌, arith}
+use Rattle.std.proofs.Common.{◌≡◌, ℕ, ◌+◌, ◌<◌, ◌≤◌, inl, inr, true, false, ◌&&◌, List, [], ◌++◌, is_some, take, drop, Option, Some, None, unwrap_or, refl, sym, ap, ◌∙◌, arith}
 use Rattle.std.proofs.lemmas.Bool.{le-leb, cases_lt}
 use Rattle.std.proofs.lemmas.List.{take-append-drop}
 use Rattle.vsm_model.specs.declared.limits.Settings.{Settings}
@@ -22,7 +22,7 @@ none_open settings script n s last some h =
     let none = took_feeds settings [] h.0 s h.1.took in
     record { reaches = h; open_since = λ k from to. absurd (omega (arith, none, some, from, to)) }
 
--- then one line more
+-- then another line
 lines_more : (settings : Settings) (script : List ℕ) (at next : ℕ) (s t : Session) (answers others : List Marked) → IsLineOf script at next
     → Took settings (take at script) answers s → Took settings (take next script) others t → t.lines ≡ s.lines + 1
 lines_more settings script at next s t answers others line h k =
@@ -55,12 +55,12 @@ one_open settings script n at next s t last more line h told step none =
 -- and the line after which no statement is open
 pub statement_ends : (settings : Settings) (script : List ℕ) (n at next : ℕ) (s t : Session) (last more : LastAnswer) → IsLineOf script at next → (h : StaysOpen settings script n at s last)
     → (further : List Marked) (told : Option (ℕ × Response)) → Brings settings h.reaches.0 further told → IsReached settings (take next script) t more (h.reaches.0 ++ further)
-    → is_some told ≡ true → ends_by n t ≡ true → EndsStatement settings script n t (h.reaches.0 ++ further)
+    → is_some told ≡ true → ends_by n t ≡ true → (e : EndsStatement settings script n t (h.reaches.0 ++ further)) × (e.next ≡ next)
 statement_ends settings script n at next s t last more line h further told brings r some ends =
     let older = h.reaches.0 in
     let size = lines_more settings script at next s t older (older ++ further) line h.reaches.1.took r.took in
     let one = one_brought settings older further told brings some in
-    record {
+    let e : EndsStatement settings script n t (older ++ further) = record {
       at = at;
       next = next;
       line = line;
@@ -72,7 +72,8 @@ statement_ends settings script n at next s t last more line h further told bring
       took_on = r.took;
       ends = ends;
       first = λ k from to. h.open_since k from (omega (arith, size, to));
-    }
+    } in
+    (e, refl)
 
 -- which may bring no answer
 pub line_is_silent : (settings : Settings) (script : List ℕ) (n at next : ℕ) (s t : Session) (last more : LastAnswer) (f : ReportFault) → IsLineOf script at next

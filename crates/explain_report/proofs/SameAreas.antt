@@ -20,13 +20,14 @@ use Rattle.vsm_model.specs.declared.limits.Settings.{Settings}
 use Rattle.vsm_model.specs.Areas as plain
 use Rattle.vsm_model.specs.Map.{ascending_regions}
 use Rattle.vsm_model.specs.State.{State}
-use Rattle.explain_report.specs.Figures.{IsFiguresOf, IsMomentOf, IsRowOf, IsRowSeen}
+use Rattle.pool_lines.specs.Figures.{sums_of}
+use Rattle.report_rows.specs.Figures.{IsFiguresOf, IsMomentOf, IsRowOf, IsRowSeen}
 use Rattle.explain_report.specs.OverTime.{HaveSameAreas}
-use Rattle.explain_report.specs.Tallies.{tally_of, low_runs, high_runs}
-use Rattle.explain_report.specs.declared.rows.SubpoolRow.{SubpoolRow}
-use Rattle.explain_report.specs.declared.times.Figures.{Figures}
-use Rattle.explain_report.specs.declared.times.Figures.TheVariants as figures
-use Rattle.explain_report.specs.declared.times.Moment.{Moment}
+use Rattle.report_rows.specs.Tallies.{tally_of, low_runs, high_runs}
+use Rattle.report_rows.specs.declared.rows.SubpoolRow.{SubpoolRow}
+use Rattle.report_rows.specs.declared.times.Figures.{Figures}
+use Rattle.report_rows.specs.declared.times.Figures.TheVariants as figures
+use Rattle.report_rows.specs.declared.times.Moment.{Moment}
 
 -- runs with the same numbers are the same
 runs_back : (rs : List Run) → map run_in (map pair_of rs) ≡ rs
@@ -36,7 +37,7 @@ runs_back (r ∷ rs) = ap (λ (qs : List Run). r ∷ qs) (runs_back rs)
 same_runs : (rs qs : List Run) → map pair_of rs ≡ map pair_of qs → rs ≡ qs
 same_runs rs qs e = sym (runs_back rs) ∙ ap (map run_in) e ∙ runs_back qs
 
--- what these say of plain states looks at their areas alone
+-- what these say of plain states looks only at their areas
 module _ (settings : Settings) (s t : State) (h : HaveSameAreas s t) where
   same_totals : totals_of settings s ≡ totals_of settings t
   same_totals = λ i. totals_of settings (record s { pages = h.pages i; taken = h.taken i })
@@ -92,6 +93,7 @@ module _ (extents_law : ExtentsAreShown) (areas_law : FreeAreasAreShown) (unassi
     low = k.low ∙ ap (λ rs. tally_of (low_runs 4096 rs)) unassigned_are;
     high = k.high ∙ ap (λ rs. tally_of (high_runs 4096 rs)) unassigned_are;
     free = k.free ∙ (λ i. tally_of (flat_map (λ p. areas_are p i) (subpools_are i)));
+    pools = k.pools ∙ ap sums_of h.cell_pools;
   }
 
   fit_is : (side : Residence) (p : Subpool) (count : ℕ)

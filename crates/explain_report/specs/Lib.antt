@@ -1,8 +1,6 @@
-pub mod Tallies
-pub mod Figures
+pub mod Changes
 pub mod Lines
 pub mod Texts
-pub mod Tables
 pub mod Said
 pub mod Reports
 pub mod OverTime

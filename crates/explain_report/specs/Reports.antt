@@ -1,4 +1,4 @@
--- A report of a script: its first line, and the table of the storage after a statement.
+-- A report of a script: what it says of its statement, and the table of the storage after a statement.
 use Rattle.std.specs.Prelude.{◌≡◌, ◌<◌, ◌≤◌, ◌⊎◌, ℕ, nat_le, Bool, true, false, not, ◌&&◌, List, [], ◌∷◌}
 use Rattle.std.specs.Prelude.{◌++◌, length, take, is_some}
 use Rattle.std.specs.Prelude.{drop, Option, Some, None, Result, Ok, Err}
@@ -6,6 +6,7 @@ use Rattle.std.specs.Io.KnownBytes.{Appends}
 use Rattle.bench_core.specs.Stands.{IsNew}
 use Rattle.vsm_model.specs.declared.limits.Settings.{Settings}
 use Rattle.vsm_model.specs.State.{State}
+use Rattle.listed_text.specs.declared.json.Form.{Form}
 use Rattle.macro_reader.specs.Scripts.{Mode, awaiting, dropping, gathering}
 use Rattle.script_steps.specs.Output.{Marked}
 use Rattle.script_steps.specs.Steps.{IsLineOf}
@@ -18,23 +19,27 @@ use Rattle.script_steps.specs.declared.steps.Step.{Step}
 use Rattle.text_output.specs.Writing.{AppendsFront}
 use Rattle.explain_report.specs.Lines.{feeds, is_open, line_count}
 use Rattle.explain_report.specs.Said.{state_after, said_last, said_by, is_between}
-use Rattle.explain_report.specs.Tables.{IsTable}
+use Rattle.explain_report.specs.Texts.{head_in, said_in}
+use Rattle.report_rows.specs.Tables.{IsTable}
 use Rattle.explain_report.specs.declared.faults.ReportFault.{ReportFault}
 use Rattle.explain_report.specs.declared.faults.ReportFault.TheVariants as fault
 use Rattle.explain_report.specs.declared.runs.LastAnswer.{LastAnswer}
+use Rattle.explain_report.specs.declared.runs.TakenTo.{TakenTo}
+use Rattle.explain_report.specs.declared.runs.TakenTo.TheVariants as taken_to
 
--- The text is a report of this state, with this first line;
-abbrev pub IsReport : Settings → State → List ℕ → List ℕ → Type 0
-IsReport settings state said text = (table : List ℕ) × IsTable settings state table × (text ≡ said ++ table)
+-- The text is a report of this state in this form, which says this of its statement;
+abbrev pub IsReport : Settings → Form → State → Option (ℕ × List ℕ) → List ℕ → Type 0
+IsReport settings form state said text =
+    (table : List ℕ) × IsTable settings form state table × (text ≡ head_in form ++ said_in form said ++ table)
 
--- all of one is written, or a front of one.
-abbrev pub WritesReport : Settings → State → List ℕ → Option (List ℕ) → Option (List ℕ)
+-- all of one is written, or a prefix of one.
+abbrev pub WritesReport : Settings → Form → State → Option (ℕ × List ℕ) → Option (List ℕ) → Option (List ℕ)
     → Result (Unit {0}) ReportFault → Type 0
-WritesReport settings state said at_first now (Ok u) =
-    (text : List ℕ) × IsReport settings state said text × Appends at_first now text
-WritesReport settings state said at_first now (Err fault.Write) =
-    (text : List ℕ) × IsReport settings state said text × AppendsFront at_first now text
-WritesReport settings state said at_first now (Err _) = ⊥
+WritesReport settings form state said at_first now (Ok u) =
+    (text : List ℕ) × IsReport settings form state said text × Appends at_first now text
+WritesReport settings form state said at_first now (Err fault.Write) =
+    (text : List ℕ) × IsReport settings form state said text × AppendsFront at_first now text
+WritesReport settings form state said at_first now (Err _) = ⊥
 
 -- The session took these bytes with these answers, of which this was the last.
 pub record IsReached (settings : Settings) (given : List ℕ) (s : Session) (last : LastAnswer) (answers : List Marked) :
@@ -48,7 +53,7 @@ Reaches settings given s last = (answers : List Marked) × IsReached settings gi
 abbrev pub Passes : Settings → List ℕ → Type 0
 Passes settings script = (answers : List Marked) × PassesBound settings script answers
 
--- The line from a place on is taken, if it has a line feed, and brings what is told.
+-- The line from a place on is taken, if it has a line feed, and brings this answer, or none.
 abbrev pub ReachesStep : Settings → List ℕ → ℕ → List Marked → Session → LastAnswer → Result (Option Step) TooLong
     → Type 0
 ReachesStep settings script at answers s last (Ok (Some step)) =
@@ -62,7 +67,7 @@ abbrev pub ReachesLines : Settings → List ℕ → Session → LastAnswer → R
 ReachesLines settings script s last (Ok at) = Reaches settings (take at script) s last
 ReachesLines settings script s last (Err e) = Passes settings script
 
--- The rest of the script from a place on has no line feed, and the place is where a line begins.
+-- The rest of the script from a place on has no line feed, and a line begins at the place.
 abbrev pub IsRestAt : List ℕ → ℕ → Type 0
 IsRestAt script at =
     (at ≤ length script) × NoFeed (drop at script) × (is_open false (take at script) ≡ false)
@@ -77,7 +82,7 @@ IsOpenAfter settings script k =
     (at : ℕ) × (answers : List Marked) × (s : Session) × Took settings (take at script) answers s
     × (s.lines ≡ k) × (is_between s.reader.mode ≡ false)
 
--- The session took so many lines at least, and no statement is open.
+-- The session took at least this many lines, and no statement is open.
 abbrev pub ends_by : ℕ → Session → Bool
 ends_by n s = nat_le n s.lines && is_between s.reader.mode
 
@@ -106,7 +111,7 @@ pub record IsAnsweredEnd (settings : Settings) (script : List ℕ) (answers : Li
   pub others : List Marked
   pub brought : answers ≡ older ++ first ∷ others
 
--- A line is asked for, and what is told at the end is nothing.
+-- A line is asked for, and the end brings no answer.
 abbrev pub lacks_answer : Option ℕ → Option (ℕ × Response) → Option (ℕ × Response) → Bool
 lacks_answer line last open_one = is_some line && not (is_some last) && not (is_some open_one)
 
@@ -116,7 +121,7 @@ pub record StaysOpen (settings : Settings) (script : List ℕ) (n at : ℕ) (s :
   pub reaches : Reaches settings (take at script) s last
   pub open_since : (k : ℕ) → n ≤ k → k ≤ s.lines → IsOpenAfter settings script k
 
--- Why a line has no answer, when the reader stands so before it: it's dropped, or it's a comment or empty.
+-- Why a line has no answer, by the mode of the reader before it: it's dropped, or it's a comment or empty.
 abbrev pub silence : Mode → ReportFault
 silence awaiting = fault.Aside
 silence dropping = fault.Dropped
@@ -145,18 +150,19 @@ pub record IsSilentEnd (settings : Settings) (script : List ℕ) (f : ReportFaul
   pub why : f ≡ silence before.reader.mode
 
 -- Lines are taken up to the end of the statement of line n; or all that have a line feed, if the script ends before.
-abbrev pub ReachesLine : Settings → List ℕ → ℕ → Session → LastAnswer → Result (Option ℕ) ReportFault → Type 0
-ReachesLine settings script n s last (Ok None) =
-    (answers : List Marked) × EndsStatement settings script n s answers × (said_by last ≡ said_last settings answers)
-ReachesLine settings script n s last (Ok (Some at)) = StaysOpen settings script n at s last
+abbrev pub ReachesLine : Settings → List ℕ → ℕ → Session → LastAnswer → Result TakenTo ReportFault → Type 0
+ReachesLine settings script n s last (Ok (taken_to.Statement next)) =
+    (answers : List Marked) × (e : EndsStatement settings script n s answers) × (e.next ≡ next)
+    × (said_by last ≡ said_last settings answers)
+ReachesLine settings script n s last (Ok (taken_to.LastFeed at)) = StaysOpen settings script n at s last
 ReachesLine settings script n s last (Err fault.TooLong) = Passes settings script
 ReachesLine settings script n s last (Err fault.Aside) = IsSilentLine settings script n fault.Aside
 ReachesLine settings script n s last (Err fault.Dropped) = IsSilentLine settings script n fault.Dropped
 ReachesLine settings script n s last (Err _) = ⊥
 
-abbrev pub IsRestOf : List ℕ → Result (Option ℕ) ReportFault → Type 0
-IsRestOf script (Ok (Some at)) = IsRestAt script at
-IsRestOf script (Ok None) = Unit {0}
+abbrev pub IsRestOf : List ℕ → Result TakenTo ReportFault → Type 0
+IsRestOf script (Ok (taken_to.LastFeed at)) = IsRestAt script at
+IsRestOf script (Ok (taken_to.Statement next)) = next ≤ length script
 IsRestOf script (Err e) = Unit {0}
 
 -- The script has the line that is asked for, and after each of its lines from there on that have a line feed a
@@ -172,7 +178,6 @@ StaysTo settings script None s = Unit {0}
 StaysTo settings script (Some asked) s = (k : ℕ) → asked ≤ k → k ≤ s.lines → IsOpenAfter settings script k
 
 -- The script has only n lines, or line 0 was asked for.
-
 abbrev pub LacksLine : List ℕ → Option ℕ → ℕ → Type 0
 LacksLine script None n = ⊥
 LacksLine script (Some asked) n = (asked ≡ 0) ⊎ ((n ≡ line_count script) × (n < asked))
@@ -191,23 +196,24 @@ IsSilent settings script None f = ⊥
 IsSilent settings script (Some n) f =
     IsSilentLine settings script n f ⊎ (HasLine settings script (Some n) × IsSilentEnd settings script f)
 
-abbrev pub IsReportOf : Settings → List ℕ → Option ℕ → List ℕ → Type 0
-IsReportOf settings script line text =
+abbrev pub IsReportOf : Settings → List ℕ → Form → Option ℕ → List ℕ → Type 0
+IsReportOf settings script form line text =
     (answers : List Marked) × AreReported settings script line answers
-    × IsReport settings (state_after settings answers) (said_last settings answers) text
+    × IsReport settings form (state_after settings answers) (said_last settings answers) text
 
--- A report is written, or a front of it after a write fault. If there is none, nothing is written: the bench can't be
--- made, a byte of the script passes a bound, or the line isn't there, or has no answer.
-abbrev pub Reports : Settings → List ℕ → Option ℕ → Option (List ℕ) → Option (List ℕ)
+-- A report is written, or a prefix of it after a write fault. If there is none, nothing is written: the bench can't be
+-- made, a byte of the script passes a bound, or the line doesn't exist, or has no answer.
+abbrev pub Reports : Settings → List ℕ → Form → Option ℕ → Option (List ℕ) → Option (List ℕ)
     → Result (Unit {0}) ReportFault → Type 0
-Reports settings script line at_first now (Ok u) =
-    (text : List ℕ) × IsReportOf settings script line text × Appends at_first now text
-Reports settings script line at_first now (Err fault.Write) =
-    (text : List ℕ) × IsReportOf settings script line text × AppendsFront at_first now text
-Reports settings script line at_first now (Err (fault.New f)) = IsNew settings (Err f) × Appends at_first now []
-Reports settings script line at_first now (Err fault.TooLong) = Passes settings script × Appends at_first now []
-Reports settings script line at_first now (Err (fault.NoLine n)) = LacksLine script line n × Appends at_first now []
-Reports settings script line at_first now (Err fault.Aside) =
+Reports settings script form line at_first now (Ok u) =
+    (text : List ℕ) × IsReportOf settings script form line text × Appends at_first now text
+Reports settings script form line at_first now (Err fault.Write) =
+    (text : List ℕ) × IsReportOf settings script form line text × AppendsFront at_first now text
+Reports settings script form line at_first now (Err (fault.New f)) = IsNew settings (Err f) × Appends at_first now []
+Reports settings script form line at_first now (Err fault.TooLong) = Passes settings script × Appends at_first now []
+Reports settings script form line at_first now (Err (fault.NoLine n)) =
+    LacksLine script line n × Appends at_first now []
+Reports settings script form line at_first now (Err fault.Aside) =
     IsSilent settings script line fault.Aside × Appends at_first now []
-Reports settings script line at_first now (Err fault.Dropped) =
+Reports settings script form line at_first now (Err fault.Dropped) =
     IsSilent settings script line fault.Dropped × Appends at_first now []

@@ -1,9 +1,9 @@
-//! Why there is no report.
+//! Why no report is written.
 
 use bench_core::NewFault;
 use script_steps::TooLong;
 
-/// Why there is no report, or only the front of one.
+/// Why no report is written, or only a part of one.
 #[derive(Clone, Copy)]
 pub enum ReportFault {
     /// There is no bench under these settings, or no memory for one.
@@ -12,10 +12,10 @@ pub enum ReportFault {
     TooLong,
     /// A write failed, or took no bytes.
     Write,
-    /// The script has no such line: it has so many.
+    /// The script has no such line: it has this many.
     NoLine(u32),
     /// The line is a comment or empty.
     Aside,
-    /// The line is dropped: it stands behind a line that breaks a rule of continuation, whose column 72 isn't blank.
+    /// The line is dropped: it follows a line that breaks a rule of continuation, whose column 72 isn't blank.
     Dropped,
 }

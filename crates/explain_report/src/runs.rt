@@ -8,41 +8,39 @@ ghost use Rattle.script_steps.specs.Output.{Marked};
 ghost use Rattle.script_steps.specs.Script.{NoFeed};
 ghost use Rattle.script_steps.specs.Steps.{StepsOver};
 ghost use Rattle.script_steps.specs.Taken.{Took};
-ghost use Rattle.text_output.specs.Writing.{AppendsFront, Holds, Puts};
+ghost use Rattle.text_output.specs.Writing.{AppendsFront, Holds};
 ghost use Rattle.explain_report.specs.Lines.{some_line};
 ghost use Rattle.explain_report.specs.Reports.{HasLine, IsReached, IsRest, IsRestAt, IsRestOf, Reaches, ReachesLine};
 ghost use Rattle.explain_report.specs.Reports.{ReachesLines, ReachesStep, Reports, StaysTo, WritesReport};
 ghost use Rattle.explain_report.specs.Reports.{ends_by, lacks_answer, silence};
 ghost use Rattle.explain_report.specs.Said.{said_by, said_with};
-ghost use Rattle.explain_report.specs.Texts.{said_text};
 ghost use Rattle.macro_reader.specs.Roles.{IsStand};
 ghost use Rattle.macro_reader.specs.Scripts.{Mode};
 ghost use Rattle.explain_report.specs.declared.faults.ReportFault.TheVariants as fault;
 
 use crate::faults::ReportFault;
-use crate::tables::put_table;
-use crate::times::moment_of;
+use crate::said::put_said;
 use arrayvec::ArrayVec;
 use bench_core::Bench;
-use script_steps::{
-    Ending, NumberedResponse, ReaderState, Session, Step, TooLong, Watch, put_response,
-};
+use listed_text::Form;
+use report_rows::{moment_of, put_table};
+use script_steps::{Ending, NumberedResponse, ReaderState, Session, Step, TooLong, Watch};
 use std::alloc::Global;
 use std::io::Write;
-use text_output::{Gathered, put_decimal};
+use text_output::Gathered;
 use vsm_model::Settings;
 
-/// What the last answer so far was, with its number, and the bytes that it shows.
+/// The last answer so far, with its number, and the bytes that it shows.
 #[derive(Drop)]
-struct LastAnswer {
+pub struct LastAnswer {
     told: NumberedResponse,
     shown: ArrayVec<u8, 256>,
 }
 
 impl LastAnswer {
     /// No answer so far.
-    fn new() -> LastAnswer
-        ensures { said_by result ≡ said_text [] None }
+    pub fn new() -> LastAnswer
+        ensures { said_by result ≡ None }
     {
         LastAnswer {
             told: None,
@@ -50,7 +48,7 @@ impl LastAnswer {
         }
     }
 
-    /// Notes an answer, if there is one, where these bytes are shown.
+    /// Notes an answer, if there is one, and the bytes that it shows.
     fn note(&mut self, told: &NumberedResponse, shown: &ArrayVec<u8, 256>)
         ensures { said_by self.new ≡ said_with told.now shown.now.items (said_by self.old) }
     {
@@ -62,7 +60,16 @@ impl LastAnswer {
     }
 }
 
-/// Whether so many lines were taken, and no statement is open.
+/// Up to where lines of a script were taken; the place is after the last of them.
+#[derive(Clone, Copy)]
+pub enum TakenTo {
+    /// To the end of a line's statement.
+    Statement(usize),
+    /// To the script's last line feed.
+    LastFeed(usize),
+}
+
+/// Whether this number of lines was taken, and no statement is open.
 fn ends_by(session: &Session, line: u32) -> bool
     ensures { result ≡ ends_by line session.now }
 {
@@ -72,8 +79,8 @@ fn ends_by(session: &Session, line: u32) -> bool
     }
 }
 
-/// Why there is no report after a line that isn't answered, by where the reader stood before it.
-fn unanswered(before: ReaderState) -> ReportFault
+/// Why a line has no answer, by the state of the reader before it.
+pub fn unanswered(before: ReaderState) -> ReportFault
     ensures { (mode : Mode) → IsStand mode before → result ≡ silence mode }
 {
     match before {
@@ -128,15 +135,14 @@ fn take_all<P: Watch>(
     Ok(at)
 }
 
-/// Takes lines up to a line, and on to the end of its statement. If the script ends before, it gives the place after
-/// the last line feed.
-fn take_to<P: Watch>(
+/// Takes lines up to a line, and on to the end of its statement, or up to the last line feed if the script ends before.
+pub fn take_to<P: Watch>(
     session: &mut Session,
     script: &[u8],
     line: u32,
     last: &mut LastAnswer,
     watch: &mut P,
-) -> Result<Option<usize>, ReportFault>
+) -> Result<TakenTo, ReportFault>
     requires { 0 < line }
     ensures reaches { (settings : SettingsIn) → Reaches settings [] session.old last.old
         → ReachesLine settings script.now line session.new last.new result }
@@ -147,12 +153,12 @@ fn take_to<P: Watch>(
         let before = session.stand();
         match take_step(session, script, at, last) {
             Err(_) => return Err(ReportFault::TooLong),
-            Ok(None) => return Ok(Some(at)),
+            Ok(None) => return Ok(TakenTo::LastFeed(at)),
             Ok(Some(step)) => {
                 at = step.next;
                 if ends_by(session, line) {
                     return if step.told.is_some() {
-                        Ok(None)
+                        Ok(TakenTo::Statement(at))
                     } else {
                         Err(unanswered(before))
                     };
@@ -161,10 +167,10 @@ fn take_to<P: Watch>(
         }
         watch.line(session.lines());
     }
-    Ok(Some(at))
+    Ok(TakenTo::LastFeed(at))
 }
 
-/// What stands in a script from a place on.
+/// The bytes of a script from a place on.
 pub(crate) fn rest_from(script: &[u8], at: usize) -> &[u8]
     requires { at ≤ length script.now }
     ensures { result.now ≡ drop at script.now }
@@ -173,7 +179,7 @@ pub(crate) fn rest_from(script: &[u8], at: usize) -> &[u8]
 }
 
 /// How many lines a script has, of which a session took all, and these bytes after the last line feed.
-fn lines_with(session: &Session, rest: &[u8]) -> u32
+pub fn lines_with(session: &Session, rest: &[u8]) -> u32
     ensures { result ≡ session.now.lines + some_line rest.now }
 {
     session.lines() + u32::from(!rest.is_empty())
@@ -195,44 +201,26 @@ pub(crate) fn end_text<W: Write>(
     }
 }
 
-/// Puts the first line of a report: which statement it follows, and what that was answered, where these bytes are
-/// shown.
-fn put_said<W: Write>(
-    gathered: &mut Gathered,
-    writer: &mut W,
-    shown: &[u8],
-    told: &NumberedResponse,
-)
-    ensures { Puts (W.contents writer.old) (W.contents writer.new) gathered.old gathered.new
-        (said_text shown.now told.now) }
-{
-    match told {
-        Some((line, response)) => {
-            gathered.put(writer, b"line ");
-            put_decimal(gathered, writer, u64::from(*line));
-            gathered.put(writer, b": ");
-            put_response(gathered, writer, shown, response);
-            gathered.put(writer, b"\n");
-        }
-        None => gathered.put(writer, b"no statement\n"),
-    }
-}
-
 /// Writes the report of a bench after an answer.
-fn write_report<W: Write>(bench: &Bench, last: &LastAnswer, out: &mut W) -> Result<(), ReportFault>
-    ensures { WritesReport (settings_in bench.now) (bench_of bench.now).present.storage (said_by last.now)
+fn write_report<W: Write>(
+    bench: &Bench,
+    form: Form,
+    last: &LastAnswer,
+    out: &mut W,
+) -> Result<(), ReportFault>
+    ensures { WritesReport (settings_in bench.now) form (bench_of bench.now).present.storage (said_by last.now)
         (W.contents out.old) (W.contents out.new) result }
 {
     let mut gathered = Gathered::new();
     let storage = bench.storage();
     let moment = moment_of(storage);
-    put_said(&mut gathered, out, last.shown.as_slice(), &last.told);
-    put_table(&mut gathered, out, storage, &moment);
+    put_said(&mut gathered, out, form, last.shown.as_slice(), &last.told);
+    put_table(&mut gathered, out, form, storage, &moment);
     end_text(gathered, out, Ok(()))
 }
 
 /// Whether a line is asked for, and the end of the script brought no answer.
-fn lacks_answer(line: Option<u32>, ending: &Ending) -> bool
+pub fn lacks_answer(line: Option<u32>, ending: &Ending) -> bool
     ensures { result ≡ lacks_answer line ending.now.last ending.now.open_statement }
 {
     line.is_some() && ending.last.is_none() && ending.open_statement.is_none()
@@ -241,13 +229,14 @@ fn lacks_answer(line: Option<u32>, ending: &Ending) -> bool
 /// Reports what the end of a script left, after the last answer. If a line is asked for, the end has to bring one.
 fn report_end<W: Write>(
     session: Session,
+    form: Form,
     line: Option<u32>,
     last: LastAnswer,
     out: &mut W,
 ) -> Result<(), ReportFault>
     ensures { (settings : SettingsIn) (script : List ℕ) → Reaches settings script session last
         → HasLine settings script line
-        → Reports settings script line (W.contents out.old) (W.contents out.new) result }
+        → Reports settings script form line (W.contents out.old) (W.contents out.new) result }
 {
     let before = session.stand();
     let ending = session.end();
@@ -258,7 +247,7 @@ fn report_end<W: Write>(
     let mut last = last;
     last.note(&ending.last, &ending.shown);
     last.note(&ending.open_statement, &ending.shown);
-    let outcome = write_report(&ending.bench, &last, out);
+    let outcome = write_report(&ending.bench, form, &last, out);
     drop(ending);
     outcome
 }
@@ -268,6 +257,7 @@ fn report_rest<W: Write>(
     session: Session,
     script: &[u8],
     at: usize,
+    form: Form,
     line: Option<u32>,
     last: LastAnswer,
     out: &mut W,
@@ -275,7 +265,7 @@ fn report_rest<W: Write>(
     requires { IsRestAt script.now at }
     ensures { (settings : SettingsIn) → Reaches settings (take at script.now) session last
         → StaysTo settings script.now line session
-        → Reports settings script.now line (W.contents out.old) (W.contents out.new) result }
+        → Reports settings script.now form line (W.contents out.old) (W.contents out.new) result }
 {
     let mut session = session;
     let rest = rest_from(script, at);
@@ -290,7 +280,7 @@ fn report_rest<W: Write>(
                 drop(session);
                 Err(ReportFault::NoLine(lines))
             } else {
-                report_end(session, line, last, out)
+                report_end(session, form, line, last, out)
             }
         }
     }
@@ -300,16 +290,17 @@ fn report_rest<W: Write>(
 fn report_all<W: Write, P: Watch>(
     bench: Bench,
     script: &[u8],
+    form: Form,
     out: &mut W,
     watch: &mut P,
 ) -> Result<(), ReportFault>
     ensures { (settings : SettingsIn) → IsNew settings (Ok bench)
-        → Reports settings script.now None (W.contents out.old) (W.contents out.new) result }
+        → Reports settings script.now form None (W.contents out.old) (W.contents out.new) result }
 {
     let mut session = Session::new(bench);
     let mut last = LastAnswer::new();
     match take_all(&mut session, script, &mut last, watch) {
-        Ok(at) => report_rest(session, script, at, None, last, out),
+        Ok(at) => report_rest(session, script, at, form, None, last, out),
         Err(_) => {
             drop(session);
             Err(ReportFault::TooLong)
@@ -321,12 +312,13 @@ fn report_all<W: Write, P: Watch>(
 fn report_at<W: Write, P: Watch>(
     bench: Bench,
     script: &[u8],
+    form: Form,
     line: u32,
     out: &mut W,
     watch: &mut P,
 ) -> Result<(), ReportFault>
     ensures { (settings : SettingsIn) → IsNew settings (Ok bench)
-        → Reports settings script.now (Some line) (W.contents out.old) (W.contents out.new) result }
+        → Reports settings script.now form (Some line) (W.contents out.old) (W.contents out.new) result }
 {
     let mut session = Session::new(bench);
     if line == 0 {
@@ -335,9 +327,9 @@ fn report_at<W: Write, P: Watch>(
     }
     let mut last = LastAnswer::new();
     match take_to(&mut session, script, line, &mut last, watch) {
-        Ok(Some(at)) => report_rest(session, script, at, Some(line), last, out),
-        Ok(None) => {
-            let outcome = write_report(session.bench(), &last, out);
+        Ok(TakenTo::LastFeed(at)) => report_rest(session, script, at, form, Some(line), last, out),
+        Ok(TakenTo::Statement(_)) => {
+            let outcome = write_report(session.bench(), form, &last, out);
             drop(session);
             outcome
         }
@@ -349,22 +341,23 @@ fn report_at<W: Write, P: Watch>(
 }
 
 /// Writes what each subpool of a script's storage has, and what is unassigned, after the statement of a line: the last
-/// statement if no line is said.
+/// statement if no line is said. In the form: a table, or an object for each line of it.
 pub fn report<W: Write, P: Watch>(
     alloc: Global,
     script: &[u8],
     settings: Settings,
+    form: Form,
     line: Option<u32>,
     out: &mut W,
     watch: &mut P,
 ) -> Result<(), ReportFault>
-    ensures told { Reports settings script.now line (W.contents out.old) (W.contents out.new) result }
+    ensures told { Reports settings script.now form line (W.contents out.old) (W.contents out.new) result }
 {
     match Bench::new(alloc, settings) {
         Err(fault) => Err(ReportFault::New(fault)),
         Ok(bench) => match line {
-            None => report_all(bench, script, out, watch),
-            Some(line) => report_at(bench, script, line, out, watch),
+            None => report_all(bench, script, form, out, watch),
+            Some(line) => report_at(bench, script, form, line, out, watch),
         },
     }
 }

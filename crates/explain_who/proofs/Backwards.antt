@@ -11,7 +11,7 @@ map_reverse f (x ∷ xs) =
     ap (map f) (reverse_onto xs x []) ∙ map-append f (reverse xs) (x ∷ []) ∙ ap (λ ys. ys ++ f x ∷ []) (map_reverse f xs)
     ∙ sym (reverse_onto (map f xs) (f x) [])
 
--- One item more, of those from a place to the end, the last of which comes first.
+-- Another item, of those from a place to the end, last first.
 pub next_back : {A B : Type 0} (g : A → B) (f : B → List ℕ) (xs : List A) (i j : ℕ) (x : A) → j < length xs → x ≡ get_or xs j x → i ≡ suc j →
     flat_map f (reverse (drop j (map g xs))) ≡ flat_map f (reverse (drop i (map g xs))) ++ f (g x)
 next_back g f xs i j x short is next =

@@ -1,10 +1,2 @@
-pub mod Moves
-pub mod Lines
-pub mod Followed
-pub mod Tasks
-pub mod Walked
-pub mod Whole
-pub mod Places
-pub mod Backwards
-pub mod Shown
-pub mod Told
+mod Backwards
+mod Told

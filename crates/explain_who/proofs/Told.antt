@@ -3,56 +3,47 @@ use Rattle.std.proofs.Common.{◌≡◌, ℕ, Bool, true, false, if◌then◌els
 use Rattle.std.proofs.lemmas.List.{length-map, length-reverse, reverse-reverse}
 use Rattle.std.proofs.lemmas.Simd.{map-map}
 use Rattle.std.specs.Io.KnownBytes.{Appends}
+use Rattle.listed_text.specs.declared.json.Form.{Form}
 use Rattle.macro_statements.specs.Requests.{Act}
 use Rattle.vsm_model.specs.declared.limits.Settings.{Settings}
 use Rattle.vsm_model.specs.declared.replies.Reply.{Reply}
-use Rattle.vsm_model.specs.Names.{first_named_state}
 use Rattle.vsm_model.specs.Standing.{Stood, Standing, nothing_stands}
-use Rattle.bench_core.specs.Machine.{statement_step}
-use Rattle.text_output.specs.Writing.{AppendsFront, IsEmpty, Puts, Writes}
+use Rattle.text_output.specs.Writing.{AppendsFront, Puts}
 use Rattle.text_output.specs.declared.writing.Gathered.{Gathered}
-use Rattle.text_output.specs.declared.writing.WriteFault.{WriteFault}
-use Rattle.text_output.specs.Writing.{Holds}
-use Rattle.text_output.proofs.Gathering.{empty_holds}
 use Rattle.text_output.proofs.Known.{appends_nothing}
-use Rattle.explain_who.specs.Faults.{FollowsNot}
-use Rattle.explain_who.specs.Lined.{lined_all}
-use Rattle.explain_who.specs.Readings.{reading}
-use Rattle.explain_who.specs.Texts.{found_text, kept_text, log_text, lines_of, standing_text, state_text, statements_text}
-use Rattle.explain_who.specs.Told.{is_absent, missing, lacking, standing_entries, undone_entries, entry_lines, TellsFound, changes_of, who_text, lacking_of, NamesChanges, NamesStatements}
-use Rattle.explain_who.specs.Traced.{IsTraced, reading_alone}
-use Rattle.explain_who.specs.Trails.{marks_of}
-use Rattle.explain_who.specs.Who.{Difference, differences_of}
-use Rattle.explain_who.specs.declared.faults.WhoFault.{WhoFault}
-use Rattle.explain_who.specs.declared.faults.WhoFault.TheVariants as fault
-use Rattle.explain_who.specs.declared.readings.Subject.{Subject as AskedOf}
-use Rattle.explain_who.specs.declared.readings.Subject.TheVariants as asked
-use Rattle.explain_who.specs.declared.readings.Seen.{Seen}
-use Rattle.explain_who.specs.declared.trail.TrailEntry.{TrailEntry}
-use Rattle.explain_who.specs.declared.tracing.Traced.{Traced}
+use Rattle.line_changes.specs.Faults.{FollowsNot}
+use Rattle.line_changes.specs.Lined.{lined_all}
+use Rattle.line_changes.specs.Readings.{reading}
+use Rattle.explain_who.specs.Forms.{found_in, head_in, kept_in, log_in, lines_of, standing_in, state_in, statements_in}
+use Rattle.explain_who.specs.Told.{is_absent, missing, lacking, standing_entries, undone_entries, entry_lines, TellsFound, changes_of, who_in, lacking_of, NamesChanges, NamesStatements}
+use Rattle.line_changes.specs.Traced.{IsTraced, reading_alone}
+use Rattle.line_changes.specs.Trails.{marks_of}
+use Rattle.line_changes.specs.Who.{Difference, differences_of}
+use Rattle.line_changes.specs.declared.faults.WhoFault.{WhoFault}
+use Rattle.line_changes.specs.declared.faults.WhoFault.TheVariants as fault
+use Rattle.line_changes.specs.declared.readings.Subject.{Subject as AskedOf}
+use Rattle.line_changes.specs.declared.readings.Subject.TheVariants as asked
+use Rattle.line_changes.specs.declared.readings.Seen.{Seen}
+use Rattle.line_changes.specs.declared.trail.TrailEntry.{TrailEntry}
+use Rattle.line_changes.specs.declared.tracing.Traced.{Traced}
 use Rattle.explain_who.proofs.Backwards.{map_reverse}
-use Rattle.explain_who.proofs.Followed.{found_standing}
-use Rattle.explain_who.proofs.Moves.{onto, seen_count, seen_lines, standing_marks, undone_marks}
-
--- What is put is written, where nothing was gathered before.
-pub all_written : (old now new : Option (List ℕ)) (g h : Gathered) (text : List ℕ) (r : Result (Unit {0}) WriteFault) → IsEmpty g → Puts old now g h text →
-    ((at_first : Option (List ℕ)) (t : List ℕ) → Holds at_first now h t → Writes at_first new t r) → Writes old new text r
-all_written old now new g h text r empty put out = out old text (put old [] (empty_holds old old g [] empty (appends_nothing old)))
+use Rattle.line_changes.proofs.Followed.{found_standing}
+use Rattle.line_changes.proofs.Moves.{onto, seen_count, seen_lines, standing_marks, undone_marks}
 
 -- The lines of statements are put, each as often as it has an entry.
-pub log_put : (old new : Option (List ℕ)) (a b : Gathered) (script : List ℕ) (u undone s standing : List (TrailEntry Seen)) (kept : ℕ) → u ≡ undone → s ≡ standing →
-    Puts old new a b (flat_map (state_text script (codes "undone")) (reverse (entry_lines u)) ++ standing_text script (reverse (entry_lines s)) kept ++ kept_text (length s) kept) →
-    Puts old new a b (statements_text script (entry_lines undone) (reverse (entry_lines standing)) kept)
-log_put old new a b script u undone s standing kept is_undone stand put =
+pub log_put : (old new : Option (List ℕ)) (a b : Gathered) (form : Form) (script : List ℕ) (u undone s standing : List (TrailEntry Seen)) (kept : ℕ) → u ≡ undone → s ≡ standing →
+    Puts old new a b (head_in form ++ flat_map (state_in form script (codes "undone")) (reverse (entry_lines u)) ++ standing_in form script (reverse (entry_lines s)) kept ++ kept_in form (length s) kept) →
+    Puts old new a b (statements_in form script (entry_lines undone) (reverse (entry_lines standing)) kept)
+log_put old new a b form script u undone s standing kept is_undone stand put =
     let count : length s ≡ length (reverse (entry_lines s)) = sym (length-reverse (entry_lines s) ∙ length-map s (λ (e : TrailEntry Seen). e.line)) in
-    let front = flat_map (state_text script (codes "undone")) (reverse (entry_lines u)) ++ standing_text script (reverse (entry_lines s)) kept in
-    let same : front ++ kept_text (length s) kept ≡ statements_text script (entry_lines undone) (reverse (entry_lines standing)) kept =
-    ap (λ n. front ++ kept_text n kept) count ∙ (λ i. statements_text script (entry_lines (is_undone i)) (reverse (entry_lines (stand i))) kept) in
+    let front = head_in form ++ flat_map (state_in form script (codes "undone")) (reverse (entry_lines u)) ++ standing_in form script (reverse (entry_lines s)) kept in
+    let same : front ++ kept_in form (length s) kept ≡ statements_in form script (entry_lines undone) (reverse (entry_lines standing)) kept =
+    ap (λ n. front ++ kept_in form n kept) count ∙ (λ i. statements_in form script (entry_lines (is_undone i)) (reverse (entry_lines (stand i))) kept) in
     subst (Puts old new a b) same put
 
-module _ (settings : Settings) (script : List ℕ) (t : Traced) (question : AskedOf) (found : List Difference) (old : Option (List ℕ)) where
+module _ (settings : Settings) (script : List ℕ) (form : Form) (t : Traced) (question : AskedOf) (found : List Difference) (old : Option (List ℕ)) where
   abbrev Says : WhoFault → Type 0
-  Says f = lacking question t.first found ≡ Some f → TellsFound settings script t question found old old (Err f)
+  Says f = lacking question t.first found ≡ Some f → TellsFound settings script form t question found old old (Err f)
 
   says : (q : AskedOf) (f : WhoFault) → missing q ≡ Some f → Says f
   says (asked.Bytes address count) f e = absurd (let no : ◌≡◌ {A = Option WhoFault} None (Some f) = e in cc)
@@ -73,11 +64,11 @@ module _ (settings : Settings) (script : List ℕ) (t : Traced) (question : Aske
   from_lacking [] f e = is_missing (is_absent t.first) f e
   from_lacking (d ∷ ds) f e = absurd (let no : ◌≡◌ {A = Option WhoFault} None (Some f) = e in cc)
 
-  pub lacking_told : (f : WhoFault) → lacking question t.first found ≡ Some f → TellsFound settings script t question found old old (Err f)
+  pub lacking_told : (f : WhoFault) → lacking question t.first found ≡ Some f → TellsFound settings script form t question found old old (Err f)
   lacking_told f e = says question f (from_lacking found f e) e
 
-module _ (settings : Settings) (script : List ℕ) where
-  -- how many statements stand
+module _ (settings : Settings) (script : List ℕ) (form : Form) where
+  -- how many statements are in effect
   stand_count : (asked : Option AskedOf) (t : Traced) (h : IsTraced settings script asked t) →
       length (standing_entries t) ≡ length (lined_all settings nothing_stands h.answers).stood
   stand_count asked t h =
@@ -96,14 +87,14 @@ module _ (settings : Settings) (script : List ℕ) where
     found_is : found ≡ changes_of settings script question h.answers
     found_is = found_standing settings (reading settings (Some question)) h.answers t.first (marks_of t.trail) h.first h.follows
 
-    text_is : found_text settings script question found (length (standing_entries t)) ≡ who_text settings script question h.answers
-    text_is = λ i. found_text settings script question (found_is i) (stand_count (Some question) t h i)
+    text_is : found_in form settings script question found (length (standing_entries t)) ≡ who_in settings script form question h.answers
+    text_is = λ i. found_in form settings script question (found_is i) (stand_count (Some question) t h i)
 
     lacking_is : lacking question t.first found ≡ lacking_of settings script question h.answers
     lacking_is = λ i. lacking question (h.first i) (found_is i)
 
-    pub changes_named : (old new : Option (List ℕ)) (r : Result (Unit {0}) WhoFault) → TellsFound settings script t question found old new r →
-        NamesChanges settings script question old new r
+    pub changes_named : (old new : Option (List ℕ)) (r : Result (Unit {0}) WhoFault) → TellsFound settings script form t question found old new r →
+        NamesChanges settings script form question old new r
     changes_named old new (Ok u) (none, out) =
         (h.answers, h.ended, sym lacking_is ∙ none, subst (Appends old new) text_is out)
     changes_named old new (Err fault.Write) (none, out) =
@@ -117,7 +108,7 @@ module _ (settings : Settings) (script : List ℕ) where
 
   -- A script that isn't followed.
   pub changes_unnamed : (question : AskedOf) (old : Option (List ℕ)) (f : WhoFault) → FollowsNot settings script f →
-      NamesChanges settings script question old old (Err f)
+      NamesChanges settings script form question old old (Err f)
   changes_unnamed question old (fault.New f) h = (h, appends_nothing old)
   changes_unnamed question old fault.TooLong h = (h, appends_nothing old)
   changes_unnamed question old fault.Memory h = appends_nothing old
@@ -127,7 +118,7 @@ module _ (settings : Settings) (script : List ℕ) where
   changes_unnamed question old fault.Write h = absurd h
 
   pub statements_unnamed : (old : Option (List ℕ)) (f : WhoFault) → FollowsNot settings script f →
-      NamesStatements settings script old old (Err f)
+      NamesStatements settings script form old old (Err f)
   statements_unnamed old (fault.New f) h = (h, appends_nothing old)
   statements_unnamed old fault.TooLong h = (h, appends_nothing old)
   statements_unnamed old fault.Memory h = appends_nothing old
@@ -160,5 +151,5 @@ module _ (settings : Settings) (script : List ℕ) where
         ∙ ap reverse (seen_lines read [] old ∙ lines_in (reverse stands.stood) ∙ map_reverse (λ x. x.statement.0) stands.stood)
         ∙ reverse-reverse (lines_of stands.stood)
 
-    pub log_is : statements_text script (entry_lines (undone_entries t)) (reverse (entry_lines (standing_entries t))) t.kept ≡ log_text script stands
-    log_is = λ i. statements_text script (undone_is i) (standing_is i) (h.kept i)
+    pub log_is : statements_in form script (entry_lines (undone_entries t)) (reverse (entry_lines (standing_entries t))) t.kept ≡ log_in form script stands
+    log_is = λ i. statements_in form script (undone_is i) (standing_is i) (h.kept i)

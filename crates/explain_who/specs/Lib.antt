@@ -1,12 +1,4 @@
-pub mod Holdings
-pub mod Readings
-pub mod Trails
-pub mod Who
-pub mod Code
-pub mod Notes
-pub mod Lined
-pub mod ScriptLines
-pub mod Faults
-pub mod Traced
 pub mod Texts
+pub mod Objects
+pub mod Forms
 pub mod Told

@@ -3,38 +3,15 @@ ghost use Rattle.std.specs.Prelude.{◌≡◌, ◌+◌, ◌-◌, ◌*◌, ◌/�
 ghost use Rattle.text_output.specs.Writing.{Puts};
 ghost use Rattle.script_steps.specs.Responses.{shown_text};
 ghost use Rattle.vsm_model.specs.Regions.{among, in_a_region};
-ghost use Rattle.explain_who.specs.Texts.{asked_text, counted, holding_text, is_outside, numbered, outside_text};
-ghost use Rattle.explain_who.specs.Texts.{pages_text, plural, question_text, runs_text, seen_text, taken_and_free};
-ghost use Rattle.explain_who.specs.Texts.{word_text};
+ghost use Rattle.explain_who.specs.Texts.{asked_text, holding_text, is_outside, numbered, outside_text, pages_text};
+ghost use Rattle.explain_who.specs.Texts.{question_text, runs_text, seen_text, taken_and_free, word_text};
 
-use crate::holdings::{Holding, Runs};
-use crate::readings::{Seen, Subject};
+use line_changes::{Holding, Runs, Seen, Subject, put_count};
 use std::io::Write;
 use taken_places::{put_subpool, put_taken};
 use text_output::{Gathered, put_byte, put_decimal, put_hexadecimal};
 use vsm_model::Settings;
 use vsm_model::geometry::{HIGH_PAGE, LOW_PAGE, PAGE_BYTES, PAGE_K};
-
-/// Puts the plural's letter if there isn't one of it.
-#[tactic(auto, using(text_output::proofs::Gathering::puts_none))]
-fn put_plural<W: Write>(gathered: &mut Gathered, writer: &mut W, n: u64)
-    ensures { Puts (W.contents writer.old) (W.contents writer.new) gathered.old gathered.new (plural n) }
-{
-    if n != 1 {
-        gathered.put(writer, b"s");
-    }
-}
-
-/// Puts a number, and after it what it counts: the word, and an `s` if there isn't one of it.
-#[tactic(auto, using(text_output::proofs::Gathering::puts_both))]
-pub fn put_count<W: Write>(gathered: &mut Gathered, writer: &mut W, n: u64, word: &[u8])
-    ensures { Puts (W.contents writer.old) (W.contents writer.new) gathered.old gathered.new (counted n word.now) }
-{
-    put_decimal(gathered, writer, n);
-    gathered.put(writer, b" ");
-    gathered.put(writer, word);
-    put_plural(gathered, writer, n);
-}
 
 /// Puts some words, and a number after them.
 #[tactic(auto, using(text_output::proofs::Gathering::puts_both))]
@@ -48,7 +25,7 @@ fn put_numbered<W: Write>(gathered: &mut Gathered, writer: &mut W, words: &[u8],
 
 /// Puts what is asked for, addresses in hexadecimal digits.
 #[tactic(auto, using(text_output::proofs::Gathering::puts_both))]
-fn put_asked<W: Write>(gathered: &mut Gathered, writer: &mut W, asked: &Subject)
+pub(crate) fn put_asked<W: Write>(gathered: &mut Gathered, writer: &mut W, asked: &Subject)
     ensures { Puts (W.contents writer.old) (W.contents writer.new) gathered.old gathered.new
         (asked_text asked.now) }
 {
@@ -81,7 +58,7 @@ fn put_asked<W: Write>(gathered: &mut Gathered, writer: &mut W, asked: &Subject)
     }
 }
 
-/// Whether a page is one of so many from the first on.
+/// Whether a page is one of that many from the first on.
 fn is_among(first: u32, count: u32, page: u32) -> bool
     requires { first + count < 2 ^ 32 }
     ensures { result ≡ among first count page }
@@ -89,7 +66,7 @@ fn is_among(first: u32, count: u32, page: u32) -> bool
     first <= page && page < first + count
 }
 
-/// Whether an address lies in a region.
+/// Whether an address is in a region.
 fn is_in_a_region(settings: Settings, address: u32) -> bool
     ensures { result ≡ in_a_region settings (address / 4096) }
 {
@@ -98,7 +75,7 @@ fn is_in_a_region(settings: Settings, address: u32) -> bool
         || is_among(LOW_PAGE, settings.low_k / PAGE_K, page)
 }
 
-/// Whether an address is asked for that is in neither region.
+/// Whether what is asked for is at an address in neither region.
 fn is_outside(settings: Settings, asked: &Subject) -> bool
     ensures { result ≡ is_outside settings asked.now }
 {
@@ -111,7 +88,7 @@ fn is_outside(settings: Settings, asked: &Subject) -> bool
 
 /// Puts that the address is in neither region if it isn't.
 #[tactic(auto, using(text_output::proofs::Gathering::puts_none))]
-fn put_outside<W: Write>(
+pub(crate) fn put_outside<W: Write>(
     gathered: &mut Gathered,
     writer: &mut W,
     settings: Settings,
@@ -127,7 +104,7 @@ fn put_outside<W: Write>(
 
 /// Puts what is asked for, and that it's in neither region if it isn't.
 #[tactic(auto, using(text_output::proofs::Gathering::puts_both))]
-pub(crate) fn put_question<W: Write>(
+pub(crate) fn put_question_line<W: Write>(
     gathered: &mut Gathered,
     writer: &mut W,
     settings: Settings,
@@ -152,7 +129,7 @@ fn put_word<W: Write>(gathered: &mut Gathered, writer: &mut W, word: Option<u32>
     }
 }
 
-/// Puts how many runs there are, after how much is in them.
+/// Puts in how many runs it is.
 #[tactic(auto, using(text_output::proofs::Gathering::puts_both))]
 fn put_runs<W: Write>(gathered: &mut Gathered, writer: &mut W, runs: Runs, word: &[u8])
     ensures { Puts (W.contents writer.old) (W.contents writer.new) gathered.old gathered.new

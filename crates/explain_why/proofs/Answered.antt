@@ -3,7 +3,7 @@ use Rattle.std.proofs.Common.{◌≡◌, inl, inr, ℕ, Bool, true, false, List,
 use Rattle.std.proofs.lemmas.List.{append-nil}
 use Rattle.std.proofs.KnownBytes.{Appends-nil}
 use Rattle.std.specs.Io.KnownBytes.{Appends}
-use Rattle.std.specs.Prelude.{Ok, Err, Result, IfOk}
+use Rattle.std.specs.Prelude.{Ok}
 use Rattle.std.specs.Option.{option_or}
 use Rattle.vsm_model.specs.declared.limits.Settings.{Settings}
 use Rattle.script_steps.specs.Output.{Marked}
@@ -17,11 +17,19 @@ use Rattle.text_output.specs.Writing.{Holds, IsEmpty, Puts}
 use Rattle.text_output.specs.declared.writing.Gathered.{Gathered}
 use Rattle.text_output.proofs.Gathering.{empty_holds, puts_both}
 use Rattle.place_reasons.specs.Told.{PutsSome}
-use Rattle.explain_why.specs.Answers.{IsAnswer, IsNextAnswer, PutsAnswer, WritesAnswer, answer_text, first_text, tells_refusal}
+use Rattle.explain_why.specs.Answers.{IsNextAnswer, PutsAnswer, WritesAnswer, answer_text, first_text, tells_refusal}
 use Rattle.explain_why.specs.Told.{PutsBeginning}
 
 pub begins : (first : List ℕ) (old now new : Option (List ℕ)) (a b c : Gathered) → Puts old now a b first → PutsSome now new b c → PutsBeginning old new a c first
 begins first old now new a b c h (rest, k) = (rest, puts_both old now new a b c first rest h k)
+
+-- a beginning, and more
+pub begins_more : (first : List ℕ) (old now new : Option (List ℕ)) (a b c : Gathered) → PutsBeginning old now a b first → PutsSome now new b c → PutsBeginning old new a c first
+begins_more first old now new a b c (rest, h) (more, k) =
+    (rest ++ more, subst (Puts old new a c) (append_assoc first rest more) (puts_both old now new a b c (first ++ rest) more h k))
+
+pub some_begun : (first : List ℕ) (old new : Option (List ℕ)) (a b : Gathered) → PutsBeginning old new a b first → PutsSome old new a b
+some_begun first old new a b (rest, h) = (first ++ rest, h)
 
 module _ (settings : Settings) (script : List ℕ) (before : List Marked) where
   -- a line that brings nothing leaves the answers as they were

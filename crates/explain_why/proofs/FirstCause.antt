@@ -1,12 +1,11 @@
--- What is told of the cause that the bench finds.
-use Rattle.std.proofs.Common.{◌≡◌, ◌↔◌, inl, inr, ℕ, Bool, true, false, List, Option, Some, None, length, nat_lt, refl, sym, ap, subst, ◌∙◌}
+-- What is said of the cause that the bench finds.
+use Rattle.std.proofs.Common.{◌≡◌, ◌↔◌, inl, inr, ℕ, Bool, false, List, Option, Some, None, refl, sym, ap, subst, ◌∙◌}
 use Rattle.std.specs.Prelude.{Ok, IfSome, unwrap_or}
 use Rattle.vsm_model.specs.declared.causes.Cause.{Cause}
 use Rattle.vsm_model.specs.declared.limits.Settings.{Settings}
 use Rattle.vsm_model.specs.Causes.{first_cause}
 use Rattle.vsm_model.specs.Names.{NamedState, is_one_too_many}
 use Rattle.vsm_model.specs.declared.services.Obtain.{Obtain}
-use Rattle.vsm_model.specs.Areas.{Place}
 use Rattle.vsm_model.specs.Obtaining.{longest, obtain_causes}
 use Rattle.vsm_model.specs.Services.{Service, obtain}
 use Rattle.vsm_model.specs.declared.causes.Cause.TheVariants.{NoStorage}
@@ -19,14 +18,11 @@ use Rattle.storage_core.specs.Meaning.{settings_of, state_of}
 use Rattle.storage_core.specs.declared.storage.Storage.{Storage}
 use Rattle.text_output.specs.declared.writing.Gathered.{Gathered}
 use Rattle.bench_core.specs.Causes.{IsFirstCause}
-use Rattle.place_reasons.specs.Places.{asks_for_place}
 use Rattle.place_reasons.specs.Told.{PutsSome, TellsPlace, place_text}
-use Rattle.place_reasons.proofs.Endings.{ending_both, place_behind}
+use Rattle.place_reasons.proofs.Endings.{ending_behind, ending_both, place_behind}
 use Rattle.place_reasons.proofs.NoPlace.{no_place_is_want_of_storage}
-use Rattle.cause_reasons.specs.Told.{PutsOneOf, TellsCause, TellsEffect}
-use Rattle.explain_why.specs.Told.{TellsAct, TellsArea, TellsFirstCause, TellsItsPlace, TellsRequest}
-use Rattle.cause_reasons.specs.Words.{cause_words}
-use Rattle.cause_reasons.proofs.OneOf.{then_one}
+use Rattle.cause_reasons.specs.Told.{IsTold, TellsCause, TellsEffect, TellsService}
+use Rattle.explain_why.specs.Told.{EndsInOne, TellsAct, TellsArea, TellsFirstCause, TellsItsPlace, TellsRequest}
 
 same_service : (o : Option Service) (x y : Service) → o ≡ Some x → o ≡ Some y → x ≡ y
 same_service o x y e f = (let g : ◌≡◌ {A = Option Service} (Some x) (Some y) = sym e ∙ f in cc)
@@ -43,30 +39,29 @@ module _ (settings : Settings) (m : NamedState) (x : Act) where
 
   -- a name that isn't defined
   unknown_told : (old new : Option (List ℕ)) (a b : Gathered) → service_asked m x ≡ None → TellsFirstCause settings m x old new a b
-  unknown_told old new a b none service cause asked plain first has = absurd (none_is_some (service_asked m x) service none asked)
+  unknown_told old new a b none service cause asked plain first = absurd (none_is_some (service_asked m x) service none asked)
 
   -- no cause
   pub none_told : (old new : Option (List ℕ)) (a b : Gathered) → IsFirstCause settings m x (Ok None) → TellsFirstCause settings m x old new a b
-  none_told old new a b (its, is, none) service cause asked plain first has =
+  none_told old new a b (its, is, none) service cause asked plain first =
       let same = same_service (service_asked m x) its service is asked in
       absurd (none_is_some (first_of service) cause
       (subst (λ y. first_of y ≡ None) same (none (inr (subst (λ y. is_conditional_get y ≡ false) (sym same) plain)))) first)
 
-  -- its first cause, behind some text
+  -- its first cause, after some text
   pub cause_told : (its : Service) (c : Cause) (old now new : Option (List ℕ)) (a b d : Gathered) → service_asked m x ≡ Some its
       → IsFirstCause settings m x (Ok (Some c)) → PutsSome old now a b
-      → ((full : Bool) → TellsCause (causes settings full m.storage its) (cause_words its c) c now new b d) → TellsFirstCause settings m x old new a d
-  cause_told its c old now new a b d is (found, found_is, holds) some told service cause asked plain first has =
+      → ((full : Bool) → TellsCause (causes settings full m.storage its) (IsTold settings m.storage its c) c now new b d) → TellsFirstCause settings m x old new a d
+  cause_told its c old now new a b d is (found, found_is, holds) some told service cause asked plain first =
       let same = same_service (service_asked m x) its service is asked in
       let also = same_service (service_asked m x) found its found_is is in
       let full = is_one_too_many m.names (name_asked x) in
       let here = subst (λ y. first_of y ≡ Some c) also (holds (inl refl)) in
       let cause_is = same_cause (first_of its) c cause here (subst (λ y. first_of y ≡ Some cause) (sym same) first) in
-      subst (λ y. PutsOneOf (cause_words y cause) old new a d) same
-      (subst (λ k. PutsOneOf (cause_words its k) old new a d) cause_is
-      (then_one (cause_words its c) old now new a b d some
-      (told full here (subst (λ k. nat_lt 0 (length (cause_words its k)) ≡ true) (sym cause_is)
-      (subst (λ y. nat_lt 0 (length (cause_words y cause)) ≡ true) (sym same) has)))))
+      let (text, says, puts) = told full here in
+      subst (λ y. EndsInOne (IsTold settings m.storage y cause) old new a d) same
+      (subst (λ k. EndsInOne (IsTold settings m.storage its k) old new a d) cause_is
+      (text, says, ending_behind old now new a b d text some puts))
 
 -- ---- the place of an area
 
@@ -116,16 +111,16 @@ module _ (settings : Settings) (m : NamedState) (x : Act) where
 -- what was found
 found_cause : (s : Storage) (settings : Settings) (m : NamedState) (x : Act) (its : Service) (found : Option Cause) (old now new : Option (List ℕ)) (a b d : Gathered)
     → settings_of s ≡ settings → state_of s ≡ m.storage → service_asked m x ≡ Some its → IsFirstCause settings m x (Ok found) → PutsSome old now a b
-    → IfSome found (λ c. (full : Bool) → TellsCause (causes (settings_of s) full (state_of s) its) (cause_words its c) c now new b d) → TellsFirstCause settings m x old new a d
+    → IfSome found (λ c. TellsService s its c now new b d) → TellsFirstCause settings m x old new a d
 found_cause s settings m x its None old now new a b d under stands is found some told = none_told settings m x old new a d found
 found_cause s settings m x its (Some c) old now new a b d under stands is found some told =
     cause_told settings m x its c old now new a b d is found some
-    (λ full. subst (λ t. TellsCause (causes settings full t its) (cause_words its c) c now new b d) stands
-    (subst (λ t. TellsCause (causes t full (state_of s) its) (cause_words its c) c now new b d) under (told full)))
+    (λ full. subst (λ t. TellsCause (causes settings full t its) (IsTold settings t its c) c now new b d) stands
+    (subst (λ t. TellsCause (causes t full (state_of s) its) (IsTold t (state_of s) its c) c now new b d) under (told full)))
 
 pub found_told : (s : Storage) (settings : Settings) (m : NamedState) (x : Act) (its : Service) (found : Option Cause) (old now new : Option (List ℕ)) (a b d : Gathered)
     → settings_of s ≡ settings → state_of s ≡ m.storage → service_asked m x ≡ Some its → IsFirstCause settings m x (Ok found) → PutsSome old now a b
-    → IfSome found (λ c. (full : Bool) → TellsCause (causes (settings_of s) full (state_of s) its) (cause_words its c) c now new b d)
+    → IfSome found (λ c. TellsService s its c now new b d)
     → (found ≡ None → TellsEffect s its now new b d) → TellsAct settings m x old new a d
 found_told s settings m x its found old now new a b d under stands is holds some told effect = record {
   cause = found_cause s settings m x its found old now new a b d under stands is holds some told;
@@ -137,16 +132,19 @@ pub unknown_act : (settings : Settings) (m : NamedState) (x : Act) (old new : Op
 unknown_act settings m x old new a b none =
     record { cause = unknown_told settings m x old new a b none; area = unknown_area settings m x old new a b none }
 
--- the same behind some text
+-- the same after some text
 place_more : (settings : Settings) (s : State) (o : Obtain) (old now new : Option (List ℕ)) (a b d : Gathered) → PutsSome old now a b
     → TellsItsPlace settings s o now new b d → TellsItsPlace settings s o old new a d
 place_more settings s o old now new a b d some (its, is, ending) = (its, is, ending_both old now new a b d (place_text its) some ending)
 
+one_more : (is : List ℕ → Type 0) (old now new : Option (List ℕ)) (a b d : Gathered) → PutsSome old now a b → EndsInOne is now new b d → EndsInOne is old new a d
+one_more is old now new a b d some (text, says, ending) = (text, says, ending_both old now new a b d text some ending)
+
 pub told_behind : (settings : Settings) (m : NamedState) (x : Asked) (old now new : Option (List ℕ)) (a b d : Gathered) → PutsSome old now a b
     → TellsRequest settings m x now new b d → TellsRequest settings m x old new a d
 told_behind settings m (act x) old now new a b d some told = λ valid. record {
-  cause = λ service cause asked plain first has.
-      then_one (cause_words service cause) old now new a b d some ((told valid).cause service cause asked plain first has);
+  cause = λ service cause asked plain first.
+      one_more (IsTold settings m.storage service cause) old now new a b d some ((told valid).cause service cause asked plain first);
   area = λ o asked first. place_more settings m.storage o old now new a b d some ((told valid).area o asked first);
 }
 told_behind settings m (peek address len) old now new a b d some told = told

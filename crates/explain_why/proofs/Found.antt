@@ -1,4 +1,4 @@
--- The statement of a line, where it's found, and that it's told.
+-- The statement of a line, if it's found, and that it's explained.
 use Rattle.std.proofs.Common.{◌≡◌, ◌≢◌, inl, inr, ℕ, zero, suc, ◌+◌, ◌-◌, ◌<◌, ◌≤◌, Bool, List, [], ◌∷◌, ◌++◌, append_assoc, length, map, take, get_or, Option, Some, None, Result, Ok, Err, IfOk, IfSome, refl, sym, ap, subst, ◌∙◌, arith, zero-add}
 use Rattle.std.specs.Prelude.{OnOk}
 use Rattle.std.proofs.lemmas.List.{length-append, length-take-le}
@@ -27,18 +27,19 @@ use Rattle.text_output.specs.Writing.{Holds, IsEmpty}
 use Rattle.text_output.specs.declared.writing.Gathered.{Gathered}
 use Rattle.text_output.proofs.Gathering.{empty_holds, puts_both}
 use Rattle.place_reasons.specs.Told.{PutsSome, place_text}
-use Rattle.cause_reasons.specs.Told.{PutsOneOf}
-use Rattle.cause_reasons.specs.Words.{Words, cause_words}
-use Rattle.cause_reasons.proofs.OneOf.{one_then}
-use Rattle.explain_why.specs.Explained.{IsExplained, IsFound, IsLineStart, IsPlaceOf, IsStatementAt, TakesLine, WritesAhead, WritesOneOf, WritesRequest}
+use Rattle.cause_reasons.specs.Told.{IsTold}
+use Rattle.explain_why.specs.Explained.{IsExplained, IsFound, IsLineStart, IsPlaceOf, IsStatementAt, TakesLine, WritesAhead, WritesOne, WritesRequest}
 use Rattle.explain_why.specs.Answers.{WritesAnswer}
-use Rattle.explain_why.specs.Told.{IsItsPlace, TellsAhead, TellsItsPlace, TellsRequest}
-use Rattle.explain_why.specs.declared.ahead.NextStatement as ahead
-use Rattle.explain_why.specs.declared.ahead.NextStatement.TheVariants as variant
+use Rattle.statement_details.specs.Defined.{IsItsDefinition}
+use Rattle.statement_details.specs.Details.{WritesDetail}
+use Rattle.explain_why.specs.Told.{EndsInOne, IsItsPlace, TellsAhead, TellsItsPlace, TellsRequest}
+use Rattle.statement_details.specs.declared.ahead.NextStatement as ahead
+use Rattle.statement_details.specs.declared.definitions.Definition.{Definition}
+use Rattle.statement_details.specs.declared.ahead.NextStatement.TheVariants as variant
 use Rattle.explain_why.specs.declared.faults.WhyFault.{WhyFault}
 use Rattle.explain_why.specs.declared.lines.LinePlace.{LinePlace}
 
--- ---- what stands before a line is whole lines
+-- ---- what precedes a line is whole lines
 
 each_at : (xs : List ℕ) (n : ℕ) → n < length xs → NoFeed xs → get_or xs n 0 ≢ 10
 each_at [] n inside h = absurd (omega arith)
@@ -86,7 +87,7 @@ place_found s script at line first (Ok (Some place)) is stands found =
 place_found s script at line first (Ok None) is stands found = found
 place_found s script at line first (Err fault) is stands found = found
 
--- ---- one line more is taken
+-- ---- another line is taken
 
 pub line_taken : (script : List ℕ) (at : ℕ) (old new : Session) (told : Option Step) (step : Step) → told ≡ Some step → StepsOver script at (Ok told) →
     ((settings : Settings) (answers : List Marked) → Took settings (take at script) answers old → BringsStep settings script answers new (Ok told)) →
@@ -115,17 +116,19 @@ found_at settings script at line s place its start (answers, took) =
 
 -- ---- what is put is written
 
--- one of some words
-one_written : (words : Words) (old now later new : Option (List ℕ)) (a b c : Gathered) → IsEmpty a → PutsOneOf words old now a b → PutsSome now later b c →
-    ((first : Option (List ℕ)) (text : List ℕ) → Holds first later c text → Appends first new text) → WritesOneOf words old new
-one_written words old now later new a b c none one some finish =
-    let all = one_then words old now later a b c one some in
-    let front = all.3.0 in
-    let behind = all.3.1 in (
-      all.0,
-      all.1,
-      all.2,
-      (front, behind, finish old (front ++ (all.1 ++ behind)) (all.3.2 old [] (empty_holds old old a [] none (Appends-nil old)))),
+-- the text of a cause
+one_written : (is : List ℕ → Type 0) (old now later new : Option (List ℕ)) (a b c : Gathered) → IsEmpty a → EndsInOne is old now a b → PutsSome now later b c →
+    ((first : Option (List ℕ)) (text : List ℕ) → Holds first later c text → Appends first new text) → WritesOne is old new
+one_written is old now later new a b c none (its, says, (front, puts)) (text, some) finish =
+    let all = puts_both old now later a b c (front ++ its) text puts some in (
+      its,
+      says,
+      (
+        front,
+        text,
+        subst (Appends old new) (append_assoc front its text)
+            (finish old ((front ++ its) ++ text) (all old [] (empty_holds old old a [] none (Appends-nil old)))),
+      ),
     )
 
 -- the place of an area
@@ -149,8 +152,8 @@ request_written : (settings : Settings) (m : NamedState) (x : Asked) (old now la
     TellsRequest settings m x old now a b → PutsSome now later b c →
     ((first : Option (List ℕ)) (text : List ℕ) → Holds first later c text → Appends first new text) → WritesRequest settings m x old new
 request_written settings m (act x) old now later new a b c none told some finish = λ valid. record {
-  cause = λ service cause asked plain first has.
-      one_written (cause_words service cause) old now later new a b c none ((told valid).cause service cause asked plain first has) some finish;
+  cause = λ service cause asked plain first.
+      one_written (IsTold settings m.storage service cause) old now later new a b c none ((told valid).cause service cause asked plain first) some finish;
   area = λ o asked first. area_written settings m.storage o old now later new a b c none ((told valid).area o asked first) some finish;
 }
 request_written settings m (peek address len) old now later new a b c none told some finish = tt
@@ -167,16 +170,18 @@ ahead_written settings m (variant.Fault kind) old now later new a b c none told 
 ahead_written settings m variant.Open old now later new a b c none told some finish = tt
 ahead_written settings m variant.Aside old now later new a b c none told some finish = tt
 
--- ---- and so the statement of the line is told
+-- ---- and so the statement of the line is explained
 
-pub both_ok : {X E : Type 0} (P : Type 0) (Q R : X → Type 0) (r : Result X E) → ((x : X) → P → Q x → R x) → OnOk r P → IfOk r Q → IfOk r R
-both_ok P Q R (Ok x) f p q = f x p q
-both_ok P Q R (Err e) f p q = q
+pub all_ok : {X E : Type 0} (P Q : Type 0) (R S : X → Type 0) (r : Result X E) → ((x : X) → P → Q → R x → S x) → OnOk r P → OnOk r Q → IfOk r R → IfOk r S
+all_ok P Q R S (Ok x) f p q h = f x p q h
+all_ok P Q R S (Err e) f p q h = h
 
-pub explained : (settings : Settings) (script : List ℕ) (line : ℕ) (s : Session) (place : LinePlace) (old new : Option (List ℕ)) → place.at ≤ length script →
+pub explained : (settings : Settings) (script : List ℕ) (line : ℕ) (s : Session) (place : LinePlace) (definition : Definition) (old new : Option (List ℕ)) → place.at ≤ length script →
     (found : IsFound settings script line s place) → (refused : Bool) → WritesAhead (settings_in s.bench) (bench_of s.bench).present place.ahead.asked old new →
+    WritesDetail place.first found.its.statement.ahead.lines (bench_of s.bench).present place.ahead.asked definition old new →
+    IsItsDefinition settings (bench_of s.bench).present (take place.at script) place.ahead.asked definition →
     WritesAnswer settings script found.before place.first line old new refused → IsExplained settings script line old new refused
-explained settings script line s place old new inside found refused told answer =
+explained settings script line s place definition old new inside found refused told detail defined answer =
     let took = found.took in
     let its = found.its.statement in
     let none : took.rest ≡ [] = none_behind script place.at (flat_map with_feed took.lines) took.rest inside found.starts took.within.cut took.within.unended.0 in
@@ -184,6 +189,7 @@ explained settings script line s place old new inside found refused told answer 
     subst (λ m. Between m (map columns took.lines) (answers_of found.before)) found.its.awaits took.told.between in
     let present : (bench_of s.bench).present ≡ alone_now settings (stands_all settings nothing_stands found.before) =
     (stands_for settings found.before (bench_of s.bench) took.led).present in
+    let number : place.first ≡ length took.lines + 1 = its.numbered ∙ ap (λ n. n + 1) took.count in
     record {
       place = place.at;
       lines = took.lines;
@@ -202,5 +208,9 @@ explained settings script line s place old new inside found refused told answer 
       to = omega (arith, its.to, its.ahead.count, took.count);
       tells = subst (λ m. WritesAhead settings m place.ahead.asked old new) present
           (subst (λ k. WritesAhead k (bench_of s.bench).present place.ahead.asked old new) took.under told);
-      answer = subst (λ n. WritesAnswer settings script found.before n line old new refused) (its.numbered ∙ ap (λ n. n + 1) took.count) answer;
+      definition = definition;
+      defined = subst (λ m. IsItsDefinition settings m (take place.at script) place.ahead.asked definition) present defined;
+      detail = subst (λ m. WritesDetail (length took.lines + 1) its.ahead.lines m place.ahead.asked definition old new) present
+          (subst (λ n. WritesDetail n its.ahead.lines (bench_of s.bench).present place.ahead.asked definition old new) number detail);
+      answer = subst (λ n. WritesAnswer settings script found.before n line old new refused) number answer;
     }

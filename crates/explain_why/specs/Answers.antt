@@ -26,14 +26,14 @@ first_text first line = codes "line " ++ (decimal first ++ (goes_on_text first l
 
 abbrev pub note_text : Refusal → List ℕ
 note_text refusal.NoMemory =
-    codes "  no rule refuses it: the program got no memory for it, and that alone is why\n"
+    codes "  no rule refuses it: the program got no memory for it, and that's the only reason\n"
 note_text _ = []
 
 abbrev pub no_memory_text : Response → List ℕ
 no_memory_text (response.Refused why) = note_text why
 no_memory_text _ = []
 
--- the last words: the answer, where these bytes are shown
+-- the last words: the answer, in which these bytes are shown
 abbrev pub answer_text : List ℕ → Option (ℕ × Response) → List ℕ
 answer_text bytes None = codes "  answered: nothing\n"
 answer_text bytes (Some told) =
@@ -45,20 +45,20 @@ tells_refusal (Some told) = is_refused told.1
 
 -- ---- the answer
 
--- These are the first answers of a script: to a front of it, or at its end.
+-- These are the first answers of a script: to a prefix of it, or at its end.
 abbrev pub AreFirstAnswers : Settings → List ℕ → List Marked → Type 0
 AreFirstAnswers settings script answers =
     ((n : ℕ) × Unended settings (take n script) answers)
     ⊎ ((later : List Marked) × Ended settings script (answers ++ later))
 
--- After these answers a script gives this one next, where these bytes are shown; or no more, to its end.
+-- After these answers a script gives this one next, in which these bytes are shown; or none, to its end.
 abbrev pub IsNextAnswer : Settings → List ℕ → List Marked → Option (ℕ × Response) → List ℕ → Type 0
 IsNextAnswer settings script before None bytes = Ended settings script before
 IsNextAnswer settings script before (Some told) bytes =
     (m : Marked) × Brings settings before (m ∷ []) (Some told) × Shows settings before (m ∷ []) bytes
     × AreFirstAnswers settings script (before ++ m ∷ [])
 
--- The next answer is told by this text, and it's a refusal or isn't.
+-- This is the text of the next answer, and it's a refusal or isn't.
 pub record IsAnswer (settings : Settings) (script : List ℕ) (before : List Marked) (text : List ℕ) (refused : Bool) :
     Type 0 where
   pub told : Option (ℕ × Response)

@@ -1,6 +1,6 @@
 -- What is written of the statement of a line, for a whole script.
-use Rattle.std.specs.Prelude.{◌≡◌, ◌⊎◌, ℕ, ◌+◌, ◌-◌, ◌<◌, ◌≤◌, Bool, true, false, nat_lt, List, [], ◌++◌, length}
-use Rattle.std.specs.Prelude.{Option, Some, None, drop, map, slice_get, slice_index, take}
+use Rattle.std.specs.Prelude.{◌≡◌, ◌⊎◌, ℕ, ◌+◌, ◌-◌, ◌<◌, ◌≤◌, Bool, false, List, [], ◌++◌, length}
+use Rattle.std.specs.Prelude.{Option, Some, None, drop, map, slice_index, take}
 use Rattle.std.specs.Io.KnownBytes.{Appends}
 use Rattle.vsm_model.specs.declared.causes.Cause.{Cause}
 use Rattle.vsm_model.specs.declared.limits.Settings.{Settings}
@@ -20,28 +20,30 @@ use Rattle.script_steps.specs.Output.{Marked, AllMet, alone_now, stands_all}
 use Rattle.script_steps.specs.Script.{columns, Within}
 use Rattle.script_steps.specs.Taken.{Took, answers_of}
 use Rattle.script_steps.specs.declared.session.Session.{Session}
-use Rattle.cause_reasons.specs.Words.{Words, cause_words}
+use Rattle.cause_reasons.specs.Told.{IsTold}
 use Rattle.place_reasons.specs.Told.{place_text}
-use Rattle.explain_why.specs.Ahead.{AreFirst, Asks, IsAhead}
+use Rattle.statement_details.specs.Ahead.{AreFirst, Asks, IsAhead}
 use Rattle.explain_why.specs.Answers.{WritesAnswer}
+use Rattle.statement_details.specs.Defined.{IsItsDefinition}
+use Rattle.statement_details.specs.Details.{WritesDetail}
 use Rattle.explain_why.specs.Told.{IsItsPlace}
-use Rattle.explain_why.specs.declared.ahead.NextStatement as ahead
-use Rattle.explain_why.specs.declared.ahead.NextStatement.TheVariants as variant
+use Rattle.statement_details.specs.declared.ahead.NextStatement as ahead
+use Rattle.statement_details.specs.declared.definitions.Definition.{Definition}
+use Rattle.statement_details.specs.declared.ahead.NextStatement.TheVariants as variant
 use Rattle.explain_why.specs.declared.lines.LinePlace.{LinePlace}
 
--- What a writer holds grows by a text in which one of these stands.
-abbrev pub WritesOneOf : Words → Option (List ℕ) → Option (List ℕ) → Type 0
-WritesOneOf words old new =
-    (i : ℕ) × (its : List ℕ) × (slice_get words i ≡ Some its)
-    × ((front : List ℕ) × (behind : List ℕ) × Appends old new (front ++ (its ++ behind)))
+-- What a writer holds grows by a text in which such a text occurs.
+abbrev pub WritesOne : (List ℕ → Type 0) → Option (List ℕ) → Option (List ℕ) → Type 0
+WritesOne is old new =
+    (text : List ℕ) × is text × ((front : List ℕ) × (behind : List ℕ) × Appends old new (front ++ (text ++ behind)))
 
--- Where a statement in a state has a first cause by the definitions, why it's refused there or, but for a conditional
--- GET, answered 4, and that has words, one of them is written.
+-- If a statement in a state has a first cause by the definitions, why it's refused there or, except for a conditional
+-- GET, answered 4, the text of that cause is written.
 abbrev pub WritesFirstCause : Settings → NamedState → Act → Option (List ℕ) → Option (List ℕ) → Type 0
 WritesFirstCause settings m x old new =
     (service : Service) (cause : Cause) → service_asked m x ≡ Some service → is_conditional_get service ≡ false
     → first_cause (causes settings (is_one_too_many m.names (name_asked x)) m.storage service) ≡ Some cause
-    → nat_lt 0 (length (cause_words service cause)) ≡ true → WritesOneOf (cause_words service cause) old new
+    → WritesOne (IsTold settings m.storage service cause) old new
 
 -- If an obtain has no cause, the place of its area is written.
 abbrev pub WritesArea : Settings → NamedState → Act → Option (List ℕ) → Option (List ℕ) → Type 0
@@ -77,12 +79,12 @@ pub record IsStatementAt (script : List ℕ) (at first line : ℕ) (place : Line
   pub from : first ≤ line
   pub to : line < first + place.ahead.lines
 
--- The statement of a line begins at a place before which a session stands that awaits one.
+-- The statement of a line begins at a place that a session has reached which awaits one.
 pub record IsPlaceOf (s : Session) (script : List ℕ) (at line : ℕ) (place : LinePlace) : Type 0 where
   pub awaits : s.reader.mode ≡ awaiting
   pub statement : IsStatementAt script at (s.lines + 1) line place
 
--- A line from a place on is taken, behind which the next begins.
+-- A line from a place on is taken, and the next begins after it.
 pub record TakesLine (script : List ℕ) (at : ℕ) (old new : Session) (next : ℕ) : Type 0 where
   pub within : next ≤ length script
   pub starts : IsLineStart script next
@@ -96,10 +98,10 @@ pub record IsFound (settings : Settings) (script : List ℕ) (line : ℕ) (s : S
   pub starts : IsLineStart script place.at
   pub its : IsPlaceOf s script place.at line place
 
--- The statement of a line in a script is told: the lines before it are whole parts, which were answered so; its own are
--- the next, of which the line is one; and by what they ask for, what is written tells the statement's first cause, or
--- the place of its area, in the state of the statements that stand before it, run alone. It ends in the answer, and
--- says whether that is a refusal.
+-- The statement of a line in a script is explained: the lines before it are whole parts, with these answers; its own
+-- are the next, of which the line is one; and by what they ask for, what is written has the text of the statement's
+-- first cause, or the place of its area, in the state of the statements in effect before it, run alone. It ends in the
+-- answer, and says whether that is a refusal.
 pub record IsExplained (settings : Settings) (script : List ℕ) (line : ℕ) (old new : Option (List ℕ)) (refused : Bool) :
     Type 0 where
   pub place : ℕ
@@ -118,4 +120,9 @@ pub record IsExplained (settings : Settings) (script : List ℕ) (line : ℕ) (o
   pub from : length lines < line
   pub to : line ≤ length lines + length own
   pub tells : WritesAhead settings (alone_now settings (stands_all settings nothing_stands before)) asked old new
+  pub definition : Definition
+  pub defined : IsItsDefinition settings (alone_now settings (stands_all settings nothing_stands before))
+      (take place script) asked definition
+  pub detail : WritesDetail (length lines + 1) own (alone_now settings (stands_all settings nothing_stands before))
+      asked definition old new
   pub answer : WritesAnswer settings script before (length lines + 1) line old new refused

@@ -1,4 +1,4 @@
-pub mod Ahead
 pub mod Told
 pub mod Answers
 pub mod Explained
+pub mod Forms

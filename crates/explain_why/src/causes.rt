@@ -12,7 +12,7 @@ use place_reasons::{Piece, put_line};
 use std::io::Write;
 use text_output::Gathered;
 
-/// Puts what a request asks for, and why it's answered as it is.
+/// Puts what a request asks for, and why it gets its answer.
 pub(crate) fn put_reasons<W: Write>(
     gathered: &mut Gathered,
     writer: &mut W,
@@ -50,7 +50,7 @@ pub(crate) fn put_reasons<W: Write>(
     }
 }
 
-/// Puts what a statement asks for, and why it's answered as it is.
+/// Puts what a statement asks for, and why it gets its answer.
 fn put_act<W: Write>(gathered: &mut Gathered, writer: &mut W, bench: &Bench, statement: &Statement)
     ensures told { IsValidAct (act_in statement.now) → TellsAct (settings_in bench.now)
         (bench_of bench.now).present (act_in statement.now)
@@ -77,14 +77,11 @@ fn put_peek<W: Write>(
     }
     match bench.word(&address) {
         Some(address) => put_bytes(gathered, writer, bench.storage(), address, count),
-        None => gathered.put(
-            writer,
-            b"a reading\n  the name in its address isn't defined\n",
-        ),
+        None => gathered.put(writer, b"a reading\n"),
     }
 }
 
-/// Puts how many changes a step can go over, with the words for one and for more.
+/// Puts how many changes a step can go over, with the words for one and for several.
 fn put_step<W: Write>(gathered: &mut Gathered, writer: &mut W, n: u32, one: &str, more: &str)
     ensures { PutsSome (W.contents writer.old) (W.contents writer.new) gathered.old gathered.new }
 {
@@ -92,7 +89,7 @@ fn put_step<W: Write>(gathered: &mut Gathered, writer: &mut W, n: u32, one: &str
     put_line(gathered, writer, &[Piece::Number(n), Piece::Text(text)]);
 }
 
-/// Puts what a statement that can be written asks for, and why it's answered as it is.
+/// Puts what a statement that can be written asks for, and why it gets its answer.
 fn put_statement<W: Write>(
     gathered: &mut Gathered,
     writer: &mut W,

@@ -9,13 +9,15 @@ pub enum WhyFault {
     New(NewFault),
     /// The script passes a bound before the end of the statement.
     TooLong,
-    /// The writer took no more.
+    /// The writer takes nothing further.
     Write,
-    /// The script has no such line: it has so many.
+    /// There is no memory for the text that JSON is made of.
+    Memory,
+    /// The script has no such line: it has this number of lines.
     NoLine(u32),
     /// The line is a comment or empty.
     Aside,
-    /// The line is dropped: it stands behind a line that breaks a rule of continuation, whose column 72 isn't blank.
+    /// The line is dropped: it follows a line that breaks a rule of continuation, whose column 72 isn't blank.
     Dropped,
 }
 

@@ -1,4 +1,4 @@
-//! What a statement asks for, told with the numbers of its values.
+//! What a statement asks for, with the numbers of its values.
 ghost use Rattle.place_reasons.specs.Told.{PutsSome};
 
 use macro_reader::FaultKind;
@@ -184,7 +184,7 @@ fn put_store<W: Write>(gathered: &mut Gathered, writer: &mut W, address: u32, by
     )
 }
 
-/// Puts which cell comes back, and to which cell pool.
+/// Puts which cell is freed, and of which cell pool.
 fn put_free<W: Write>(gathered: &mut Gathered, writer: &mut W, name: &str, cell: u32)
     ensures { PutsSome (W.contents writer.old) (W.contents writer.new) gathered.old gathered.new }
 {
@@ -259,12 +259,12 @@ fn put_named<'x, W: Write>(gathered: &mut Gathered, writer: &mut W, words: &'x s
 fn fault_text(kind: FaultKind) -> &'static str {
     match kind {
         FaultKind::Column =>
-            "column 1 is neither blank nor the first of a name with a blank behind it\n",
+            "column 1 is neither blank nor the start of a name that a blank follows\n",
         FaultKind::Continuation => "a rule of continuation lines is broken\n",
-        FaultKind::Operation => "there is no operation, or none that the bench knows\n",
+        FaultKind::Operation => "the operation is missing, or the bench doesn't know it\n",
         FaultKind::Operand => "an operand is empty, isn't one of the statement, or isn't closed\n",
-        FaultKind::Repeated => "a keyword stands twice\n",
-        FaultKind::Missing => "a required operand isn't there\n",
+        FaultKind::Repeated => "a keyword is repeated\n",
+        FaultKind::Missing => "a required operand is missing\n",
         FaultKind::Value => "a value isn't of its kind\n",
         FaultKind::LeftOut =>
             "the form, the keyword or the kind of value is one that the bench leaves out\n",

@@ -2,9 +2,9 @@
 //! and what an answer means, by its text.
 #![tactic(auto)]
 
-mod ahead;
 mod causes;
 mod faults;
+mod forms;
 mod headings;
 mod lines;
 mod meanings;
@@ -13,6 +13,6 @@ mod words;
 
 pub use bench_core::NewFault;
 pub use faults::WhyFault;
-pub use lines::why;
+pub use forms::why;
 pub use meanings::{MeaningFault, code};
 pub use script_steps::Watch;

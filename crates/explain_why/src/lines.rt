@@ -1,7 +1,9 @@
 //! Why a line of a script is answered as it is.
 ghost use Rattle.std.specs.Prelude.{◌≡◌, ◌≤◌, ◌++◌, [], List, ℕ, IfOk, IfSome, OnOk, codes, decimal, drop, length};
-ghost use Rattle.std.specs.Prelude.{take};
+ghost use Rattle.std.specs.Prelude.{map, take};
 ghost use Rattle.vsm_model.specs.declared.limits.Settings.{Settings};
+ghost use Rattle.macro_reader.specs.Columns.{Line, used};
+ghost use Rattle.statement_faults.specs.Places.{card_in};
 ghost use Rattle.script_steps.specs.Output.{Marked};
 ghost use Rattle.script_steps.specs.Responses.{response_text};
 ghost use Rattle.script_steps.specs.Script.{NoFeed};
@@ -13,14 +15,19 @@ ghost use Rattle.explain_why.specs.Explained.{IsExplained, IsFound, IsPlaceOf, I
 ghost use Rattle.explain_why.specs.Explained.{WritesAhead};
 ghost use Rattle.explain_why.specs.Answers.{PutsAnswer, WritesAnswer, answer_text, first_text, goes_on_text};
 ghost use Rattle.explain_why.specs.Answers.{no_memory_text, note_text, tells_refusal};
+ghost use Rattle.statement_details.specs.Defined.{IsItsDefinition};
+ghost use Rattle.statement_details.specs.Details.{WritesDetail};
 ghost use Rattle.explain_why.specs.Told.{PutsBeginning, TellsAhead};
 
-use crate::ahead::{Ahead, NextStatement, read_ahead};
 use crate::causes::put_reasons;
 use crate::faults::WhyFault;
 use crate::headings::put_fault_heading;
 use bench_core::{Bench, Refusal};
 use script_steps::{LINES, NumberedResponse, ReaderState, Response, Session, Watch, put_response};
+use statement_details::{
+    Ahead, Definition, NextStatement, definition_of, put_detail, read_ahead, rest_from,
+    undefined_name,
+};
 use std::alloc::Global;
 use std::io::Write;
 use text_output::{Gathered, put_decimal};
@@ -37,15 +44,7 @@ struct LinePlace {
     ahead: Ahead,
 }
 
-/// What stands in a script from a place on.
-fn rest_from(script: &[u8], at: usize) -> &[u8]
-    requires { at ≤ length script.now }
-    ensures { result.now ≡ drop at script.now }
-{
-    &script[at..]
-}
-
-/// The statement that begins at a place and on a line of this number, where it has a line of that number.
+/// The statement that begins at a place and on a line of this number, if it has a line of the other number.
 fn statement_at(
     script: &[u8],
     at: usize,
@@ -68,7 +67,7 @@ fn statement_at(
     }
 }
 
-/// The statement of this line, where it begins at this place, before which the session stands.
+/// The statement of this line, if it begins at this place, up to which the session has taken the script.
 fn place_of(
     session: &Session,
     script: &[u8],
@@ -106,7 +105,7 @@ fn take_next<P: Watch>(
     }
 }
 
-/// Takes the script up to in front of the statement of a line.
+/// Takes the script up to the statement of a line.
 fn seek<P: Watch>(
     session: &mut Session,
     script: &[u8],
@@ -161,7 +160,7 @@ fn put_first<W: Write>(gathered: &mut Gathered, writer: &mut W, first: u32, line
     gathered.put(writer, b": ");
 }
 
-/// Puts what a statement asks for, and why it's answered as it is.
+/// Puts what a statement asks for, and why it gets its answer.
 fn put_why<W: Write>(
     gathered: &mut Gathered,
     writer: &mut W,
@@ -192,7 +191,7 @@ fn put_note<W: Write>(gathered: &mut Gathered, writer: &mut W, why: Refusal)
     match why {
         Refusal::NoMemory => gathered.put(
             writer,
-            b"  no rule refuses it: the program got no memory for it, and that alone is why\n",
+            b"  no rule refuses it: the program got no memory for it, and that's the only reason\n",
         ),
         Refusal::Name | Refusal::Abend(_) => (),
     }
@@ -215,7 +214,7 @@ fn put_no_memory<W: Write>(gathered: &mut Gathered, writer: &mut W, response: &R
     }
 }
 
-/// Puts the text of an answer, where these bytes are shown.
+/// Puts the text of an answer, for which these bytes are shown.
 fn put_answered<W: Write>(
     gathered: &mut Gathered,
     writer: &mut W,
@@ -230,7 +229,7 @@ fn put_answered<W: Write>(
     gathered.put(writer, b"\n");
 }
 
-/// Puts an answer, where these bytes are shown, and says whether it's a refusal.
+/// Puts an answer, for which these bytes are shown, and says whether it's a refusal.
 fn put_answer<W: Write>(
     gathered: &mut Gathered,
     writer: &mut W,
@@ -284,7 +283,7 @@ fn put_answer_at_end<W: Write>(
     }
 }
 
-/// Takes the script from a place on, before which the session stands, up to the next answer, and puts that. Says
+/// Takes the script from a place on, up to which the session has taken it, to the next answer, and puts that. Says
 /// whether it's a refusal.
 fn put_answer_at<W: Write>(
     gathered: &mut Gathered,
@@ -323,18 +322,59 @@ fn put_answer_at<W: Write>(
     put_answer_at_end(gathered, writer, session, &[])
 }
 
-/// Writes why the statement at a place, before which the session stands, is answered as it is. `true` where it's
-/// refused.
+/// A session on a new bench under these settings.
+fn new_session(alloc: Global, settings: Settings) -> Result<Session, WhyFault>
+    ensures { IfOk result (λ session. Took settings [] [] session) }
+{
+    match Bench::new(alloc, settings) {
+        Ok(bench) => Ok(Session::new(bench)),
+        Err(fault) => Err(WhyFault::New(fault)),
+    }
+}
+
+/// What became of the definition of the first name in the values of a request that isn't defined on a bench, in the
+/// lines before it.
+fn definition_before<P: Watch>(
+    alloc: Global,
+    settings: Settings,
+    before: &[u8],
+    bench: &Bench,
+    asked: &NextStatement,
+    watch: &mut P,
+) -> Result<Definition, WhyFault>
+    ensures { IfOk result (IsItsDefinition settings (bench_of bench.now).present before.now asked.now) }
+{
+    match asked {
+        NextStatement::Request(request) => match undefined_name(bench, request) {
+            Some(name) => {
+                let again = new_session(alloc, settings)?;
+                Ok(definition_of(again, before, &name, watch)?)
+            }
+            None => Ok(Definition::Missing),
+        },
+        NextStatement::Aside | NextStatement::Fault(_) | NextStatement::Open => Ok(
+            Definition::Missing,
+        ),
+    }
+}
+
+/// Writes why the statement at a place, up to which the session has taken the script, is answered as it is. `true` if
+/// it's refused.
 fn tell<W: Write>(
     session: Session,
     script: &[u8],
     line: u32,
     place: &LinePlace,
+    definition: Definition,
     out: &mut W,
 ) -> Result<bool, WhyFault>
     requires { place.now.at ≤ length script.now }
     ensures told { OnOk result (WritesAhead (settings_in session.bench) (bench_of session.bench).present
         place.now.ahead.asked (W.contents out.old) (W.contents out.new)) }
+    ensures detail { (own : List Line) → map (card_in (drop place.now.at script.now))
+        place.now.ahead.places.lines.items ≡ map used own
+        → OnOk result (WritesDetail place.now.first own (bench_of session.bench).present place.now.ahead.asked
+        definition (W.contents out.old) (W.contents out.new)) }
     ensures answer { (settings : Settings) (before : List Marked)
         → Took settings (take place.now.at script.now) before session
         → IfOk result (WritesAnswer settings script.now before place.now.first line
@@ -342,6 +382,16 @@ fn tell<W: Write>(
 {
     let mut gathered = Gathered::new();
     put_why(&mut gathered, out, session.bench(), line, place);
+    let text = rest_from(script, place.at);
+    put_detail(
+        &mut gathered,
+        out,
+        session.bench(),
+        text,
+        place.first,
+        &place.ahead,
+        definition,
+    );
     let refused = put_answer_at(&mut gathered, out, session, script, place.at)?;
     match gathered.finish(out) {
         Ok(()) => Ok(refused),
@@ -349,14 +399,9 @@ fn tell<W: Write>(
     }
 }
 
-/// Writes why the statement of a line, its first or a later one, is answered as it is: what it asks for in the state
-/// before it, what decides, and the answer. `true` where that is a refusal.
-///
-/// The lines before it are carried out on a new bench under the settings; `watch` is told each.
-///
-/// `New` where there is no such bench; `TooLong` where a byte up to the statement's end passes a bound; `NoLine`,
-/// `Aside` and `Dropped` where the line belongs to no statement; `Write` where the writer takes no more.
-pub fn why<W: Write, P: Watch>(
+/// Writes as text why the statement of a line is answered as it is. `true` if it's refused. Its faults are those of
+/// [`why`](crate::why), except `Memory`.
+pub(crate) fn why_text<W: Write, P: Watch>(
     alloc: Global,
     script: &[u8],
     settings: Settings,
@@ -366,11 +411,15 @@ pub fn why<W: Write, P: Watch>(
 ) -> Result<bool, WhyFault>
     ensures { IfOk result (IsExplained settings script.now line (W.contents out.old) (W.contents out.new)) }
 {
-    let bench = match Bench::new(alloc, settings) {
-        Ok(bench) => bench,
-        Err(fault) => return Err(WhyFault::New(fault)),
-    };
-    let mut session = Session::new(bench);
+    let mut session = new_session(alloc, settings)?;
     let place = seek(&mut session, script, line, watch)?;
-    tell(session, script, line, &place, out)
+    let definition = definition_before(
+        alloc,
+        settings,
+        &script[..place.at],
+        session.bench(),
+        &place.ahead.asked,
+        watch,
+    )?;
+    tell(session, script, line, &place, definition, out)
 }

@@ -1,15 +1,18 @@
 //! What an answer means, by its text.
 use crate::messages::{Message, answers, faults, refusals, system_codes, user_codes};
 use crate::words::{is_number_of, names, without_front};
+use listed_text::{
+    Form, put_bytes_in, put_head, put_name, put_object_end, put_object_start, put_string_field,
+};
 use std::io::Write;
 use text_output::Gathered;
 
-/// Why what an answer means can't be told.
+/// Why what an answer means isn't written.
 #[derive(Clone, Copy)]
 pub enum MeaningFault {
     /// There is no answer of this text.
     NoAnswer,
-    /// The writer took no more.
+    /// The writer takes nothing further.
     Write,
 }
 
@@ -25,18 +28,18 @@ fn is_of(text: &[u8], message: &Message) -> bool {
 }
 
 /// Puts the texts of an answer, with commas between.
-fn put_texts<W: Write>(gathered: &mut Gathered, writer: &mut W, texts: &[&str]) {
+fn put_texts<W: Write>(form: Form, gathered: &mut Gathered, writer: &mut W, texts: &[&str]) {
     for (place, text) in texts.iter().enumerate() {
         if place > 0 {
             gathered.put(writer, b",");
         }
-        gathered.put(writer, text.as_bytes());
+        put_bytes_in(form, gathered, writer, text.as_bytes());
     }
 }
 
-/// Puts an answer's texts, what it means, and what it leaves or what to do.
-fn put_message<W: Write>(gathered: &mut Gathered, writer: &mut W, message: &Message) {
-    put_texts(gathered, writer, message.texts);
+/// Puts an answer's texts, what it means, and what it leaves or what to do, in a line each.
+fn put_lines<W: Write>(gathered: &mut Gathered, writer: &mut W, message: &Message) {
+    put_texts(Form::Text, gathered, writer, message.texts);
     gathered.put(writer, b"\n  ");
     gathered.put(writer, message.meaning.as_bytes());
     gathered.put(writer, b"\n  ");
@@ -44,8 +47,29 @@ fn put_message<W: Write>(gathered: &mut Gathered, writer: &mut W, message: &Mess
     gathered.put(writer, b"\n");
 }
 
+/// Puts the same as an object.
+fn put_object<W: Write>(gathered: &mut Gathered, writer: &mut W, message: &Message) {
+    put_object_start(gathered, writer, b"meaning");
+    put_name(gathered, writer, b"answer");
+    gathered.put(writer, b"\"");
+    put_texts(Form::Json, gathered, writer, message.texts);
+    gathered.put(writer, b"\"");
+    put_string_field(gathered, writer, b"meaning", message.meaning.as_bytes());
+    put_string_field(gathered, writer, b"advice", message.advice.as_bytes());
+    put_object_end(gathered, writer);
+}
+
+/// Puts an answer in this form.
+fn put_message<W: Write>(form: Form, gathered: &mut Gathered, writer: &mut W, message: &Message) {
+    match form {
+        Form::Text => put_lines(gathered, writer, message),
+        Form::Json => put_object(gathered, writer, message),
+    }
+}
+
 /// Puts each answer of a table that is of this text, and says whether there is one.
 fn put_table<W: Write>(
+    form: Form,
     gathered: &mut Gathered,
     writer: &mut W,
     table: &[Message],
@@ -54,7 +78,7 @@ fn put_table<W: Write>(
     let mut found = false;
     for message in table {
         if is_of(text, message) {
-            put_message(gathered, writer, message);
+            put_message(form, gathered, writer, message);
             found = true;
         }
     }
@@ -62,7 +86,12 @@ fn put_table<W: Write>(
 }
 
 /// Puts each answer of this text, and says whether there is one.
-fn put_messages<W: Write>(gathered: &mut Gathered, writer: &mut W, text: &[u8]) -> bool {
+fn put_messages<W: Write>(
+    form: Form,
+    gathered: &mut Gathered,
+    writer: &mut W,
+    text: &[u8],
+) -> bool {
     let mut found = false;
     for table in [
         answers(),
@@ -71,7 +100,7 @@ fn put_messages<W: Write>(gathered: &mut Gathered, writer: &mut W, text: &[u8]) 
         refusals(),
         faults(),
     ] {
-        if put_table(gathered, writer, table, text) {
+        if put_table(form, gathered, writer, table, text) {
             found = true;
         }
     }
@@ -79,13 +108,17 @@ fn put_messages<W: Write>(gathered: &mut Gathered, writer: &mut W, text: &[u8]) 
 }
 
 /// Writes what an answer means, and what it leaves or what to do: a completion code (`S878`, `U3008`, `878`), `RC=4` or
-/// `RC 4`, or the words of a fault or a refusal, in either case; also a whole line of output, with its number. Of several answers that begin with these words it
-/// writes each; with a value, as `RC=0 A=00006000`, they are the whole answer.
+/// `RC 4`, or the words of a fault or a refusal, in either case; also a whole line of output, with its number. Of
+/// several answers that begin with these words it writes each; with a value, as `RC=0 A=00006000`, they are the whole
+/// answer. JSON has an object for each.
 ///
-/// `NoAnswer` where none does; `Write` where the writer takes no more.
-pub fn code<W: Write>(text: &[u8], out: &mut W) -> Result<(), MeaningFault> {
+/// `NoAnswer` if none does, and then nothing is written; `Write` if the writer takes nothing further.
+pub fn code<W: Write>(form: Form, text: &[u8], out: &mut W) -> Result<(), MeaningFault> {
     let mut gathered = Gathered::new();
-    if !put_messages(&mut gathered, out, without_front(text)) {
+    if form == Form::Json {
+        put_head(&mut gathered, out, b"why");
+    }
+    if !put_messages(form, &mut gathered, out, without_front(text)) {
         return Err(MeaningFault::NoAnswer);
     }
     match gathered.finish(out) {

@@ -20,12 +20,12 @@ static FAULTS: [Message; 8] = [
     },
     Message {
         texts: &["FAULT CONTINUATION"],
-        meaning: "Columns 1 to 15 of a line that continues a statement aren't blank; or operands that \
-                end with a comma don't continue in column 16; or there are more than nine such \
+        meaning: "Columns 1 to 15 of a line that continues a statement are not blank; or operands that \
+                end with a comma do not continue in column 16; or there are more than nine such \
                 lines; or the script ends where one should follow. The lines that follow are dropped \
                 as long as the line before has a character in column 72.",
         advice: "Usually a remark is too long, with its last character in column 72; the next line \
-                was taken for its continuation, and wasn't carried out. See Continuation lines in \
+                was taken for its continuation, and was not carried out. See Continuation lines in \
                 STATEMENTS.md.",
     },
     Message {
@@ -35,9 +35,9 @@ static FAULTS: [Message; 8] = [
     },
     Message {
         texts: &["FAULT OPERAND"],
-        meaning: "An operand is empty, isn't the statement's, or has an apostrophe or a parenthesis \
-                that isn't closed.",
-        advice: "The usual cause is a comma too many, or a line that isn't continued.",
+        meaning: "An operand is empty, is not the statement's, or has an apostrophe or a parenthesis \
+                that is not closed.",
+        advice: "The usual cause is a comma too many, or a line that is not continued.",
     },
     Message {
         texts: &["FAULT REPEATED"],
@@ -54,7 +54,7 @@ static FAULTS: [Message; 8] = [
     },
     Message {
         texts: &["FAULT VALUE"],
-        meaning: "A value isn't of its kind, for example 8K, P+8, a number above 4294967295, register \
+        meaning: "A value is not of its kind, for example 8K, P+8, a number above 4294967295, register \
                 13 for ADDR or CELL, a number or a register for CPID, an HDR without apostrophes or \
                 of more than 24 characters, an odd number of digits in POKE, or more than 256 bytes; \
                 or a pair instead of one length, or one length where VRC and VRU need a pair.",
@@ -83,7 +83,7 @@ static REFUSALS: [Message; 4] = [
     Message {
         texts: &["REFUSED KEPT"],
         meaning: "BACK is by more changes than are kept, whose number is printed.",
-        advice: "Go back by at most that number. A forgotten change can't be undone.",
+        advice: "Go back by at most that number. A forgotten change cannot be undone.",
     },
     Message {
         texts: &["REFUSED UNDONE"],
@@ -125,18 +125,18 @@ static USER_CODES: [Message; 13] = [
     },
     Message {
         texts: &["U3003"],
-        meaning: "The area isn't in the subpool: the task has none of this number, or a byte of the \
+        meaning: "The area is not in the subpool: the task has none of this number, or a byte of the \
                 area is outside both regions or in a page of another subpool.",
         advice: "Name the subpool that the area was obtained from.",
     },
     Message {
         texts: &["U3004"],
-        meaning: "Subpool 0 can't be released whole.",
+        meaning: "Subpool 0 cannot be released whole.",
         advice: "Release its areas one by one.",
     },
     Message {
         texts: &["U3005"],
-        meaning: "The task doesn't own the subpool to be released whole, or given away by ATTACH.",
+        meaning: "The task does not own the subpool to be released whole, or given away by ATTACH.",
         advice: "Let its owner do it; a shared subpool can be shared further.",
     },
     Message {
@@ -152,20 +152,20 @@ static USER_CODES: [Message; 13] = [
     },
     Message {
         texts: &["U3009"],
-        meaning: "A cell pool has this name already, perhaps in a subpool that the task doesn't see.",
+        meaning: "A cell pool has this name already, perhaps in a subpool that the task does not see.",
         advice: "Take another name, or delete that cell pool first.",
     },
     Message {
         texts: &["U3010"],
-        meaning: "There is no cell pool of this name, or the task doesn't see its subpool: it was \
+        meaning: "There is no cell pool of this name, or the task does not see its subpool: it was \
                 deleted, its subpool was released whole or given away, or its owner ended.",
         advice: "See the map for the cell pools and the owners of their subpools.",
     },
     Message {
         texts: &["U3011"],
         meaning: "CPOOL FREE of an address that is no cell's of this cell pool, or of a free cell.",
-        advice: "vsm-explain who --taken ADDRESS says which statement freed it; an address within a \
-                cell won't do.",
+        advice: "vsm-explain who --taken ADDRESS FILE says which statement freed it; an address \
+                within a cell will not do.",
     },
     Message {
         texts: &["U3012"],
@@ -194,12 +194,11 @@ static SYSTEM_CODES: [Message; 6] = [
     },
     Message {
         texts: &["S878", "S80A", "S804"],
-        meaning: "There is no place, for a STORAGE, RU or VRU, for form R, for GETMAIN EU; S878 also \
-                for the extent of a CPOOL BUILD, and for a further one of a CPOOL GET that finds no \
-                free cell: no free area of the subpool and no run of unassigned pages is long \
-                enough.",
+        meaning: "There is no room: no free area of the subpool and no run of unassigned pages is long \
+                enough. S878: a STORAGE, RU or VRU, or the extent of a CPOOL BUILD, or of a CPOOL \
+                GET that finds no free cell; S80A: form R; S804: GETMAIN EU.",
         advice: "Release something, ask for less, use a conditional form, or free cells. Areas of \
-                other subpools, and free storage in their pages, can't be used.",
+                other subpools, and free storage in their pages, cannot be used.",
     },
     Message {
         texts: &["S978", "S90A", "S905"],
@@ -208,8 +207,9 @@ static SYSTEM_CODES: [Message; 6] = [
     },
     Message {
         texts: &["SA78", "SA0A", "SA05"],
-        meaning: "A part of the area isn't taken: it's free in the subpool, or in an unassigned page.",
-        advice: "vsm-explain who --taken ADDRESS says which statement released it; a length is \
+        meaning: "A part of the area is not taken: it is free in the subpool, or in an unassigned \
+                page.",
+        advice: "vsm-explain who --taken ADDRESS FILE says which statement released it; a length is \
                 rounded up.",
     },
     Message {
@@ -261,8 +261,8 @@ static ANSWERS: [Message; 11] = [
     Message {
         texts: &["RC=4"],
         meaning: "STORAGE with COND=YES, GETMAIN RC, VRC and EC, FREEMAIN RC and EC: there was no \
-                place for the area, or it couldn't be released. CPOOL GET with C or COND: no cell is \
-                free.",
+                place for the area, or it could not be released. CPOOL GET with C or COND: no cell \
+                is free.",
         advice: "Only register 15 changed, to 4: no subpool or extent of cells is made, and no name \
                 defined. The change is kept, and what was undone is gone.",
     },

@@ -1,15 +1,15 @@
 //! The words of an answer's text, compared with those of a text that is asked for.
 
-/// A word of a text, and what stands behind it.
+/// A word of a text, and what follows it.
 #[derive(Clone, Copy)]
 struct Word<'a> {
     text: &'a [u8],
-    /// Whether an equals sign stands behind it.
+    /// Whether an equals sign follows it.
     is_valued: bool,
     behind: &'a [u8],
 }
 
-/// How many bytes stand in front of the first blank or equals sign.
+/// How many bytes precede the first blank or equals sign.
 fn word_end(text: &[u8]) -> usize {
     for (place, byte) in text.iter().enumerate() {
         if *byte == b' ' || *byte == b'=' {
@@ -19,7 +19,7 @@ fn word_end(text: &[u8]) -> usize {
     text.len()
 }
 
-/// What stands behind the byte at this place; nothing where there is no such byte.
+/// What follows the byte at this place; nothing if there is no such byte.
 fn behind(text: &[u8], place: usize) -> &[u8] {
     if place < text.len() {
         &text[place + 1..]
@@ -96,7 +96,7 @@ fn is_line_number(word: &[u8]) -> bool {
     word.len() == 7 && word.iter().all(|byte| byte.is_ascii_digit())
 }
 
-/// An answer's text without the number of its line in front, and without the word in front of a completion code.
+/// An answer's text without the number of its line before it, and without the word before a completion code.
 pub(crate) fn without_front(text: &[u8]) -> &[u8] {
     let word = first_word(text);
     if is_line_number(word.text) && !word.behind.is_empty() {
@@ -106,7 +106,7 @@ pub(crate) fn without_front(text: &[u8]) -> &[u8] {
     }
 }
 
-/// A text without the word that stands in front of a completion code.
+/// A text without the word before a completion code.
 fn without_abend(text: &[u8]) -> &[u8] {
     let word = first_word(text);
     if is_same(word.text, b"ABEND") && !word.behind.is_empty() {

@@ -1,4 +1,4 @@
--- That a queue of free areas stands has one proof at most.
+-- That elements hold a queue of free areas has at most one proof.
 use Rattle.vsm_elements.specs.Store.{Store}
 use Rattle.run_set.specs.Props.{IsRunSet-prop}
 use Rattle.free_queue.specs.declared.queue.FreeQueue.{FreeQueue}

@@ -11,8 +11,8 @@ ghost use Rattle.run_set.specs.Sums.{IsSidesOf};
 use run_set::{Cover, Run, RunPlace, RunSet, SideSums};
 use vsm_elements::Elements;
 
-/// So many doublewords (8 bytes each), from the doubleword of this number on. Doubleword `d` has the
-/// addresses from `8 * d`.
+/// That many doublewords (8 bytes each), from the doubleword of this number on. Doubleword `d` has the addresses from
+/// `8 * d`.
 pub type Area = Run;
 
 /// The head of a subpool's free doublewords, below and above the 16 MB line.
@@ -55,10 +55,10 @@ impl FreeQueue {
         }
     }
 
-    /// The doublewords of an area become free. It is joined to the areas that it touches.
+    /// Frees the doublewords of an area. The area is joined to the areas that it touches.
     ///
-    /// It takes one element, less one for each of the two doublewords beside it that are free: where both are,
-    /// one is given back.
+    /// It takes one element, less one for each of the two doublewords next to it that are free: if both are, one is
+    /// given back.
     pub fn free(&mut self, elements: &mut Elements, area: Area)
         requires queue { IsFreeQueue elements.old self.old }
         requires range { (0 < area.len) × (area.start + area.len ≤ 2 ^ 29) }
@@ -75,11 +75,10 @@ impl FreeQueue {
         self.set.insert(elements, area);
     }
 
-    /// The doublewords of an area are no longer free. What is left of the free area that holds it are none,
-    /// one or two areas.
+    /// The doublewords of an area are no longer free. None, one or two areas are left of the free area that held them.
     ///
-    /// It takes one element for each of the two doublewords beside it that are free, less one: where neither is,
-    /// one is given back.
+    /// It takes one element for each of the two doublewords next to it that are free, less one: if neither is, one is
+    /// given back.
     pub fn carve(&mut self, elements: &mut Elements, area: Area)
         requires queue { IsFreeQueue elements.old self.old }
         requires range { (0 < area.len) × (area.start + area.len ≤ 2 ^ 29) }
@@ -106,7 +105,15 @@ impl FreeQueue {
         self.set.covers(elements, area)
     }
 
-    /// The first doubleword from this one on that isn't free: where this one is, the end of its free area.
+    /// Whether the doubleword is free.
+    pub fn contains(&self, elements: &Elements, doubleword: u32) -> bool
+        requires { IsFreeQueue elements.now self.now }
+        ensures { result ≡ is_free elements.now self.now doubleword }
+    {
+        self.set.contains(elements, doubleword)
+    }
+
+    /// The first doubleword from this one on that isn't free: if this one is, the end of its free area.
     pub fn end_from(&self, elements: &Elements, doubleword: u32) -> u32
         requires { IsFreeQueue elements.now self.now }
         ensures { IsEndFrom (λ d. is_free elements.now self.now d) doubleword result }
@@ -131,8 +138,8 @@ impl FreeQueue {
         self.set.least_fit(elements, len, boundary, region)
     }
 
-    /// The greatest number of doublewords that are free in the region from a doubleword on the boundary;
-    /// 0 where there is none.
+    /// The greatest number of doublewords that are free in the region from a doubleword on the boundary; 0 if there are
+    /// none.
     pub fn longest(&self, elements: &Elements, boundary: u32, region: Area) -> u32
         requires queue { IsFreeQueue elements.now self.now }
         requires asked { (0 < boundary) × (boundary ≤ 512) }
@@ -142,8 +149,8 @@ impl FreeQueue {
         self.set.longest(elements, boundary, region)
     }
 
-    /// What the free areas come to, in doublewords, that begin before a doubleword, and those that don't, which come
-    /// after these. It costs some descents, however many areas there are.
+    /// The sums, in doublewords, of the free areas that begin before a doubleword, and of those after them. It costs
+    /// some descents, however many areas there are.
     pub fn sums(&self, elements: &Elements, line: u32) -> SideSums
         requires { IsFreeQueue elements.now self.now }
         ensures { IsSidesOf line (areas elements.now self.now) result }
@@ -151,8 +158,8 @@ impl FreeQueue {
         self.set.sums(elements, line)
     }
 
-    /// The free area behind the place, and the place behind that area; `None` behind the last. From the first place on,
-    /// the areas come in ascending order, each at the cost of one element.
+    /// The free area after the place, and the place after that area; `None` after the last. From the first place on,
+    /// the areas follow in ascending order, each at the cost of one element.
     pub fn next_area(&self, elements: &Elements, place: RunPlace) -> Option<(Area, RunPlace)>
         requires queue { IsFreeQueue elements.now self.now }
         requires place { IsPlace elements.now self.now place }

@@ -1,4 +1,4 @@
--- An item that is put in, and one that is taken out.
+-- An item that is inserted, and one that is removed.
 use Rattle.std.proofs.Common.{◌≡◌, ℕ, ◌+◌, ◌<◌, ◌==◌, Bool, true, false, ◌||◌, inl, inr, List, [], ◌∷◌, ◌++◌, length, Option, Some, None, refl, sym, ap, ◌∙◌, arith, IsSome, subst, append_assoc, length-append}
 use Rattle.std.specs.Prelude.{map}
 use Rattle.std.proofs.lemmas.Bool.Decides.{eqb_tells}
@@ -15,7 +15,7 @@ use Rattle.item_tree.proofs.ShapeLemmas.{id_of}
 use Rattle.item_tree.proofs.OrderLemmas.{from_less, from_left, ascends_left, ascends_right, ascends_join, in_none_below, in_behind, in_here, in_front}
 use Rattle.item_tree.proofs.TreeLemmas.{tree_kept, items_kept, owned_kept, owned_live, owned_distinct, owned_ids, no_items}
 
--- an id in the middle is among them just where it's the first of them
+-- the members are the same if the id in the middle is put first
 pub among_middle : (i : ℕ) (xs : List ℕ) (x : ℕ) (ys : List ℕ) → among i (xs ++ x ∷ ys) ≡ among i (x ∷ (xs ++ ys))
 among_middle i xs x ys = among-append i xs (x ∷ ys) ∙ go (among i xs) (i == x) (among i ys) ∙ ap (λ (b : Bool). (i == x) || b) (sym (among-append i xs ys)) where
   go : (a b c : Bool) → (a || (b || c)) ≡ (b || (a || c))
@@ -137,7 +137,7 @@ module _ (s u v : Store) (h a b e f x : ItemTree) (item : Item) (tree : IsTree s
               ∙ m.others j one
               ∙ c.others j (ap (among j) c.own ∙ out_of j A B o.0 r.1)
 
--- the items of one key are one
+-- a key has only one item
 record Single (k : ℕ) (ns : List Item) : Type 0 where
   item : Item
   is : ns ≡ item ∷ []

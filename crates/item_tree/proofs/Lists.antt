@@ -70,6 +70,6 @@ distinct_apart xs ys d = (Distinct-parts xs ys d).1
 pub distinct_apart_back : (xs ys : List ℕ) → Distinct (xs ++ ys) → (i : ℕ) → among i ys ≡ true → among i xs ≡ false
 distinct_apart_back xs ys d i m = false_if (among i xs) (λ h. not_both (among i ys) m (distinct_apart xs ys d i h))
 
--- what is beside the middle one is not the middle one
+-- what is next to the middle one is not the middle one
 pub not_middle : (xs : List ℕ) (x : ℕ) (ys : List ℕ) → Distinct (xs ++ x ∷ ys) → (i : ℕ) → among i (xs ++ ys) ≡ true → i ≢ x
 not_middle xs x ys d i m e = not_both (among i (xs ++ ys)) m (ap (λ (j : ℕ). among j (xs ++ ys)) e ∙ (distinct_remove xs ys x d).0)

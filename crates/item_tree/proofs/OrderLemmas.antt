@@ -84,7 +84,7 @@ in_later k x xs e = elim (eqb_tells (key x) k) [
   | inr p ↦ ap (λ (b : Bool). if b then Some x else item_in k xs) p.0
 ]
 
--- what is in the first part alone
+-- what is only in the first part
 pub in_front : (k m : ℕ) (xs ys : List Item) → k < m → AllFrom m ys → item_in k (xs ++ ys) ≡ item_in k xs
 in_front k m [] ys low h = in_none_above k m ys low h
 in_front k m (x ∷ xs) ys low h = ap (λ (o : Option Item). if key x == k then Some x else o) (in_front k m xs ys low h)

@@ -80,7 +80,7 @@ pub got : (s : Store) (h : ItemTree) → IsTree s h → (i : ℕ) → among i (o
 unfolding IsTree items owned
 got s h t i m e a = item_read s (grown s limit h.root) t.held t.distinct i m e a
 
--- the shape once the element of a node has other words
+-- the shape after the element of a node got other words
 record Rewrites (t : Store) (x : Shape) (i : ℕ) (e : Element) (v : List ℕ) : Type 0 where
   shape : Shape
   root : top shape ≡ top x
@@ -184,7 +184,7 @@ writes s t h x i m e a v f same up spare =
       as_many = up.as_many;
     }
 
--- the words of a node, where its item has another word or others at its end, and what its item has
+-- the words of a node whose item has another word or others at its end, and what its item has
 
 live_element : (s : Store) (i : ℕ) → IsSome (at s i) → at s i ≡ Some (element s i)
 live_element s i = go (at s i) where

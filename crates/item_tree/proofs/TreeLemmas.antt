@@ -1,4 +1,4 @@
--- Trees of elements: what a node opens to, what is joined, and that a tree stays whose elements are as they were.
+-- Trees of elements: what a node opens to, what is joined, and that a tree stays if its elements are as they were.
 use Rattle.std.proofs.Common.{◌≡◌, ℕ, ◌<◌, ◌≤◌, true, List, [], ◌∷◌, ◌++◌, length, drop, get_or, Some, refl, sym, ap, ◌∙◌, arith, IsSome, subst, inl, inr, length-append}
 use Rattle.std.specs.Prelude.{map}
 use Rattle.std.proofs.lemmas.Bool.Decides.{eqb_tells}
@@ -141,7 +141,7 @@ top_live s h x some = go (grown s limit h.root) x where
   go leaf t = absurd (omega (arith, t.root, some))
   go (node l id w q) t = let Q : ℕ → Type 0 = λ i. IsSome (at s i) in subst Q (sym t.root) (some_of s id (written l w q) t.held.1)
 
--- different live ids are no more than there can be
+-- at most as many different live ids exist as there can be
 pub room_for : (s : Store) (left : ItemTree) (id : ℕ) (right : ItemTree) → IsTree s left → IsTree s right → Distinct (owned s left ++ id ∷ owned s right) → IsSome (at s id)
     → ((i : ℕ) → IsSome (at s i) → (0 < i) × (i ≤ 4294967040)) → length (owned s left ++ id ∷ owned s right) ≤ 4294967040
 room_for s left id right tl tq distinct live range =

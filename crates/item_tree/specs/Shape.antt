@@ -1,4 +1,4 @@
--- A tree of elements: each node has its item, the list before it and the list behind it.
+-- A tree of elements: each node has its item, the list before it and the list after it.
 use Rattle.std.specs.Prelude.{◌≡◌, ℕ, zero, suc, ◌≤◌, List, [], ◌∷◌, ◌++◌, length, Some, slice_index_or, drop}
 use Rattle.vsm_elements.specs.declared.element.Element.{Element}
 use Rattle.vsm_elements.specs.Store.{Store, at, Distinct}
@@ -26,7 +26,7 @@ abbrev pub top : Shape → ℕ
 top leaf = 0
 top (node l id w q) = id
 
--- what stands in the element of a node
+-- what the element of a node contains
 abbrev pub written : Shape → List ℕ → Shape → Element
 written l w q = record { next = top l; words = top q ∷ w }
 
@@ -34,18 +34,18 @@ abbrev pub Held : Store → Shape → Type 0
 Held s leaf = Unit {0}
 Held s (node l id w q) = Held s l × (at s id ≡ Some (written l w q)) × Held s q
 
--- what is read from an id on, at most so many levels deep
+-- what is read from an id on, at most this many levels deep
 abbrev pub grown : Store → ℕ → ℕ → Shape
 grown s zero id = leaf
 grown s (suc n) zero = leaf
 grown s (suc n) (suc i) = node (grown s n ((element s (suc i)).next)) (suc i) (drop 1 ((element s (suc i)).words))
     (grown s n (slice_index_or ((element s (suc i)).words) 0 0))
 
--- no tree has more elements than there can be
+-- no tree has more elements than can exist
 unfoldable pub limit : ℕ
 limit = 4294967040
 
--- the tree from this id on is just this one
+-- the tree from this id on is exactly this one
 pub record IsTreeOf (s : Store) (id : ℕ) (t : Shape) : Type 0 where
   pub root : id ≡ top t
   pub held : Held s t

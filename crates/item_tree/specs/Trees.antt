@@ -16,7 +16,7 @@ items s h = items_in (grown s limit h.root)
 unfoldable pub owned : Store → ItemTree → List ℕ
 owned s h = ids_in (grown s limit h.root)
 
--- the tree stands in these elements
+-- these elements hold the tree
 unfoldable pub IsTree : Store → ItemTree → Type 0
 IsTree s h = IsTreeOf s h.root (grown s limit h.root)
 
@@ -36,7 +36,7 @@ key_at s id = slice_index_or (words_at s id) 0 0
 abbrev pub count : Store → ItemTree → ℕ
 count s h = length (owned s h)
 
--- the head is that of a node, with what stands before and behind it
+-- the head is that of a node, with what is before and after it
 pub record Opens (s : Store) (h : ItemTree) (n : Node) : Type 0 where
   pub left : IsTree s n.left
   pub right : IsTree s n.right
@@ -78,7 +78,7 @@ pub record Splits (s t : Store) (h : ItemTree) (k : ℕ) (a b : ItemTree) : Type
   pub spare : t.spare ≡ s.spare
   pub as_many : made t ≡ made s
 
--- an item stands in a list at its place
+-- an item is in a list at its place
 pub record IsPut (ns : List Item) (item : Item) (ms : List Item) : Type 0 where
   pub before : List Item
   pub behind : List Item
@@ -98,7 +98,7 @@ pub record Puts (s t : Store) (h : ItemTree) (item : Item) (r : ItemTree) : Type
   pub spare : t.spare ≡ s.spare
   pub as_many : made t ≡ made s
 
--- an item was taken out, and its element is live
+-- an item was removed, and its element is live
 pub record Takes (s t : Store) (h : ItemTree) (k : ℕ) (item : Item) (r : ItemTree) : Type 0 where
   pub tree : IsTree t r
   pub taken : IsPut (items t r) item (items s h)

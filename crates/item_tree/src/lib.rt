@@ -1,5 +1,5 @@
-//! Lists of items of six words in elements, as search trees by their first words: an item is found, put in and taken
-//! out in the time of a descent.
+//! Lists of items of six words in elements, as search trees by their first words: an item is found, inserted and
+//! removed in the time of a descent.
 #![tactic(auto)]
 
 mod item;

@@ -5,7 +5,7 @@ use crate::item::Item;
 use crate::tree::ItemTree;
 use vsm_elements::{Element, Elements};
 
-/// An item of a list, and the lists of those before and behind it.
+/// An item of a list, and the lists of those before and after it.
 #[derive(Clone, Copy)]
 pub struct Node {
     pub left: ItemTree,
@@ -27,7 +27,7 @@ pub(crate) fn seven(first: u32, words: [u32; 6]) -> [u32; 7]
     ]
 }
 
-// The words of a node whose item has others behind its key.
+// The words of a node whose item gets others after its key.
 pub(crate) fn with_rest(words: [u32; 7], rest: [u32; 5]) -> [u32; 7]
     ensures { result ≡ slice_index_or words 0 0 ∷ slice_index_or (drop 1 words) 0 0 ∷ rest }
 {

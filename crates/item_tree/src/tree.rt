@@ -16,8 +16,8 @@ pub struct ItemTree {
     pub(crate) root: Id,
 }
 
-// An element of a higher rank stands above one of a lower rank. The ranks are the ids, well mixed: so trees are as
-// flat as those of random ranks. Nothing is proved of that.
+// An element of a higher rank is above one of a lower rank. The ranks are the ids, well mixed, so trees are as flat as
+// those of random ranks. Nothing is proved about that.
 fn rank(id: Id) -> u32 {
     let a = (id ^ (id >> 16)).wrapping_mul(0x7feb_352d);
     let b = (a ^ (a >> 15)).wrapping_mul(0x846c_a68b);
@@ -28,7 +28,7 @@ impl ItemTree {
     ghost use Rattle.item_tree.specs.Trees.{items, owned, words_at, key_at, tree_of, IsTree, Opens};
     ghost use Rattle.item_tree.specs.Trees.{Merges, Splits, Puts, Takes, Writes};
 
-    // The items of both, those of the other tree behind.
+    // The items of both, first those of this tree.
     pub(crate) fn merge(self, elements: &mut Elements, other: ItemTree) -> ItemTree
         requires first { IsTree elements.old self }
         requires second { IsTree elements.old other }
@@ -96,7 +96,7 @@ impl ItemTree {
         ItemTree { root: head }
     }
 
-    /// An item of the list, with what stands before and behind it; `None` where it has none.
+    /// An item of the list, with what is before and after it; `None` if it has none.
     pub fn part(self, elements: &Elements) -> Option<Node>
         requires { IsTree elements.now self }
         ensures none { IfNone result (items elements.now self ≡ []) }
@@ -129,7 +129,7 @@ impl ItemTree {
         None
     }
 
-    // The id of the first item whose key is this one or above it, or `best` where there is none.
+    // The id of the first item whose key is this one or above it, or `best` if there is none.
     fn first_from(self, elements: &Elements, k: u64, best: Id) -> Id
         requires tree { IsTree elements.now self }
         requires order { Ascends (items elements.now self) }
@@ -159,7 +159,7 @@ impl ItemTree {
         Some(self.get(elements, id))
     }
 
-    // The id of the last item, or `best` where there is none.
+    // The id of the last item, or `best` if there is none.
     fn last_or(self, elements: &Elements, best: Id) -> Id
         requires { IsTree elements.now self }
         ensures { result ≡ id_or best (last_item (items elements.now self)) }
@@ -183,7 +183,7 @@ impl ItemTree {
         Some(self.get(elements, id))
     }
 
-    /// A live element that isn't the tree's becomes an item, under a key that none has.
+    /// Makes a live element that isn't the tree's an item, under a key that none has.
     pub fn put(&mut self, elements: &mut Elements, item: Item)
         requires tree { IsTree elements.old self.old }
         requires order { Ascends (items elements.old self.old) }
@@ -198,7 +198,7 @@ impl ItemTree {
         *self = front.merge(elements, behind);
     }
 
-    /// Takes the item of this key out. Its element stays live, and is no tree's.
+    /// Removes the item of this key. Its element stays live, and is no tree's.
     pub fn take(&mut self, elements: &mut Elements, k: u64) -> Item
         requires tree { IsTree elements.old self.old }
         requires range { k < 2 ^ 63 }
@@ -228,7 +228,7 @@ impl ItemTree {
         }
     }
 
-    /// The item of this id has these words behind its key, which stays.
+    /// Sets the words of this id's item after its key, which stays.
     pub fn set_rest(self, elements: &mut Elements, id: Id, rest: [u32; 5])
         requires tree { IsTree elements.old self }
         requires there { among id (owned elements.old self) ≡ true }
@@ -244,7 +244,7 @@ impl ItemTree {
         );
     }
 
-    /// The item of this id has another word at a place. Its old one is answered.
+    /// Sets the word of this id's item at a place, and returns the old one.
     pub fn swap_word(self, elements: &mut Elements, id: Id, k: usize, word: u32) -> u32
         requires tree { IsTree elements.old self }
         requires there { among id (owned elements.old self) ≡ true }
@@ -256,7 +256,7 @@ impl ItemTree {
         elements.swap_word(id, 1 + k, word)
     }
 
-    /// The item of this id has these four words at its end.
+    /// Sets the last four words of this id's item.
     pub fn set_last(self, elements: &mut Elements, id: Id, four: [u32; 4])
         requires tree { IsTree elements.old self }
         requires there { among id (owned elements.old self) ≡ true }

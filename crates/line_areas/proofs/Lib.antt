@@ -1,3 +1,5 @@
+mod Merging
+mod SameLines
 pub mod Joining
 pub mod Walking
 pub mod Bounds

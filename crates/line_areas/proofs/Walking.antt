@@ -40,7 +40,7 @@ module _ (set : ℕ → Bool) where
     pub is_some : r.start < r.start + r.len
     is_some = let some = ahead.spaced.1 in omega (arith, some)
 
-    -- before the next run, in it and just behind it
+    -- before the next run, in it and directly after it
     pub before_next : (n : ℕ) → low ≤ n → n < r.start → set n ≡ false
     before_next n from to =
         sym (ahead.holds n from) ∙ (λ i. is_before n r to i || contains n rs)

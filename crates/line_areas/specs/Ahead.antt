@@ -11,7 +11,7 @@ use Rattle.storage_core.specs.Walks.{IsExtentPlace, IsFreeAreaPlace}
 use Rattle.line_areas.specs.Taken.{line_at}
 use Rattle.line_areas.specs.declared.taken.Taking.{Taking}
 
--- From a number on the set has just these runs, none of which begins before it.
+-- From a number on the set has exactly these runs, none of which begins before it.
 pub record IsAhead (set : ℕ → Bool) (rs : List Run) (low : ℕ) : Type 0 where
   pub spaced : Spaced low rs
   pub holds : (n : ℕ) → low ≤ n → contains n rs ≡ set n
@@ -24,7 +24,7 @@ pub record IsNext (set : ℕ → Bool) (low : ℕ) (r : Run) : Type 0 where
   pub within : (n : ℕ) → r.start ≤ n → n < r.start + r.len → set n ≡ true
   pub past : set (r.start + r.len) ≡ false
 
--- The free areas of a subpool from a doubleword on come after a place, and its extents from a page on.
+-- The free areas of a subpool from a doubleword on follow a place, and its extents from a page on.
 abbrev pub IsFreeFrom : Storage → Subpool → FreeAreaPlace → ℕ → Type 0
 IsFreeFrom s p place d =
     (j : ℕ) × IsFreeAreaPlace s p place j

@@ -1,3 +1,4 @@
 pub mod Taken
+pub mod Rising
 pub mod Areas
 pub mod Ahead

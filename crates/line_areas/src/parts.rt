@@ -1,6 +1,7 @@
 //! Areas, one after the other.
 ghost use Rattle.std.specs.Prelude.{◌≡◌, ◌+◌, ◌^◌, ◌<◌, ◌≤◌, ℕ, List, Option, OnOk, reverse};
 ghost use Rattle.line_areas.specs.Areas.{areas_to, goes_on, joined};
+ghost use Rattle.line_areas.specs.Rising.{Rises};
 ghost use Rattle.line_areas.specs.Taken.{line_at};
 ghost use Rattle.line_areas.specs.declared.parts.LineArea.{LineArea as AreaIn};
 
@@ -17,7 +18,7 @@ pub struct LineArea {
     pub line: u32,
 }
 
-/// Whether an area goes on where another one ends.
+/// Whether an area begins at the end of another one of its subpool and line.
 fn goes_on(last: &LineArea, next: &LineArea) -> bool
     ensures { result ≡ goes_on last.now next.now }
 {
@@ -27,7 +28,7 @@ fn goes_on(last: &LineArea, next: &LineArea) -> bool
         && u64::from(last.start) + u64::from(last.count) == u64::from(next.start)
 }
 
-/// Adds an area after the last, or to it where it goes on.
+/// Adds an area after the last, or to the last if it goes on there.
 fn add(areas: &mut Vec<LineArea>, next: LineArea) -> Result<(), AllocError>
     requires { next.start + next.count < 2 ^ 32 }
     ensures { OnOk result (reverse areas.new.items ≡ joined next (reverse areas.old.items)) }
@@ -70,16 +71,16 @@ fn add_part(
     }
 }
 
-/// Adds doublewords of a subpool from the first up to an end, each with the line of the first of these takings that has
-/// it.
-pub fn add_taken(
+/// Adds doublewords of a subpool from the first up to an end, each with the line of the taking that has it.
+pub(crate) fn add_taken(
     areas: &mut Vec<LineArea>,
     takings: &[Taking],
     subpool: Subpool,
     first: u32,
     end: u32,
 ) -> Result<(), AllocError>
-    requires { first ≤ end }
+    requires rise { Rises 0 takings.now }
+    requires order { first ≤ end }
     ensures { OnOk result ((f : ℕ → Option ℕ) (others : List AreaIn)
         → ((d : ℕ) → first ≤ d → d < end → f d ≡ line_at takings.now d)
         → reverse areas.old.items ≡ areas_to subpool f first others

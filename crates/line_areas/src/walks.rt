@@ -6,8 +6,10 @@ ghost use Rattle.subpool_storage.specs.Order.{subpools_in_order};
 ghost use Rattle.storage_core.specs.Meaning.{state_in_place};
 ghost use Rattle.line_areas.specs.Areas.{areas_of, areas_to};
 ghost use Rattle.line_areas.specs.Ahead.{IsFreeFrom, IsNext, AreLinesOf};
+ghost use Rattle.line_areas.specs.Rising.{Rises};
 ghost use Rattle.line_areas.specs.declared.parts.LineArea.{LineArea as AreaIn};
 
+use crate::layers::without_overlaps;
 use crate::parts::{LineArea, add_taken};
 use crate::taken::Taking;
 use std::alloc::{AllocError, Global};
@@ -16,7 +18,7 @@ use storage_core::{Area as FreeArea, FreeAreaPlace, Run, Storage, Subpool};
 /// The doublewords of a page.
 const PAGE: u32 = 512;
 
-/// The free area after the place if it begins before an end, and the place after it.
+/// The free area after the place if it begins before an end, and the place after that.
 fn next_before(
     storage: &Storage,
     place: FreeAreaPlace,
@@ -33,9 +35,9 @@ fn next_before(
     ensures ends { IfSome result (λ r. r.0.start + r.0.len < 2 ^ 29) }
 {
     match storage.next_free_area(place) {
-        Some((area, behind)) => {
+        Some((area, after)) => {
             if area.start < end {
-                Some((area, behind))
+                Some((area, after))
             } else {
                 None
             }
@@ -44,8 +46,8 @@ fn next_before(
     }
 }
 
-/// Adds what is taken of an extent of a subpool, whose free areas from the extent on come after a place; gives the
-/// place after the last of them in the extent.
+/// Adds what is taken of an extent of a subpool; its free areas from the extent on follow a place. Gives the place
+/// after the last of them in the extent.
 fn add_extent(
     areas: &mut Vec<LineArea>,
     takings: &[Taking],
@@ -54,6 +56,7 @@ fn add_extent(
     extent: Run,
     first: FreeAreaPlace,
 ) -> Result<FreeAreaPlace, AllocError>
+    requires rise { Rises 0 takings.now }
     requires ends { extent.start + extent.len < 2 ^ 20 }
     requires pages { (k : ℕ) → extent.start ≤ k → k < extent.start + extent.len
         → (state_in_place storage.now).subpools.pages subpool k ≡ true }
@@ -69,10 +72,10 @@ fn add_extent(
     let end = PAGE * (extent.start + extent.len);
     let mut at = PAGE * extent.start;
     let mut place = first;
-    while let Some((area, behind)) = next_before(storage, place, end) {
+    while let Some((area, after)) = next_before(storage, place, end) {
         add_taken(areas, takings, subpool, at, area.start)?;
         at = area.start + area.len;
-        place = behind;
+        place = after;
     }
     add_taken(areas, takings, subpool, at, end)?;
     Ok(place)
@@ -85,15 +88,16 @@ fn areas_in(
     storage: &Storage,
     subpool: Subpool,
 ) -> Result<Vec<LineArea>, AllocError>
+    requires { Rises 0 takings.now }
     ensures { IfOk result (λ areas. (f : ℕ → Option ℕ) → AreLinesOf takings.now storage.now subpool f
         → areas.items ≡ areas_of subpool f) }
 {
     let mut areas = Vec::new(alloc);
     let mut free = storage.first_free_area(subpool);
     let mut place = storage.first_extent(subpool);
-    while let Some((extent, behind)) = storage.next_extent(place) {
+    while let Some((extent, after)) = storage.next_extent(place) {
         free = add_extent(&mut areas, takings, storage, subpool, extent, free)?;
-        place = behind;
+        place = after;
     }
     Ok(areas)
 }
@@ -106,6 +110,7 @@ fn add_subpool(
     storage: &Storage,
     subpool: Subpool,
 ) -> Result<(), AllocError>
+    requires { Rises 0 takings.now }
     ensures { OnOk result ((f : ℕ → Option ℕ) → AreLinesOf takings.now storage.now subpool f
         → areas.new.items ≡ areas.old.items ++ areas_of subpool f) }
 {
@@ -113,6 +118,27 @@ fn add_subpool(
     areas.extend_from_slice(own.as_slice())?;
     drop(own);
     Ok(())
+}
+
+/// What is taken of a storage, by subpools and then ascending, each doubleword with the line of the taking that has it.
+fn areas_with(
+    alloc: Global,
+    storage: &Storage,
+    takings: &[Taking],
+) -> Result<Vec<LineArea>, AllocError>
+    requires { Rises 0 takings.now }
+    ensures { IfOk result (λ areas. (f : Named → ℕ → Option ℕ)
+        → ((p : Named) → AreLinesOf takings.now storage.now p (f p))
+        → areas.items ≡ flat_map (λ p. areas_of p (f p))
+        (subpools_in_order (state_in_place storage.now).subpools)) }
+{
+    let mut areas = Vec::new(alloc);
+    let mut place = Storage::first_subpool_place();
+    while let Some((subpool, after)) = storage.next_subpool(place) {
+        add_subpool(&mut areas, alloc, takings, storage, subpool)?;
+        place = after;
+    }
+    Ok(areas)
 }
 
 /// What is taken of a storage, by subpools and then ascending: the areas in which the first of these takings that has a
@@ -127,11 +153,8 @@ pub fn areas_of(
         → areas.items ≡ flat_map (λ p. areas_of p (f p))
         (subpools_in_order (state_in_place storage.now).subpools)) }
 {
-    let mut areas = Vec::new(alloc);
-    let mut place = Storage::first_subpool_place();
-    while let Some((subpool, behind)) = storage.next_subpool(place) {
-        add_subpool(&mut areas, alloc, takings, storage, subpool)?;
-        place = behind;
-    }
-    Ok(areas)
+    let layers = without_overlaps(alloc, takings)?;
+    let areas = areas_with(alloc, storage, layers.as_slice());
+    drop(layers);
+    areas
 }

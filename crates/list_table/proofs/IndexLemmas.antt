@@ -18,7 +18,7 @@ same a = elim (eqb_tells a a) [
   | inr p ↦ absurd (p.1 refl)
 ]
 
--- a link that is there has its id among the others'
+-- the id of a link in a list is among its ids
 among_at : (ns : List Link) (k : ℕ) (n : Link) → slice_get ns k ≡ Some n → among n.id (ids ns) ≡ true
 among_at [] k n h = absurd (none_some h) where
   none_some : None ≡ Some n → ⊥
@@ -28,7 +28,7 @@ among_at (m ∷ ns) zero n h = ap (λ (b : Bool). b || among n.id (ids ns)) (ap 
   some_is e = cc
 among_at (m ∷ ns) (suc k) n h = or_right (n.id == m.id) (among n.id (ids ns)) (among_at ns k n h)
 
--- the place of its id is where it stands
+-- the place of its id is where it is
 pub place_at : (ns : List Link) (k : ℕ) (n : Link) → Distinct (ids ns) → slice_get ns k ≡ Some n → place_of n.id ns ≡ k
 place_at [] k n d h = absurd (none_some h) where
   none_some : None ≡ Some n → ⊥
@@ -43,7 +43,7 @@ place_at (m ∷ ns) (suc k) n d h = cond-false (n.id == m.id) 0 (suc (place_of n
     | inr p ↦ p.0
   ]
 
--- an id among others' is that of the link at its place
+-- an id among the links' is that of the link at its place
 there_is : (id : ℕ) (ns : List Link) → among id (ids ns) ≡ true → (place_of id ns < length ns) × (id ≡ head_or (drop (place_of id ns) ns) 0)
 there_is id [] h = absurd (not_both false h refl)
 there_is id (n ∷ ns) h = elim (eqb_tells id n.id) [

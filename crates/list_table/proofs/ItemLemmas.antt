@@ -47,13 +47,13 @@ seam_take xs ys k e = ap (λ (z : ℕ). take z (xs ++ ys)) (sym e) ∙ take-appe
 pub seam_drop : (xs ys : List Link) (k : ℕ) → length xs ≡ k → drop k (xs ++ ys) ≡ ys
 seam_drop xs ys k e = ap (λ (z : ℕ). drop z (xs ++ ys)) (sym e) ∙ drop-append_seam xs ys
 
--- an item is put in behind what was there
+-- an item is inserted at its place
 pub in_count : (ns ms : List Link) (k : ℕ) (n : Link) → k ≤ length ns → ms ≡ take k ns ++ n ∷ drop k ns → length ms ≡ length ns + 1
 in_count ns ms k n l e =
     let f : length (take k ns) ≡ k = length-take-le k ns l in
     omega (arith, ap length e, length-append (take k ns) (n ∷ drop k ns), f, length-drop k ns)
 
--- an item is taken out
+-- an item is removed
 pub out_take : (ns0 ns ms : List Link) (k : ℕ) → k ≤ length ns → take k ns ≡ take k ns0 → ms ≡ take k ns ++ drop (k + 1) ns → take k ms ≡ take k ns0
 out_take ns0 ns ms k l front e = ap (take k) e ∙ seam_take (take k ns) (drop (k + 1) ns) k (length-take-le k ns l) ∙ front
 

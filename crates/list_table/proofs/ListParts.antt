@@ -1,4 +1,4 @@
--- Membership in lists that stand one behind the other.
+-- Membership in lists that follow one another.
 use Rattle.std.proofs.Common.{◌≡◌, ℕ, ◌||◌, Bool, true, false, ◌⊎◌, inl, inr, List, ◌++◌, refl, sym, ◌∙◌}
 use Rattle.vsm_elements.specs.Store.{among}
 use Rattle.vsm_elements.specs.Ownership.{Apart}

@@ -1,7 +1,7 @@
--- Stocks: what they own, what stays where elements stay, and what a call on one of their parts does.
+-- Stocks: what they own, what stays if elements stay, and what a call on one of their parts does.
 --
--- A stock's parts stand one behind the other. A call on one of them is taken past each part behind it in turn (`past`),
--- where all that stands before it is as it was (`behind`).
+-- A stock's parts follow one another. A call on one of them is taken past each later part in turn (`past`), if all that
+-- is before it is as it was (`behind`).
 use Rattle.std.proofs.Common.{◌≡◌, ℕ, ◌+◌, true, inl, inr, List, [], ◌∷◌, ◌++◌, length, refl, sym, ap, ◌∙◌, subst, arith, length-append}
 use Rattle.std.specs.Prelude.{map}
 use Rattle.vsm_elements.specs.Store.{Store, at, among}
@@ -51,7 +51,7 @@ front_owns s k h = Owns-join s (pair s k) (RowTable.owned s k.extents) (pair_own
 pub stock_owns : (s : Store) (k : Stock) → IsStock s k → Owns s (holdings s k)
 stock_owns s k h = Owns-join s (front s k) (RowTable.owned s k.places) (front_owns s k h) (table_owns s k.places h.places) h.beside
 
--- what stays where elements stay
+-- what stays if elements stay
 
 pub chain_same : (s t : Store) (c : Chain) → IsChain s c → ((i : ℕ) → among i (Chain.owned s c) ≡ true → at t i ≡ at s i) → IsChain t c × (links t c ≡ links s c)
 chain_same s t c h same = (is_chain t c (links s c) now, links_are t c (links s c) now) where
@@ -135,14 +135,14 @@ stock_same s t k h same = record {
   p : SameTable s t k.places
   p = table_same s t k.places h.places (λ i m. same i (in_right i (front s k) (RowTable.owned s k.places) m))
 
--- a stock that stands apart from what a call owns is what it was
+-- a stock that is apart from what a call owns is unchanged
 pub stock_stays : (s t : Store) (had has : List ℕ) (k : Stock) → Leaves s t had has → IsStock s k → Apart had (holdings s k) → SameStock s t k × Apart has (holdings t k)
 stock_stays s t had has k f h apart =
     let o = others_stay s t had has (holdings s k) f (stock_owns s k h) apart in
     let r : SameStock s t k = stock_same s t k h o.2 in
     (r, (let P : List ℕ → Type 0 = λ z. Apart has z in subst P (sym r.own) o.1))
 
--- what a call leaves of the table behind it
+-- what a call leaves of the table after it
 record Past (s t : Store) (had has : List ℕ) (q : RowTable) : Type 0 where
   stands : IsTable t q
   is : rows t q ≡ rows s q
@@ -165,7 +165,7 @@ past s t had has q f h apart = record {
   k : SameTable s t q
   k = table_same s t q h o.2
 
--- a call on what stands behind other parts
+-- a call on what follows other parts
 module _ (s t : Store) (had has rest : List ℕ) (f : Leaves s t had has) (own : Owns s rest) (apart : Apart rest had) where
   o' : Owns t rest × Apart has rest × ((i : ℕ) → among i rest ≡ true → at t i ≡ at s i)
   o' = others_stay s t had has rest f own (Apart-sym rest had apart)
@@ -260,7 +260,7 @@ places_change s t k places h f c = (
   b : Apart (front t k) (RowTable.owned t places) × Leaves s t (holdings s k) (front t k ++ RowTable.owned t places)
   b = behind s t (RowTable.owned s k.places) (RowTable.owned t places) (front s k) f (front_owns s k h) h.beside (front t k) r.own
 
--- how many elements there are
+-- how many elements they have
 length-items : (ns : List Link) → length (ids ns) ≡ length (items_of ns)
 length-items [] = refl
 length-items (n ∷ ns) = omega (arith, length-items ns)
@@ -293,7 +293,7 @@ no_rows s q e = go (rows s q) (sym (rows_own s q) ∙ e) where
     no : r.id ∷ map (λ r. r.id) rs ≡ [] → ⊥
     no f = cc
 
--- a part is given back behind those before it
+-- a part is given back after those before it
 given_past : (s t r : Store) (had : List ℕ) (q : RowTable) → Leaves s t had [] → IsTable s q → Apart had (RowTable.owned s q) → Leaves t r (RowTable.owned t q) [] → Leaves s r (had ++ RowTable.owned s q) []
 given_past s t r had q first h apart second = Leaves-trans s t r (had ++ RowTable.owned s q) (RowTable.owned t q) [] (past s t had [] q first h apart).leaves second
 

@@ -20,17 +20,17 @@ pub record ChangesTo (s t : Store) (k j : Stock) : Type 0 where
   pub stands : IsStock t j
   pub leaves : Leaves s t (holdings s k) (holdings t j)
 
--- a table that stands owns its elements
+-- a table that elements hold owns its elements
 abbrev pub TablesOwn : Type 0
 TablesOwn = (s : Store) (q : ListTable) → ListTable.IsTable s q → Owns s (owned s q)
 
--- a table whose elements are as they were is as it was
+-- a table whose elements are unchanged is unchanged
 abbrev pub TablesKept : Type 0
 TablesKept = (s t : Store) (q : ListTable) → ListTable.IsTable s q
     → ((id : ℕ) → among id (owned s q) ≡ true → at t id ≡ at s id)
     → ListTable.IsTable t q × (entries t q ≡ entries s q) × (owned t q ≡ owned s q)
 
--- a table that stands apart from what a call owns is as it was
+-- a table that is apart from what a call owns is unchanged
 abbrev pub TablesStay : Type 0
 TablesStay = (s t : Store) (had has : List ℕ) (q : ListTable) → Leaves s t had has → ListTable.IsTable s q
     → Apart had (owned s q) → ListTable.IsTable t q × (entries t q ≡ entries s q) × (owned t q ≡ owned s q)
@@ -44,7 +44,7 @@ OpenStays = (s t : Store) (q : ListTable) (r : ListRow) (stock : Stock) (words :
     × (owned_besides t q r.id ≡ owned_besides s q r.id)
     × Leaves s t (owned_besides s q r.id ++ holdings s r.stock) (owned_besides t q r.id ++ holdings t stock)
 
--- a call on the items of a stock leaves its tables as they were, and the stock stands with the items that are left
+-- a call on the items of a stock leaves its tables as they were, and the stock is kept with the items that are left
 abbrev pub ItemsChange : Type 0
 ItemsChange = (s t : Store) (k : Stock) (items : Chain) → IsStock s k
     → Leaves s t (Chain.owned s k.items) (Chain.owned t items) → IsChain t items
@@ -70,11 +70,11 @@ PlacesChange = (s t : Store) (k : Stock) (places : RowTable) → IsStock s k
     → ChangesTo s t k (record { items = k.items; used = k.used; extents = k.extents; places = places })
     × (links t k.items ≡ links s k.items) × (rows t k.used ≡ rows s k.used) × (rows t k.extents ≡ rows s k.extents)
 
--- no two entries have one id
+-- no two entries have the same id
 abbrev pub EntriesDiffer : Type 0
 EntriesDiffer = (s : Store) (q : ListTable) → ListTable.IsTable s q → Distinct (map (λ e. e.id) (entries s q))
 
--- where every id keeps what it had, so does every table
+-- if every id keeps what it had, so does every table
 abbrev pub GrowthKeepsTables : Type 0
 GrowthKeepsTables = (s t : Store) (q : ListTable) → SameElements s t → ListTable.IsTable s q
     → ListTable.IsTable t q × (entries t q ≡ entries s q) × (owned t q ≡ owned s q)

@@ -1,4 +1,4 @@
--- What a row has beside its words: a chain of items and three tables, each in elements of its own.
+-- What a row has in addition to its words: a chain of items and three tables, each in elements of its own.
 use Rattle.std.specs.Prelude.{◌≡◌, ℕ, List, ◌++◌, map}
 use Rattle.vsm_elements.specs.Store.{Store}
 use Rattle.vsm_elements.specs.Chain.{Link, links, IsChain}
@@ -18,7 +18,7 @@ items_of ns = map (λ n. n.words) ns
 abbrev pub rows_of : List Row → List (List ℕ)
 rows_of rs = map (λ r. r.words) rs
 
--- what stands in a stock: its items, and the rows of its three tables
+-- what a stock contains: its items, and the rows of its three tables
 pub record Contents : Type 0 where
   pub items : List (List ℕ)
   pub used : List (List ℕ)
@@ -33,12 +33,12 @@ contents s k = record {
   places = rows_of (rows s k.places);
 }
 
--- the entry of an id and words, with what stands in its stock
+-- the entry of an id and words, with what its stock contains
 abbrev pub entry_with : ℕ → List ℕ → Contents → Entry
 entry_with id words c =
     record { id = id; words = words; items = c.items; used = c.used; extents = c.extents; places = c.places }
 
--- the ids of its elements but for those of the places
+-- the ids of its elements, except those of the places
 abbrev pub front : Store → Stock → List ℕ
 front s k = (Chain.owned s k.items ++ RowTable.owned s k.used) ++ RowTable.owned s k.extents
 
@@ -46,7 +46,7 @@ front s k = (Chain.owned s k.items ++ RowTable.owned s k.used) ++ RowTable.owned
 abbrev pub holdings : Store → Stock → List ℕ
 holdings s k = front s k ++ RowTable.owned s k.places
 
--- its parts stand, each in elements of its own
+-- its parts are kept, each in elements of its own
 pub record IsStock (s : Store) (k : Stock) : Type 0 where
   pub items : IsChain s k.items
   pub used : IsTable s k.used
@@ -56,7 +56,7 @@ pub record IsStock (s : Store) (k : Stock) : Type 0 where
   pub apart : Apart (Chain.owned s k.items ++ RowTable.owned s k.used) (RowTable.owned s k.extents)
   pub beside : Apart (front s k) (RowTable.owned s k.places)
 
--- it's what it was
+-- it is unchanged
 pub record SameStock (s t : Store) (k : Stock) : Type 0 where
   pub stands : IsStock t k
   pub is : contents t k ≡ contents s k

@@ -1,4 +1,4 @@
-//! Items of a list: a walk to a place, the words that stand there, and items put in and taken out.
+//! Items of a list: a walk to a place, the words of the item there, and items inserted and removed.
 
 ghost use Rattle.std.specs.Prelude.{◌≡◌, ◌+◌, ◌≤◌, ◌<◌, ◌++◌, ◌∷◌, Some, slice_get, take, drop};
 ghost use Rattle.vsm_elements.specs.Chain.{links, owned, last_or, IsChain};
@@ -31,7 +31,7 @@ pub fn item(list: Chain, elements: &Elements, k: u32) -> [u32; 7]
     list.words(elements, id)
 }
 
-/// Puts an item at place `k`, in front of what stood there. It takes one element.
+/// Inserts an item at place `k`, before the one that was there. It takes one element.
 pub fn insert(list: &mut Chain, elements: &mut Elements, k: u32, words: [u32; 7])
     requires chain { IsChain elements.old list.old }
     requires within { k ≤ list.old.count }
@@ -47,7 +47,7 @@ pub fn insert(list: &mut Chain, elements: &mut Elements, k: u32, words: [u32; 7]
     list.insert(elements, k, behind, words);
 }
 
-/// Takes `count` items out, from place `k` on. Their elements become spare ones.
+/// Removes `count` items, from place `k` on. Their elements become spare ones.
 pub fn remove(list: &mut Chain, elements: &mut Elements, k: u32, count: u32)
     requires chain { IsChain elements.old list.old }
     requires within { k + count ≤ list.old.count }

@@ -7,7 +7,7 @@ ghost use Rattle.list_table.specs.Stocks.{contents, front, holdings, IsStock};
 use row_table::RowTable;
 use vsm_elements::{Chain, Elements};
 
-/// What a row has beside its words, in elements of its own: a list of items of seven words, and three tables.
+/// What a row has in addition to its words, in elements of its own: a list of items of seven words, and three tables.
 ///
 /// The third table has the places of the extents.
 #[derive(Clone, Copy)]
@@ -42,7 +42,7 @@ impl Stock {
         self.places.discard(elements);
     }
 
-    // Gives back every element but those of the places.
+    // Gives back every element except those of the places.
     fn discard_front(self, elements: &mut Elements)
         requires { IsStock elements.old self }
         ensures { Leaves elements.old elements.new (front elements.old self) [] }

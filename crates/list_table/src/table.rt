@@ -13,7 +13,7 @@ use vsm_elements::{Chain, Elements, Id};
 /// The head of a table of rows, each with words of its own and a [`Stock`].
 ///
 /// It is kept by value. To change a stock, a row is taken in hand by [`ListTable::row`], its parts are changed as a
-/// [`Chain`] and as [`RowTable`]s, and [`ListTable::write`] puts the row back. A table that is no longer wanted is
+/// [`Chain`] and as [`RowTable`]s, and [`ListTable::write`] puts the row back. A table that is no longer needed is
 /// discarded.
 #[derive(Clone, Copy)]
 pub struct ListTable {
@@ -63,7 +63,7 @@ fn discard_stock(words: [u32; 7], elements: &mut Elements)
 #[tactic(auto, unfolding(
 // what the rows are
 crate::specs::ListTable::entries, crate::specs::ListTable::IsPlace,
-// whose the elements are
+// which elements are its own
 crate::specs::ListTable::owned, crate::specs::ListTable::IsTable,
 // what a head is
 crate::specs::ListTable::table_of))]
@@ -95,7 +95,7 @@ impl ListTable {
         self.chain.count
     }
 
-    /// The row at an index, behind the row of this id (0 at the front).
+    /// The row at an index, after the row of this id (0 at the front).
     pub fn row(&self, elements: &Elements, index: u32, before: Id) -> ListRow
         requires table { IsTable elements.now self.now }
         requires place { IsPlace elements.now self.now index before }
@@ -136,7 +136,7 @@ impl ListTable {
         }
     }
 
-    /// Puts a row that was in hand back, with its words and its stock.
+    /// Writes back a row that was in hand, with its words and its stock.
     pub fn write(&self, elements: &mut Elements, row: ListRow)
         requires { IsOpen elements.old self.now row }
         ensures table { IsTable elements.new self.now }
@@ -152,7 +152,7 @@ impl ListTable {
         self.chain.set_words(elements, row.id, words);
     }
 
-    /// A row with these words and an empty stock, before all others.
+    /// Inserts a row with these words and an empty stock before all others.
     ///
     /// It takes one element.
     pub fn push(&mut self, elements: &mut Elements, words: [u32; 2]) -> Id
@@ -170,7 +170,7 @@ impl ListTable {
         self.chain.insert(elements, 0, 0, words)
     }
 
-    /// The row at an index moves to the front of another table, with its stock and its elements.
+    /// Moves the row at an index to the front of another table, with its stock and its elements.
     pub fn move_row(&mut self, elements: &mut Elements, index: u32, before: Id, to: &mut ListTable)
         requires table { IsTable elements.old self.old }
         requires place { IsPlace elements.old self.old index before }
@@ -193,7 +193,7 @@ impl ListTable {
         self.chain.move_link(elements, index, before, &mut to.chain);
     }
 
-    /// Takes the first row out, and gives back its elements, those of its stock among them.
+    /// Removes the first row, and gives back its elements, those of its stock among them.
     pub fn drop_first(&mut self, elements: &mut Elements)
         requires table { IsTable elements.old self.old }
         requires some { 0 < length (entries elements.old self.old) }

@@ -19,7 +19,7 @@ pub column_same : (line : List ℕ) (i column more : ℕ) (b : Bool) → b ≡ c
     → more ≡ column_of line (i + 1)
 column_same line i column more b e n is h = is ∙ h ∙ column_next line i true (sym n ∙ e)
 
--- one byte more is shown
+-- another byte is shown
 pub shown_next : (line : List ℕ) (i : ℕ) (text more : List ℕ) (byte : ℕ) → text ≡ shown_to line i → byte ≡ shown_at line i → more ≡ text ++ byte ∷ []
     → more ≡ shown_to line (i + 1)
 shown_next line i text more byte e b is =

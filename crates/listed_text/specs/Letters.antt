@@ -11,7 +11,7 @@ letter_bytes c =
     else if nat_le 240 c && nat_le c 244 then 4
     else 1
 
--- Its second byte: X'80' to X'BF', but for control characters (X'C280' to X'C29F'), characters that fewer bytes spell,
+-- Its second byte: X'80' to X'BF', except control characters (X'C280' to X'C29F'), characters that fewer bytes spell,
 -- halves of pairs, and what is above X'10FFFF'.
 abbrev pub least_second : ℕ → ℕ
 least_second c = if c == 194 then 160 else if c == 224 then 160 else if c == 240 then 144 else 128
@@ -55,7 +55,7 @@ shown_at line at =
     then slice_index_or line at 0
     else 46
 
--- The first bytes of a line as they're shown, so many; and all of them.
+-- This many first bytes of a line as they're shown; and all of them.
 abbrev pub shown_to : List ℕ → ℕ → List ℕ
 shown_to line zero = []
 shown_to line (suc n) = shown_to line n ++ shown_at line n ∷ []

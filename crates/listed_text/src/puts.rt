@@ -13,7 +13,7 @@ use text_output::Gathered;
 /// The bytes of a line that are shown.
 type ShownBytes = ArrayVec<u8, 80>;
 
-/// Puts so many blanks.
+/// Puts this many blanks.
 pub fn put_blanks<W: Write>(gathered: &mut Gathered, writer: &mut W, count: usize)
     ensures { Puts (W.contents writer.old) (W.contents writer.new) gathered.old gathered.new (replicate count 32) }
 {

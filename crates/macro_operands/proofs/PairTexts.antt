@@ -1,4 +1,4 @@
--- A text for each pair of values, which can stand as an operand and is no value.
+-- A text for each pair of values, which can be an operand and is no value.
 use Rattle.std.proofs.Common.{◌≡◌, ℕ, ◌+◌, ◌-◌, ◌≤◌, ◌==◌, Bool, true, false, ◌&&◌, List, [], ◌∷◌, ◌++◌, length, Some, None, nat_le, nat_lt, ◌^◌, if◌then◌else◌, slice_index, arith, refl, ap, ◌∙◌}
 use Rattle.std.specs.Option.{option_map}
 use Rattle.std.specs.Char.{to_ascii_uppercase}

@@ -109,7 +109,7 @@ none_slot [] k = refl
 none_slot (e ∷ es) zero = refl
 none_slot (e ∷ es) (suc k) = none_slot es k
 
--- what was read is that of the keys before
+-- what was read belongs to the keys before
 record IsSeen (es : List Entry) (slots : Slots) (before : List Key) : Type 0 where
   each : (key : Key) → is_filled slots (found 0 es key) ≡ is_among before key
 

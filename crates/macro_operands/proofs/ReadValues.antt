@@ -72,7 +72,7 @@ pub some_place_kept : (s : Option Said) (p : Target) → as_place s ≡ Some p �
 some_place_kept None p h = cc
 some_place_kept (Some s) p h = refl
 
--- a value besides register 0
+-- a value that isn't in register 0
 besides_register : (n : ℕ) (b : Bool) → (n == 0) ≡ b → is_register_0 (written.register n) ≡ false → (if n == 0 then None else Some (register n)) ≡ Some (register n)
 besides_register n b e h = ap (λ x. if x then None else Some (register n)) h
 

@@ -1,4 +1,4 @@
--- Operands as they are written: what each is read as, that together they have no fault, and that each is found by its key.
+-- Operands as they are written: what each is read as, that they have no fault together, and that its key finds each.
 use Rattle.std.proofs.Common.{◌≡◌, ℕ, ◌+◌, ◌*◌, ◌≤◌, ◌==◌, Bool, true, false, ◌&&◌, ◌||◌, List, [], ◌∷◌, ◌++◌, length, map, take, drop, Option, Some, None, is_some, if◌then◌else◌, option_and_then, arith, refl, ap, ◌∙◌}
 use Rattle.std.proofs.Math.Seq.{take-append_seam, drop-append-add}
 use Rattle.std.specs.List.{AllByRecursion, position_or_len}
@@ -17,7 +17,7 @@ use Rattle.macro_operands.specs.declared.faults.FaultKind.TheVariants as fault
 use Rattle.macro_operands.specs.Slots.{readings}
 use Rattle.macro_operands.proofs.ReadSlots.{key_is, same_self}
 
--- the equals sign behind a name
+-- the equals sign after a name
 at_equals : (k t : List ℕ) → AllByRecursion IsPlain k → position_or_len (λ c. c == 61) (k ++ 61 ∷ t) ≡ length k
 at_equals [] t h = refl
 at_equals (c ∷ cs) t h = rw (h.0.equals, at_equals cs t h.1) (omega arith)
@@ -82,7 +82,7 @@ placed i (c ∷ cs) some p h =
       stands = h;
     }
 
--- an operand that may be written: its key, and the text of its value where it is
+-- an operand that may be written: its key, and the text of its value if it is present
 pub data Item : Type 0 where
   item : Key → Option (List ℕ) → Item
 
@@ -102,7 +102,7 @@ abbrev pub past : ℕ → Option (List ℕ) → ℕ
 past i None = i
 past i (Some t) = i + 1
 
--- the row has it, behind others with these keys that may be written, and where it is, its text is of its kind
+-- the row has it, after others with these keys that may be written, and its text, if present, is of its kind
 pub record Fits (row : Row) (before : List Key) (i : ℕ) (key : Key) (text : Option (List ℕ)) : Type 0 where
   pub entry : Entry
   pub has : entry_for row.entries key ≡ Some entry
@@ -192,7 +192,7 @@ finds row before key i (item other (Some t) ∷ items) h =
     ap (λ o. text_or key o (text_from key (i + 1) (written items))) h.0.says.1.reads
     ∙ ap (λ r. if same_key key other then Some t else r) (finds row (other ∷ before) key (i + 1) items h.1)
 
--- each can stand as an operand
+-- each can be an operand
 pub stand : (row : Row) (before : List Key) (i : ℕ) (items : List Item) → AllFit row before i items → AllByRecursion IsOperand (written items)
 stand row before i [] h = tt
 stand row before i (item key None ∷ items) h = stand row (key ∷ before) i items h.1
@@ -212,7 +212,7 @@ long o (item key (Some t) ∷ items) h =
     let all = length-append o (44 ∷ joined (operand_text key t) (written items)) in
     omega (arith, few, rest, all)
 
--- so they are where the first is a pair
+-- so they are if the first is a pair
 pub long_first : (o : List ℕ) (key : Key) (text : Option (List ℕ)) (items : List Item) → IfSome text (λ t. length (operand_text key t) ≤ 140) → AllFew items
     → length (joined o (written (item key text ∷ items))) ≤ length o + 141 + 72 * length items
 long_first o key None items h few = let rest = long o items few in omega (arith, rest)

@@ -12,11 +12,11 @@ is_header_byte c = nat_le 32 c && nat_le c 126 && not (c == 39)
 abbrev pub is_header : List ℕ → Bool
 is_header header = nat_le 1 (length header) && nat_le (length header) 24 && list_all is_header_byte header
 
--- A text stands between apostrophes, as far as its first and last byte tell.
+-- A text is between apostrophes, as far as its first and last byte show.
 abbrev pub is_between_apostrophes : List ℕ → Bool
 is_between_apostrophes text =
     nat_le 2 (length text) && (slice_index text 0 == 39) && (slice_index text (length text - 1) == 39)
 
--- The header that stands between apostrophes, its letters in the case in which they are written.
+-- The header that is between apostrophes, its letters in the case in which they are written.
 abbrev pub header_of : List ℕ → Option (List ℕ)
 header_of text = if is_between_apostrophes text && is_header (enclosed text) then Some (enclosed text) else None

@@ -9,15 +9,15 @@ use Rattle.macro_operands.specs.Rows.{Key, position, keyword}
 abbrev pub has_equals : List ℕ → Bool
 has_equals text = nat_lt (position_or_len (λ c. c == 61) text) (length text)
 
--- What stands in front of the first equals sign.
+-- What precedes the first equals sign.
 abbrev pub key_text : List ℕ → List ℕ
 key_text text = before_first (λ c. c == 61) text
 
--- What stands behind the first equals sign.
+-- What follows the first equals sign.
 abbrev pub value_text : List ℕ → List ℕ
 value_text text = after_first (λ c. c == 61) text
 
--- A keyword operand is a name with an equals sign behind it, whether any statement has that keyword or not (High Level
+-- A keyword operand is a name followed by an equals sign, whether any statement has that keyword or not (High Level
 -- Assembler Language Reference, "Keyword operands").
 abbrev pub is_keyword_operand : List ℕ → Bool
 is_keyword_operand text = has_equals text && is_name (key_text text)

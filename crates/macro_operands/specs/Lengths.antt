@@ -1,4 +1,4 @@
--- Lengths and names as some operands have them: pairs of values, values besides register 0, and names alone.
+-- Lengths and names as some operands have them: pairs of values, values not in register 0, and plain names.
 use Rattle.std.specs.Prelude.{ℕ, Bool, true, false, ◌==◌, if◌then◌else◌, List, map, Option, Some, None}
 use Rattle.std.specs.Char.{to_ascii_uppercase}
 use Rattle.operand_texts.specs.Words.{is_name}

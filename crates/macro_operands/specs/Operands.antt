@@ -21,18 +21,18 @@ abbrev pub is_left_out : List (List ℕ) → Key → Bool
 is_left_out left_out (position i) = false
 is_left_out left_out (keyword name) = list_any (λ w. bytes_eq name w) left_out
 
--- What is wrong with an operand that a row hasn't: its keyword is left out, or it's none.
+-- What is wrong with an operand that isn't in a row: its keyword is left out, or it's none.
 abbrev pub unknown_fault : List (List ℕ) → Option Operand → FaultKind
 unknown_fault left_out None = fault.Operand
 unknown_fault left_out (Some o) = if is_left_out left_out o.key then fault.LeftOut else fault.Operand
 
--- The key of an operand beside which an entry can't stand is among those before.
+-- The key of an operand with which an entry can't appear is among those before.
 abbrev pub is_excluded : List Key → Option Key → Bool
 is_excluded before None = false
 is_excluded before (Some key) = is_among before key
 
--- What is wrong with an operand behind operands with these keys, where the row has this entry for its key, or none: the
--- row hasn't it, or it can't stand beside one of them, or it was written before, or its value.
+-- What is wrong with an operand after operands with these keys, if the row has this entry for its key, or none: the row
+-- doesn't have it, or it can't appear with one of them, or it was written before, or its value is wrong.
 abbrev pub entry_fault : List (List ℕ) → List Key → Operand → Option Entry → Option FaultKind
 entry_fault left_out before o None = Some (unknown_fault left_out (Some o))
 entry_fault left_out before o (Some e) =
@@ -40,7 +40,7 @@ entry_fault left_out before o (Some e) =
     else if is_among before o.key then Some fault.Repeated
     else value_fault e.kind o.text
 
--- What is wrong with an operand behind operands with these keys.
+-- What is wrong with an operand after operands with these keys.
 abbrev pub operand_fault : Row → List Key → Option Operand → Option FaultKind
 operand_fault row before None = Some fault.Operand
 operand_fault row before (Some o) = entry_fault row.left_out before o (entry_for row.entries o.key)
@@ -50,13 +50,13 @@ abbrev pub earlier : Option FaultKind → Option FaultKind → Option FaultKind
 earlier None g = g
 earlier (Some f) g = Some f
 
--- The keys before, with that of one operand more.
+-- The keys before, with that of another operand.
 abbrev pub with_key : List Key → Option Operand → List Key
 with_key before None = before
 with_key before (Some o) = o.key ∷ before
 
--- The first fault of the operands from left to right, the first of which stands at this place behind operands with
--- these keys.
+-- The first fault of the operands from left to right, the first of which is at this place after operands with these
+-- keys.
 abbrev pub fault_from : Row → List Key → ℕ → List (List ℕ) → Option FaultKind
 fault_from row before place [] = None
 fault_from row before place (text ∷ texts) =
@@ -72,12 +72,12 @@ abbrev pub unless_fault : {A : Type 0} → Option FaultKind → Result A FaultKi
 unless_fault None r = r
 unless_fault (Some f) r = Err f
 
--- The text of an operand's value where it has this key, or another text.
+-- The text of an operand's value if it has this key, or another text.
 abbrev pub text_or : Key → Option Operand → Option (List ℕ) → Option (List ℕ)
 text_or key None other = other
 text_or key (Some o) other = if same_key key o.key then Some o.text else other
 
--- The text of the value of the operand that has this key, of operands the first of which stands at this place.
+-- The text of the value of the operand that has this key, of operands the first of which is at this place.
 abbrev pub text_from : Key → ℕ → List (List ℕ) → Option (List ℕ)
 text_from key place [] = None
 text_from key place (text ∷ texts) = text_or key (operand_at place text) (text_from key (place + 1) texts)

@@ -55,7 +55,7 @@ pub data Act : Type 0 where
   end_task : Act
   poke : Written → Stored → Act
 
--- What a statement asks for: `peek address length` besides, the map of the storage, and so many steps.
+-- What a statement asks for: also `peek address length`, the map of the storage, and this many steps.
 pub data Asked : Type 0 where
   act : Act → Asked
   peek : Written → ℕ → Asked
@@ -103,12 +103,12 @@ asked_in code_request.Map = map_asked
 asked_in (code_request.Back n) = back n
 asked_in (code_request.Forward n) = forward n
 
--- What the code answers to a statement.
+-- What the code returns for a statement.
 abbrev pub seen : Result Request FaultKind → Result Asked FaultKind
 seen (Ok r) = Ok (asked_in r)
 seen (Err e) = Err e
 
--- So are those of what a request stores.
+-- The elements of what a request stores are bytes.
 abbrev pub AskedHasBytes : Asked → Type 0
 AskedHasBytes (act (poke address content)) = HasBytes content
 AskedHasBytes (act (obtain length subpool target boundary location form)) = ⊤
@@ -127,7 +127,7 @@ AskedHasBytes map_asked = ⊤
 AskedHasBytes (back n) = ⊤
 AskedHasBytes (forward n) = ⊤
 
--- A request has room in the columns of a first line and nine continuation lines. Of those that can be written just a
+-- A request has room in the columns of a first line and nine continuation lines. Of those that can be written only a
 -- POKE at a long name may have none, if it stores many bytes.
 abbrev pub HasRoom : Asked → Type 0
 HasRoom (act (poke (named name) (spelled bytes))) = length name + 2 * length bytes ≤ 565
@@ -225,7 +225,7 @@ IsValidAct (run task) = IsValue task
 IsValidAct end_task = ⊤
 IsValidAct (poke address content) = IsValue address × IsStored content
 
--- A request that can be written: one of 1 to 256 bytes, where it is for bytes.
+-- A request that can be written: one of 1 to 256 bytes, if it is for bytes.
 abbrev pub IsValidAsked : Asked → Type 0
 IsValidAsked (act a) = IsValidAct a
 IsValidAsked (peek address len) = IsValue address × (1 ≤ len) × (len ≤ 256)

@@ -19,8 +19,8 @@ same_key (keyword v) (keyword w) = bytes_eq w v
 abbrev pub is_among : List Key → Key → Bool
 is_among keys key = list_any (λ k. same_key k key) keys
 
--- An operand that a statement has: its key, the kind of its value, and the key of an operand beside which it can't
--- stand.
+-- An operand that a statement has: its key, the kind of its value, and the key of an operand with which it can't
+-- appear.
 pub record Entry : Type 0 where
   pub key : Key
   pub kind : Kind
@@ -31,10 +31,10 @@ pub record Row : Type 0 where
   pub entries : List Entry
   pub left_out : List (List ℕ)
 
--- An operand that may stand beside any other.
+-- An operand that may appear with any other.
 abbrev pub entry : Key → Kind → Entry
 entry key k = record { key = key; kind = k; excluded = None }
 
--- An operand that can't stand beside the one of another key.
+-- An operand that can't appear with the one of another key.
 abbrev pub excluding : Key → Kind → Key → Entry
 excluding key k other = record { key = key; kind = k; excluded = Some other }

@@ -14,7 +14,7 @@ use Rattle.macro_operands.specs.declared.rows.Kind.TheVariants as kind
 use Rattle.vsm_model.specs.declared.services.Boundary.{Boundary}
 use Rattle.vsm_model.specs.declared.services.Location.{Location}
 
--- Of a name, of a pair, of what is stored, and of a header, that is the text that spells it.
+-- For a name, a pair, what is stored, and a header, that is the text that spells it.
 pub data Said : Type 0 where
   number : ℕ → Said
   register : ℕ → Said
@@ -56,7 +56,7 @@ other_said None text = if is_name text then Some (name text) else option_map reg
 abbrev pub value_said : List ℕ → Option Said
 value_said text = other_said (number_of text) text
 
--- A register where something may be stored goes from 1 to 12.
+-- A register in which something may be stored goes from 1 to 12.
 abbrev pub place_register_said : Option ℕ → Option Said
 place_register_said None = None
 place_register_said (Some n) = if nat_le 1 n && nat_le n 12 then Some (register n) else None
@@ -80,7 +80,7 @@ unless_register_0 None = None
 unless_register_0 (Some (register n)) = if n == 0 then None else Some (register n)
 unless_register_0 (Some said) = Some said
 
--- What a text says as a value of this kind, where it's one that is supported.
+-- What a text says as a value of this kind, if it's a supported one.
 abbrev pub said_of : Kind → List ℕ → Option Said
 said_of kind.Value text = value_said text
 said_of kind.Length text = value_or_pair (value_said text) text
@@ -100,7 +100,7 @@ said_of kind.Header text = if is_some (header_of text) then Some (header text) e
 said_of kind.Any text = if length text == 0 then None else Some anything
 said_of kind.OtherForm text = None
 
--- A text is a value of this kind that isn't supported: of lengths of the form R that in register 0, of locations
+-- A text is a value of this kind that isn't supported: for lengths of the form R the one in register 0, for locations
 -- EXPLICIT.
 abbrev pub is_unsupported : Kind → List ℕ → Bool
 is_unsupported kind.Value text = false
@@ -121,8 +121,8 @@ is_unsupported kind.Header text = false
 is_unsupported kind.Any text = false
 is_unsupported kind.OtherForm text = false
 
--- What is wrong with a text that is no value of this kind: it's a bad value. But where words stand for themselves, any
--- other is no operand of the statement, and neither is what other forms have.
+-- What is wrong with a text that is no value of this kind: it's a bad value. But if words are operands by themselves,
+-- any other word is no operand of the statement, nor is what other forms have.
 abbrev pub wrong_fault : Kind → FaultKind
 wrong_fault kind.Value = fault.Value
 wrong_fault kind.Length = fault.Value

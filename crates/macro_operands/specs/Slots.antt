@@ -60,7 +60,7 @@ said_in (code_said.Location l) = says.location l
 said_in (code_said.Header text) = says.header text.now
 said_in code_said.Anything = says.anything
 
--- For each entry of a row what was read of it, or nothing.
+-- For each entry of a row what was read for it, or nothing.
 abbrev pub Slots : Type 0
 Slots = List (Option says.Said)
 
@@ -102,7 +102,7 @@ abbrev pub with_operand : rows.Row → Slots → Option keywords.Operand → Res
 with_operand row slots None = Err fault.Operand
 with_operand row slots (Some o) = with_entry row slots o (found 0 row.entries o.key)
 
--- The slots with what the operands say, the first of which stands at this place, or the first fault.
+-- The slots with what the operands say, the first of which is at this place, or the first fault.
 abbrev pub with_operands : rows.Row → Slots → ℕ → List (List ℕ) → Result Slots FaultKind
 with_operands row slots place [] = Ok slots
 with_operands row slots place (text ∷ texts) =
@@ -124,12 +124,12 @@ abbrev pub are_apart : List rows.Entry → Bool
 are_apart [] = true
 are_apart (e ∷ entries) = not (is_among (map (λ f. f.key) entries) e.key) && are_apart entries
 
--- What the code answers, with the slots as it leaves them.
+-- What the code returns, with the slots as it leaves them.
 abbrev pub answered : Option FaultKind → Slots → Result Slots FaultKind
 answered None slots = Ok slots
 answered (Some wrong) slots = Err wrong
 
--- What was said, where it's of this kind.
+-- What was said, if it's of this kind.
 abbrev pub as_value : Option says.Said → Option Written
 as_value (Some (says.number n)) = Some (number n)
 as_value (Some (says.register n)) = Some (register n)

@@ -25,8 +25,8 @@ fn all_header_bytes(text: &[u8]) -> bool
     text.iter().all(|byte| is_header_byte(*byte))
 }
 
-/// Whether a text is a header, as it stands between apostrophes: 1 to 24 characters from the blank to the tilde, none
-/// of them an apostrophe (*Assembler Services Reference*, CPOOL, HDR).
+/// Whether a text is a header, as it is between apostrophes: 1 to 24 characters from the blank to the tilde, none of
+/// them an apostrophe (*Assembler Services Reference*, CPOOL, HDR).
 pub fn is_header(text: &[u8]) -> bool
     ensures { result ≡ is_header text.now }
 {
@@ -40,7 +40,7 @@ fn is_between_apostrophes(text: &[u8]) -> bool
     text.len() >= 2 && text[0] == b'\'' && text[text.len() - 1] == b'\''
 }
 
-/// What stands between the first and the last byte.
+/// What is between the first and the last byte.
 fn enclosed(text: &[u8]) -> &[u8]
     requires { IsTrue (is_between_apostrophes text.now) }
     ensures { result.now ≡ enclosed text.now }
@@ -61,7 +61,7 @@ fn header_with(text: &[u8]) -> Header
     header
 }
 
-/// The header that a text spells between apostrophes, its letters as they are. Nothing where it spells none.
+/// The header that a text spells between apostrophes, its letters as they are. Nothing if it spells none.
 pub(crate) fn header_of(text: &[u8]) -> Option<Header>
     ensures { option_map (λ h. h.bytes) result ≡ header_of text.now }
 {

@@ -1,4 +1,4 @@
-//! Lengths and names as some operands have them: pairs of values, the value in register 0, and names alone.
+//! Lengths and names as some operands have them: pairs of values, the value in register 0, and plain names.
 
 ghost use Rattle.std.specs.Prelude.{◌≡◌};
 ghost use Rattle.std.specs.Option.{option_map};
@@ -8,7 +8,7 @@ ghost use Rattle.macro_operands.specs.Lengths.{pair_of, is_register_0, spells_re
 use operand_texts::values::{Value, parts_of, value_of};
 use operand_texts::words::{Name, is_name, upper_name};
 
-/// The two values of a pair, a maximum and a minimum. Nothing where a text isn't such a pair.
+/// The two values of a pair, a maximum and a minimum. Nothing if a text isn't such a pair.
 pub(crate) fn pair_of(text: &[u8]) -> Option<(Value, Value)>
     ensures { option_map (λ p. (written_in p.0, written_in p.1)) result ≡ pair_of text.now }
 {
@@ -36,7 +36,7 @@ pub(crate) fn spells_register_0(text: &[u8]) -> bool
     }
 }
 
-/// The name that a text is, in upper case. Nothing where it's none.
+/// The name that a text is, in upper case. Nothing if it's none.
 pub(crate) fn name_of(text: &[u8]) -> Option<Name>
     ensures { option_map (λ n. n.bytes) result ≡ name_of text.now }
 {

@@ -8,7 +8,7 @@ use operand_texts::values::parts_of;
 use operand_texts::words::is_word;
 use vsm_model::{Boundary, Location};
 
-/// The boundary that a text says, in either case. Nothing where it says none.
+/// The boundary that a text says, in either case. Nothing if it says none.
 pub(crate) fn boundary_of(text: &[u8]) -> Option<Boundary>
     ensures { result ≡ boundary_of text.now }
 {
@@ -21,7 +21,7 @@ pub(crate) fn boundary_of(text: &[u8]) -> Option<Boundary>
     }
 }
 
-/// The location that a word says, in either case. Nothing where it says none.
+/// The location that a word says, in either case. Nothing if it says none.
 fn location_word_of(text: &[u8]) -> Option<Location>
     ensures { result ≡ location_word_of text.now }
 {
@@ -48,7 +48,7 @@ fn is_real_location(text: &[u8]) -> bool
 }
 
 /// The location that a text says: a word, or the first of a pair, whose second says where real storage may lie and has
-/// no effect. Nothing where it says none.
+/// no effect. Nothing if it says none.
 pub(crate) fn location_of(text: &[u8]) -> Option<Location>
     ensures { result ≡ location_of text.now }
 {

@@ -25,7 +25,7 @@ pub struct Operand<'a> {
     pub text: &'a [u8],
 }
 
-/// Where the equals sign of an operand stands.
+/// The place of an operand's equals sign.
 fn equals_at(text: &[u8]) -> Option<usize>
     ensures { result ≡ position (λ c. c == 61) text.now }
 {
@@ -99,7 +99,7 @@ fn is_left_out(left_out: &[&[u8]], key: Key<'_>) -> bool
     false
 }
 
-/// What is wrong with an operand that a row hasn't.
+/// What is wrong with an operand that isn't in a row.
 pub fn unknown_fault(left_out: &[&[u8]], operand: Option<Operand<'_>>) -> FaultKind
     ensures { result ≡ unknown_fault (map (λ w. w.now) left_out.now) (option_map operand_in operand.entry) }
 {
@@ -117,7 +117,7 @@ fn is_read(said: &[Option<Said>], i: usize) -> bool
     said[i].is_some()
 }
 
-/// Whether the operand beside which an entry can't stand was read.
+/// Whether the operand with which an entry can't appear was read.
 fn is_barred(entries: &[Entry], said: &[Option<Said>], excluded: Option<Key<'static>>) -> bool
     requires { length said.now ≡ length entries.now }
     ensures { result ≡ is_barred (map entry_in entries.now) (slots_in said.now) (option_map upper_key excluded.entry) }
@@ -131,7 +131,7 @@ fn is_barred(entries: &[Entry], said: &[Option<Said>], excluded: Option<Key<'sta
     }
 }
 
-/// Puts what a text says of a kind in a place, or tells what is wrong with it and leaves all as it is.
+/// Puts what a text says of a kind in a place, or returns what is wrong with it and leaves everything as it is.
 fn fill<'a>(
     said: &mut [Option<Said<'a>>],
     i: usize,
@@ -151,7 +151,7 @@ fn fill<'a>(
     }
 }
 
-/// Reads one operand into the place of its entry, or tells its fault and leaves all as it is.
+/// Reads one operand into the place of its entry, or returns its fault and leaves everything as it is.
 fn take<'a>(
     row: &OperandRow,
     operand: Option<Operand<'a>>,
@@ -176,7 +176,7 @@ fn take<'a>(
     }
 }
 
-/// Reads the operands of a text into the places of their entries, or tells the first fault.
+/// Reads the operands of a text into the places of their entries, or returns the first fault.
 fn take_all<'a>(
     row: &OperandRow,
     text: &'a [u8],
@@ -201,8 +201,8 @@ fn take_all<'a>(
     }
 }
 
-/// Reads the operands of a statement, each once, into the places of their entries, of which nothing was read before,
-/// and lends these places; or tells the first fault.
+/// Reads the operands of a statement, each once, into the places of their entries, into which nothing was read before,
+/// and lends these places; or returns the first fault.
 pub fn read<'s, 'a>(
     row: &OperandRow,
     text: Option<&'a [u8]>,
@@ -225,7 +225,7 @@ pub fn read<'s, 'a>(
     }
 }
 
-/// An operand field, where it isn't empty.
+/// An operand field, if it isn't empty.
 pub fn some_field(field: &[u8]) -> Option<&[u8]>
     ensures { operands_behind (option_copied result) ≡ operands field.now }
 {

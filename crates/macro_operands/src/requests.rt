@@ -19,7 +19,7 @@ use vsm_model::{Boundary, Family, Location};
 pub struct Form {
     /// Its family of completion codes.
     pub family: Family,
-    /// Whether want of storage is answered by return code 4 in place of an abend.
+    /// Whether a lack of storage gives return code 4 instead of an abend.
     pub conditional: bool,
 }
 
@@ -39,15 +39,15 @@ pub enum Subpools {
     Listed { address: Value },
 }
 
-/// What CPOOL BUILD makes (*Assembler Services Reference*, CPOOL): a cell pool of this name, with a header where there
-/// is one, of cells of `size` bytes, from a subpool and on such a side of the 16 MB line.
+/// What CPOOL BUILD makes (*Assembler Services Reference*, CPOOL): a cell pool of this name, with an optional header,
+/// of cells of `size` bytes, from a subpool and on this side of the 16 MB line.
 #[derive(Debug, PartialEq, Eq, Drop)]
 pub struct NewCellPool {
     pub name: Name,
     pub header: Option<Header>,
     /// The number of cells at first.
     pub primary: Value,
-    /// How many more come where a request finds none free: as many as at first where that's left out.
+    /// How many more are created when a request finds none free: as many as at first if this is left out.
     pub secondary: Option<Value>,
     pub size: Value,
     pub subpool: Value,
@@ -57,8 +57,8 @@ pub struct NewCellPool {
 /// A statement that changes storage, cell pools, tasks or bytes.
 #[derive(Debug, PartialEq, Eq, Drop)]
 pub enum Statement {
-    /// STORAGE OBTAIN and GETMAIN: so many bytes from a subpool, from such a boundary and on such a side of the 16 MB
-    /// line. The address is stored in `place`, where there is one.
+    /// STORAGE OBTAIN and GETMAIN: this many bytes from a subpool, from this boundary and on this side of the 16 MB
+    /// line. The address is stored in `place`, if there is one.
     Obtain {
         length: Length,
         subpool: Value,
@@ -67,22 +67,22 @@ pub enum Statement {
         location: Location,
         form: Form,
     },
-    /// STORAGE RELEASE and FREEMAIN: so many bytes at an address, back to a subpool.
+    /// STORAGE RELEASE and FREEMAIN: this many bytes at an address, back to a subpool.
     Release {
         length: Value,
         address: Value,
         subpool: Value,
         form: Form,
     },
-    /// STORAGE RELEASE and FREEMAIN with a subpool alone: all that it has.
+    /// STORAGE RELEASE and FREEMAIN with only a subpool: everything in it.
     Whole {
         subpool: Value,
         form: Form,
     },
-    /// CPOOL BUILD: a cell pool comes.
+    /// CPOOL BUILD: a cell pool is created.
     Build(NewCellPool),
-    /// CPOOL GET: a cell of a cell pool. Its address is stored in `place`, where there is one. Want of a free cell is
-    /// answered by return code 4 where the request is conditional.
+    /// CPOOL GET: a cell of a cell pool. Its address is stored in `place`, if there is one. If no cell is free, a
+    /// conditional request gets return code 4.
     GetCell {
         pool: Name,
         place: Option<Place>,
@@ -97,13 +97,13 @@ pub enum Statement {
     DeletePool {
         pool: Name,
     },
-    /// ATTACH: a new task, which is given subpools, and shares others, and subpool 0 where `shares_zero` says so.
+    /// ATTACH: a new task, which is given subpools and shares others, and shares subpool 0 if `shares_zero` says so.
     Attach {
         given: Subpools,
         shared: Subpools,
         shares_zero: bool,
     },
-    /// DETACH: a task ends, and all below it.
+    /// DETACH: a task and all below it end.
     Detach {
         task: Value,
     },
@@ -125,13 +125,13 @@ pub enum Statement {
 pub enum Request {
     /// A change of storage, cell pools, tasks or bytes.
     Act(Statement),
-    /// PEEK: so many bytes at an address are shown, 1 to 256.
+    /// PEEK: this many bytes at an address are shown, 1 to 256.
     Peek { addr: Value, len: u16 },
     /// MAP: the map of the storage is shown.
     Map,
-    /// BACK: so many statements are undone.
+    /// BACK: this many statements are undone.
     Back(u32),
-    /// FORWARD: so many undone statements stand again.
+    /// FORWARD: this many undone statements are in effect again.
     Forward(u32),
 }
 

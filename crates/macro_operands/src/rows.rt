@@ -19,7 +19,7 @@ pub enum Kind {
     Name,
     /// YES or NO.
     Condition,
-    /// COND or C, or UNCOND or U, as a word in a position. Any other word there is no operand of the statement.
+    /// COND or C, or UNCOND or U, as a word in a position. Any other word in it is no operand of the statement.
     ConditionWord,
     /// X'..' with the digits of 1 to 256 bytes, or A(..) with a value.
     Content,
@@ -35,7 +35,7 @@ pub enum Kind {
     Header,
     /// Any text that isn't empty.
     Any,
-    /// What other forms of the macro have and this one hasn't: it's no operand of the statement, whatever it says.
+    /// What other forms of the macro have and this one doesn't: it's no operand of the statement, whatever it says.
     OtherForm,
 }
 
@@ -48,25 +48,25 @@ pub enum Key<'a> {
     Keyword(&'a [u8]),
 }
 
-/// An operand that a row has.
+/// An operand in a row.
 #[derive(Clone, Copy)]
 pub struct Entry {
     pub key: Key<'static>,
     pub kind: Kind,
-    /// The key of an operand beside which it can't stand.
+    /// The key of an operand with which it can't appear.
     pub excluded: Option<Key<'static>>,
 }
 
-/// What stands behind an operation.
+/// What follows an operation.
 #[derive(Clone, Copy)]
 pub enum Behind {
-    /// Operands by a row, and remarks behind them.
+    /// Operands by a row, followed by remarks.
     Operands,
-    /// Remarks alone: the statement has no operand field, and no row.
+    /// Only remarks: the statement has no operand field, and no row.
     Remarks,
 }
 
-/// The operands of a statement behind its form.
+/// The operands of a statement after its form.
 #[derive(Clone, Copy)]
 pub struct OperandRow {
     pub entries: &'static [Entry],
@@ -74,8 +74,7 @@ pub struct OperandRow {
     pub left_out: &'static [&'static [u8]],
 }
 
-/// An operand with a keyword, in upper case; and the keyword of an operand beside which it can't stand, where there is
-/// one.
+/// An operand with a keyword, in upper case; and the keyword of an operand with which it can't appear, if there is one.
 #[macro_export]
 macro_rules! keyword {
     ($word:literal, $kind:ident) => {

@@ -42,7 +42,7 @@ pub enum Said<'a> {
 /// Nothing that was read.
 pub const NOTHING: Option<Said<'static>> = None;
 
-/// Whether a text is YES, and nothing where it's neither YES nor NO.
+/// Whether a text is YES, and nothing if it's neither YES nor NO.
 fn condition_of(text: &[u8]) -> Option<bool>
     ensures { result ≡ condition_of text.now }
 {
@@ -55,7 +55,7 @@ fn condition_of(text: &[u8]) -> Option<bool>
     }
 }
 
-/// Whether a text is the word of a conditional request, and nothing where it's no word of either kind.
+/// Whether a text is the word of a conditional request, and nothing if it's no word of either kind.
 fn condition_word_of(text: &[u8]) -> Option<bool>
     ensures { result ≡ condition_word_of text.now }
 {
@@ -138,7 +138,7 @@ fn register_length_said(text: &[u8]) -> Option<Said<'_>>
     }
 }
 
-/// What a text says as a value of this kind, where it's one that is supported.
+/// What a text says as a value of this kind, if it's a supported one.
 pub(crate) fn said_of(kind: Kind, text: &[u8]) -> Option<Said<'_>>
     ensures { option_map said_in result ≡ said_of kind text.now }
 {

@@ -1,4 +1,4 @@
--- Where a field stands behind one byte more, which leaves it as it was above a parenthesis.
+-- A field's nesting after one more byte; a byte above a parenthesis leaves it as it was.
 use Rattle.std.proofs.Common.{◌≡◌, ℕ, ◌+◌, ◌<◌, List, [], ◌∷◌, ◌++◌, length, take, get_or, refl, sym, ap, ◌∙◌}
 use Rattle.std.proofs.lemmas.List.{take_more}
 use Rattle.operand_texts.specs.declared.nesting.Nesting.{Nesting}

@@ -6,7 +6,7 @@ use Rattle.std.proofs.lemmas.List.Folds.{list_all-append}
 use Rattle.std.proofs.lemmas.Bool.{cases_lt}
 use Rattle.macro_reader.specs.Columns.{Line, used, is_blank, is_comment}
 
--- a line over so many blanks
+-- a line over this many blanks
 pub filled : (m : ℕ) (line : List ℕ)
     → take (min (length line) m) line ++ drop (min (length line) m) (replicate m 32) ≡ take m (line ++ replicate m 32)
 filled m line = elim (cases_lt m (length line)) [

@@ -27,7 +27,7 @@ pub unbroken_first : (n : Nesting) (o rest : List ℕ) → Goes n o outside → 
 unbroken_first n [] rest h k = rw h (refl, k)
 unbroken_first n (c ∷ cs) rest h k = (h.0, unbroken_first (past n c) cs rest h.3 k)
 
--- the part of a line that a text reaches the end of
+-- the part of a line that a text fills to the end
 unbroken_full : (n : Nesting) (r : ℕ) (t : List ℕ) → Unbroken n t → field_len n (take r t) ≡ length (take r t)
 unbroken_full n zero t h = refl
 unbroken_full n (suc r) [] h = refl
@@ -41,7 +41,7 @@ unbroken_drop n (suc r) (c ∷ cs) h = unbroken_drop (past n c) r cs h.1
 pub whole_part : (n : Nesting) (r : ℕ) (t : List ℕ) → Unbroken n t → take (field_len n (take r t)) (take r t) ≡ take r t
 whole_part n r t h = ap (λ m. take m (take r t)) (unbroken_full n r t h) ∙ take_all (length (take r t)) (take r t) (omega arith)
 
--- the part of a line that has blanks behind a text
+-- the part of a line in which blanks follow a text
 pub field_stops : (n : Nesting) (r k : ℕ) (t : List ℕ) → Unbroken n t → length t ≤ r
     → take (field_len n (take r (t ++ replicate k 32))) (take r (t ++ replicate k 32)) ≡ t
 field_stops n zero k [] h few = refl
@@ -94,7 +94,7 @@ goes_on_with : (j : Joined) (c : ℕ) (cs : List ℕ) → j.goes_on ≡ true →
     → with_line j (margin ++ c ∷ cs) ≡ Some (with_part j.text j.at (c ∷ cs))
 goes_on_with j c cs g h = rw (g, no_end j.at.quoted (c == 32) h) refl
 
--- continuation lines with a text, at most so many of them
+-- continuation lines with a text, at most this many of them
 pub record Laid (j : Joined) (t : List ℕ) (most : ℕ) : Type 0 where
   pub lines : List Line
   pub few : length lines ≤ most
@@ -157,7 +157,7 @@ laid (suc most) j (c ∷ cs) g h some few = elim (cases_lt 56 (length (c ∷ cs)
   | inr short ↦ laid_last most j c cs g h short
 ]
 
--- what stands in front of the operands on a first line
+-- what precedes the operands on a first line
 abbrev pub front_of : Operation → List ℕ
 front_of operation.Storage = 32 ∷ (codes "STORAGE" ++ 32 ∷ [])
 front_of operation.Getmain = 32 ∷ (codes "GETMAIN" ++ 32 ∷ [])

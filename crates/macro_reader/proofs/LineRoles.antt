@@ -1,4 +1,4 @@
--- What each line is, by the parts of a script: as Readings.antt goes over its answers.
+-- What each line is, by the parts of a script, the way Readings.antt goes through its answers.
 use Rattle.std.proofs.Common.{◌≡◌, ℕ, ◌+◌, ◌≤◌, ◌⊎◌, ◌&&◌, ◌||◌, ◌==◌, map, Bool, true, false, List, [], ◌∷◌, ◌++◌, length, Option, Some, None, is_none, refl, ap, sym, ◌∙◌, append_assoc, arith, inl, inr, add-zero, zero-add}
 use Rattle.std.specs.List.{flat_map, AllByRecursion}
 use Rattle.std.proofs.lemmas.Bool.{eq-eqb}
@@ -40,7 +40,7 @@ feeds_append before m mid new (x ∷ xs) ys said more h k =
     (let same : before + length (x ∷ xs) ≡ before + 1 + length xs = omega arith in rw same at k) in
     record { mode = rest.mode; told = ap (λ w. role m x ∷ w) rest.told ∙ ap (λ w. w ++ more) h.told }
 
--- the field with one line, and those behind it
+-- the field with one line, and those after it
 joins_one : (r : Option Joined) (cards : List (List ℕ)) (k : Joined) → elim r [ None ↦ None | Some m ↦ with_lines m cards ] ≡ Some k
     → (m : Joined) × (r ≡ Some m) × (with_lines m cards ≡ Some k)
 joins_one None cards k h = cc
@@ -53,7 +53,7 @@ and_no : (b : Bool) → (b && false) ≡ false
 and_no true = refl
 and_no false = refl
 
--- a good line that is continued, and one that isn't
+-- an accepted line that is continued, and one that isn't
 goes_on : (r : Option Joined) (c ninth : Bool) (k : Joined) → r ≡ Some k → ninth ≡ false → further_role (is_none r || (ninth && c)) ≡ further
 goes_on r c ninth k e f = ap (λ (x : Option Joined). further_role (is_none x || (ninth && c))) e ∙ ap (λ (b : Bool). further_role (b && c)) f
 

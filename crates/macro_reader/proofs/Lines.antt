@@ -1,4 +1,4 @@
--- One line more: what a reader was fed, and what it answered.
+-- One more line: what a reader was fed, and what it answered.
 use Rattle.std.proofs.Common.{◌≡◌, ◌≢◌, ℕ, ◌+◌, ◌-◌, ◌^◌, ◌≤◌, ◌==◌, min, map, Bool, true, false, List, [], ◌∷◌, ◌++◌, length, Option, Some, None, Result, Err, refl, ap, sym, ◌∙◌, append_assoc, arith, inl, inr, add_assoc, zero-add, add-zero, eqb-true}
 use Rattle.std.proofs.lemmas.Bool.{eqb-false}
 use Rattle.std.specs.List.{flat_map, AllByRecursion}
@@ -25,7 +25,7 @@ told_push before (q ∷ ps) p =
     (add_assoc before (length (lines_of q)) (length (flat_map lines_of ps))
     ∙ ap (λ x. before + x) (sym (length-append (lines_of q) (flat_map lines_of ps))))
 
--- one part more behind whole parts
+-- one more part after whole parts
 parts_push : (answers : List Answer) (ps : List Part) (p : Part) (lines : List Line) (said : List Answer)
     → Reads (flat_map lines_of ps) answers ps → IsPart p → lines ≡ flat_map lines_of ps ++ lines_of p
     → said ≡ answer_to (length (flat_map lines_of ps)) p → Reads lines (answers ++ said) (ps ++ p ∷ [])
@@ -65,7 +65,7 @@ dropping_end : (line : Line) (ds : List Line) (d : Line) → IsDropping line ds 
 dropping_end line [] d h k = (h, k)
 dropping_end line (x ∷ ds) d h k = (h.0, dropping_end x ds d h.1 k)
 
--- a line where a statement is awaited
+-- a line when a statement is awaited
 idle_keeps : (s c : Bool) (lines : List Line) (answers : List Answer) (line : Line) (number : ℕ) → is_skipped line ≡ s → is_continued line ≡ c
     → number ≡ number_behind (length lines) → Between awaiting lines answers
     → Between (idle_with s c number line).0 (lines ++ line ∷ []) (answers ++ (idle_with s c number line).1)
@@ -92,7 +92,7 @@ idle_keeps false true lines answers line number e k n h = record {
   few = omega arith;
 }
 
--- a line behind a broken statement
+-- a line after a broken statement
 drop_keeps : (c : Bool) (lines : List Line) (answers : List Answer) (line : Line) → is_continued line ≡ c → Drops lines answers
     → Between (behind_break c) (lines ++ line ∷ []) (answers ++ [])
 drop_keeps true lines answers line k h = record {
@@ -123,7 +123,7 @@ drop_keeps false lines answers line k h =
           refl),
     )
 
--- a line where a statement is open
+-- a line when a statement is open
 module _ (lines : List Line) (answers : List Answer) (line : Line) (n : ℕ) (card : List ℕ) (j : Joined) (count : ℕ)
     (h : Gathers lines answers n card j count) where
   placed : lines ++ line ∷ [] ≡ flat_map lines_of h.parts ++ h.first ∷ (h.before ++ line ∷ [])
@@ -158,7 +158,7 @@ module _ (lines : List Line) (answers : List Answer) (line : Line) (n : ℕ) (ca
         (h.begins, h.continued, (j, h.joins, b), k, omega (arith, h.counted, h.few)) placed (said_number (Err kind.Continuation)),
   )
 
-  -- the statement goes on
+  -- the statement continues
   more_keeps : (k : Joined) → with_line j (used line) ≡ Some k → is_continued line ≡ true → (count == 8) ≡ false
       → Between (gathering n card k (count + 1)) (lines ++ line ∷ []) (answers ++ [])
   more_keeps k e c ninth = record {
@@ -205,7 +205,7 @@ moved_keeps dropping lines answers line number n h = drop_keeps (is_continued li
 moved_keeps (gathering k card j count) lines answers line number n h =
     gathered_keeps lines answers line k card j count h (with_line j (used line)) (is_continued line) (count == 8) refl refl refl
 
--- one line more
+-- one more line
 pub behind_push : (lines : List Line) (answers : List Answer) (s : Kept) (line : Line) (n : ℕ) (m new : Mode) (said : List Answer)
     → IsBehind lines answers s → n ≡ min (s.count + 1) (2 ^ 32 - 1) → m ≡ s.mode → new ≡ (moved n m line).0 → said ≡ (moved n m line).1
     → IsBehind (lines ++ line ∷ []) (answers ++ said) (record { count = n; mode = new })

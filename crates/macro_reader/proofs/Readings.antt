@@ -1,5 +1,5 @@
--- A list of lines has one list of answers: each reading gives what the lines give when they move a reader one after another. And it
--- has one, since a reader can be moved by each of them.
+-- A list of lines has one list of answers: each reading gives what the lines give when they move a reader one after
+-- another. And it has one, since a reader can be moved by each of them.
 use Rattle.std.proofs.Common.{◌≡◌, ℕ, ◌+◌, ◌-◌, ◌^◌, ◌≤◌, ◌⊎◌, ◌==◌, min, map, Bool, true, false, List, [], ◌∷◌, ◌++◌, length, Option, Some, None, Err, refl, ap, sym, ◌∙◌, append_assoc, arith, inl, inr, add-zero, zero-add}
 use Rattle.std.specs.List.{flat_map, AllByRecursion}
 use Rattle.std.proofs.lemmas.List.{append-nil}
@@ -47,7 +47,7 @@ feeds_append before m mid new (x ∷ xs) ys said more h k =
     (let same : before + length (x ∷ xs) ≡ before + 1 + length xs = omega arith in rw same at k) in
     record { mode = rest.mode; told = ap (λ w. r.1 ++ w) rest.told ∙ sym (append_assoc r.1 (said_after (before + 1) r.0 xs) more) ∙ ap (λ w. w ++ more) h.told }
 
--- the field with one line, and those behind it
+-- the field with one line, and those after it
 joins_one : (r : Option Joined) (cards : List (List ℕ)) (k : Joined) → elim r [ None ↦ None | Some m ↦ with_lines m cards ] ≡ Some k
     → (m : Joined) × (r ≡ Some m) × (with_lines m cards ≡ Some k)
 joins_one None cards k h = cc
@@ -115,7 +115,7 @@ starts : (before : ℕ) (line : Line) → is_skipped line ≡ false → is_conti
 starts before line e c =
     ap (λ s. idle_with s (is_continued line) (number_behind before) line) e ∙ ap (λ b. idle_with false b (number_behind before) line) c
 
--- the break, and the lines dropped behind it
+-- the break, and the lines dropped after it
 breaks_on : (before n : ℕ) (card : List ℕ) (j : Joined) (count : ℕ) (at : Line) (new : Mode) (dropped : List Line)
     → (with_line j (used at) ≡ None) ⊎ ((count ≡ 8) × (is_continued at ≡ true)) → Feeds (before + 1) (behind_break (is_continued at)) dropped new []
     → Feeds before (gathering n card j count) (at ∷ dropped) new (fault_of n)
@@ -204,7 +204,7 @@ all_moved lines (l ∷ ls) answers s h =
     let rest = all_moved (lines ++ l ∷ []) ls (answers ++ (moved n s.mode l).1) _ one in
     (rest.0, rest.1, rw (← append_assoc lines (l ∷ []) ls) rest.2)
 
--- a script may end wherever the reader stands
+-- a script may end in any state of the reader
 ended : (m : Mode) (lines : List Line) (answers : List Answer) → Between m lines answers → Answers lines (answers ++ at_end m)
 ended awaiting lines answers h = rw append-nil (inl h)
 ended dropping lines answers h = rw append-nil (inr (inl h))

@@ -1,4 +1,4 @@
--- Lines that a field is written on, behind each operation, and what the grammar answers to them.
+-- Lines that a field is written on, after each operation, and what the grammar answers to them.
 use Rattle.std.proofs.Common.{◌≡◌, ℕ, ◌+◌, ◌-◌, ◌<◌, ◌≤◌, ◌==◌, true, false, ◌&&◌, ◌||◌, List, [], ◌∷◌, ◌++◌, length, map, take, drop, replicate, codes, Some, Ok, if◌then◌else◌, arith, refl, ap, sym, ◌∙◌, inl, inr, append-nil}
 use Rattle.std.proofs.lemmas.Bool.{cases_lt}
 use Rattle.std.proofs.lemmas.Bool.Decides.{nat_tests}
@@ -187,7 +187,7 @@ pub written_on : (o : Operation) (t : List ℕ) (asked : Asked) → behind_of (S
     → length t ≤ room o + 504 → (lines : List Line) × (length lines ≤ 10) × Answers lines (record { line = 1; what = Ok asked } ∷ [])
 written_on o t asked has e h some few = answered o t asked e (on o t has h some few)
 
--- a line with an operation that has remarks alone
+-- a line with an operation that has only remarks
 bare_line : (o : Operation) (first : Line) → is_skipped first ≡ false → ((text : List ℕ) → statement_with (used first) text ≡ of_operation (Some o) text)
     → is_continued first ≡ false → begun (used first) ≡ no_field → On o []
 bare_line o first begins says ends none = record {

@@ -10,12 +10,12 @@ Line = List ℕ
 abbrev pub used : Line → List ℕ
 used line = take 71 (line ++ replicate 71 32)
 
--- A line says that the next one continues it where its column 72 isn't blank (High Level Assembler Language Reference,
+-- A line says that the next one continues it if its column 72 isn't blank (High Level Assembler Language Reference,
 -- "Continuation lines").
 abbrev pub is_continued : Line → Bool
 is_continued line = not (slice_index_or line 71 32 == 32)
 
--- Columns that hold nothing but blanks, which are X'20' alone.
+-- Columns that hold nothing but blanks, which are only X'20'.
 abbrev pub is_blank : List ℕ → Bool
 is_blank card = list_all (λ c. c == 32) card
 

@@ -7,13 +7,13 @@ use Rattle.macro_reader.specs.Columns.{is_blank}
 use Rattle.operand_texts.specs.Field.{outside, past, field_len}
 use Rattle.macro_statements.specs.Statements.{is_misplaced, from_operands}
 
--- The field so far, where its next byte stands, and whether it goes on at column 16 of the next line.
+-- The field so far, where its next byte is, and whether it continues at column 16 of the next line.
 pub record Joined : Type 0 where
   pub text : List ℕ
   pub at : Nesting
   pub goes_on : Bool
 
--- Where the byte behind a text stands.
+-- Where the byte after a text is.
 abbrev pub nesting_after : Nesting → List ℕ → Nesting
 nesting_after n [] = n
 nesting_after n (c ∷ cs) = nesting_after (past n c) cs
@@ -22,8 +22,8 @@ nesting_after n (c ∷ cs) = nesting_after (past n c) cs
 abbrev pub ends_with_comma : List ℕ → Bool
 ends_with_comma text = slice_index text (length text - 1) == 44
 
--- A line has the field's bytes up to a blank outside apostrophes. The field goes on behind the line where it reaches
--- column 71, or where a comma stands in front of that blank.
+-- A line has the field's bytes up to a blank outside apostrophes. The field continues after the line if it reaches
+-- column 71, or if a comma precedes that blank.
 abbrev pub with_part : List ℕ → Nesting → List ℕ → Joined
 with_part text n part = record {
   text = text ++ take (field_len n part) part;
@@ -35,16 +35,16 @@ with_part text n part = record {
 abbrev pub no_field : Joined
 no_field = record { text = []; at = outside; goes_on = false }
 
--- The field's part on a first line, columns 1 to 71 of it. There is none where nothing follows the operation, or where
--- column 1 isn't blank and has no name, so that nothing tells where a field would begin.
+-- The field's part on a first line, columns 1 to 71 of it. There is none if nothing follows the operation, or if column
+-- 1 isn't blank and has no name, so that nothing says where a field would begin.
 abbrev pub begun : List ℕ → Joined
 begun card =
     if is_misplaced card || (length (from_operands card) == 0) then no_field
     else with_part [] outside (from_operands card)
 
--- The field with one continuation line more, columns 1 to 71 of it. Columns 1 to 15 of the line are blank. A field that
--- goes on does so in column 16: a blank there, outside apostrophes, ends it, but not behind a comma. Nothing where one
--- of these rules is broken.
+-- The field with another continuation line, columns 1 to 71 of it. Columns 1 to 15 of the line are blank. A field that
+-- continues does so in column 16: a blank there, outside apostrophes, ends it, except after a comma. Nothing if one of
+-- these rules is broken.
 abbrev pub with_line : Joined → List ℕ → Option Joined
 with_line j card =
     if not (is_blank (take 15 card)) then None

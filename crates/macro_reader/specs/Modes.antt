@@ -1,4 +1,4 @@
--- Where the code's reader stands, as the grammar sees it.
+-- The state of the code's reader, as the grammar sees it.
 use Rattle.std.specs.Prelude.{ℕ, List, [], ◌∷◌, Err}
 use Rattle.macro_reader.specs.Continuation.{Joined}
 use Rattle.macro_reader.specs.Scripts as grammar
@@ -16,7 +16,7 @@ use Rattle.macro_reader.specs.declared.modes.Mode.TheVariants.{Awaiting, Droppin
 abbrev pub joined : OpenField → Joined
 joined g = record { text = g.text.items; at = g.at; goes_on = g.goes_on }
 
--- The grammar's word for where a reader stands that has this statement, which is open or was the last one.
+-- The grammar's state for a reader that has this statement, which is open or was the last one.
 abbrev pub mode_of : Mode → OpenStatement → grammar.Mode
 mode_of Awaiting o = grammar.awaiting
 mode_of Dropping o = grammar.dropping

@@ -1,10 +1,10 @@
--- What a line brings where its request is put into a room that the reader is lent.
+-- What a line brings if its request is put into a room that the reader is lent.
 use Rattle.std.specs.Prelude.{ℕ, List, [], ◌∷◌, Option, Some, None, Result, Ok, Err, ⊤}
 use Rattle.macro_statements.specs.Requests.{Asked, IsValidAsked}
 use Rattle.macro_reader.specs.Scripts.{Answer}
 use Rattle.macro_reader.specs.declared.reading.Fault.{Fault}
 
--- What a line made a reader answer: the request in the room, where the line ends a statement whose first line has this
+-- What a line made a reader answer: the request in the room, if the line ends a statement whose first line has this
 -- number.
 abbrev pub told_with : Result (Option ℕ) Fault → Asked → List Answer
 told_with (Ok None) asked = []

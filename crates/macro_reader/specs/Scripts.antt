@@ -18,7 +18,7 @@ pub record Answer : Type 0 where
   pub what : Result Asked FaultKind
 
 -- A comment or empty line; a statement with its continuation lines; a statement with those continuation lines that are
--- good, the one that breaks a rule of continuation, and the lines that are dropped behind it.
+-- accepted, the one that breaks a rule of continuation, and the lines that are dropped after it.
 pub data Part : Type 0 where
   skipped : Line → Part
   whole : Line → List Line → Part
@@ -28,23 +28,23 @@ pub data Part : Type 0 where
 abbrev pub AllContinued : List Line → Type 0
 AllContinued lines = AllByRecursion (λ l. is_continued l ≡ true) lines
 
--- Each line of a statement is continued but the last.
+-- Each line of a statement except the last is continued.
 abbrev pub IsGroup : Line → List Line → Type 0
 IsGroup line [] = is_continued line ≡ false
 IsGroup line (next ∷ lines) = (is_continued line ≡ true) × IsGroup next lines
 
--- Behind a line that is continued come dropped lines, each of them continued but the last.
+-- Dropped lines follow a continued line, each of them except the last continued.
 abbrev pub EndsDropping : Line → List Line → Type 0
 EndsDropping line [] = is_continued line ≡ false
 EndsDropping line (next ∷ lines) = (is_continued line ≡ true) × EndsDropping next lines
 
--- The same, where the last is continued too.
+-- The same, if the last is continued too.
 abbrev pub IsDropping : Line → List Line → Type 0
 IsDropping line [] = is_continued line ≡ true
 IsDropping line (next ∷ lines) = (is_continued line ≡ true) × IsDropping next lines
 
--- A rule of continuation is broken at a line behind a first line and these continuation lines, which have this field: a
--- rule of columns, or the line would be followed by a tenth continuation line.
+-- A rule of continuation is broken at a line after a first line and these continuation lines, which have this field: a
+-- rule of columns, or a tenth continuation line would follow the line.
 abbrev pub IsBreak : Joined → List Line → Line → Type 0
 IsBreak j before line = (with_line j (used line) ≡ None) ⊎ ((length before ≡ 8) × (is_continued line ≡ true))
 
@@ -75,7 +75,7 @@ said_by card (Some j) = statement_with card j.text
 abbrev pub number_behind : ℕ → ℕ
 number_behind before = min (before + 1) (2 ^ 32 - 1)
 
--- The answer to a part behind so many lines.
+-- The answer to a part after this many lines.
 abbrev pub answer_to : ℕ → Part → List Answer
 answer_to before (skipped line) = []
 answer_to before (whole line lines) =
@@ -84,7 +84,7 @@ answer_to before (whole line lines) =
 answer_to before (broken line lines at dropped) =
     record { line = number_behind before; what = Err kind.Continuation } ∷ []
 
--- The answers to parts behind so many lines.
+-- The answers to parts after this many lines.
 abbrev pub answers_behind : ℕ → List Part → List Answer
 answers_behind before [] = []
 answers_behind before (part ∷ parts) = answer_to before part ++ answers_behind (before + length (lines_of part)) parts
@@ -95,7 +95,7 @@ pub record Reads (lines : List Line) (answers : List Answer) (parts : List Part)
   pub split : lines ≡ flat_map lines_of parts
   pub told : answers ≡ answers_behind 0 parts
 
--- The lines are whole parts, and then a statement that is open: its lines so far are good, and each is continued.
+-- The lines are whole parts, and then a statement that is open: its lines so far are accepted, and each is continued.
 pub record Gathers (lines : List Line) (answers : List Answer) (number : ℕ) (card : List ℕ) (j : Joined) (count : ℕ)
     : Type 0 where
   pub parts : List Part
@@ -141,26 +141,26 @@ pub record Opens (lines : List Line) (answers : List Answer) : Type 0 where
   pub gathers : Gathers lines whole_answers number card joined count
   pub told : answers ≡ whole_answers ++ record { line = number; what = Err kind.Continuation } ∷ []
 
--- The answers to the lines of a script that has ended: whole parts; a broken statement at the end besides; or one that
--- is still open.
+-- The answers to the lines of a script that has ended: whole parts; or those and a broken statement at the end, or one
+-- that is still open.
 abbrev pub Answers : List Line → List Answer → Type 0
 Answers lines answers = ((parts : List Part) × Reads lines answers parts) ⊎ (Drops lines answers ⊎ Opens lines answers)
 
--- Where a reader stands between two lines: it awaits a statement, or drops the lines behind a broken one, or has an
--- open statement, of which it keeps the number and the columns of the first line, the field, and the count of the
+-- The state of a reader between two lines: it awaits a statement, or drops the lines after a broken one, or has an open
+-- statement, of which it keeps the number and the columns of the first line, the field, and the count of the
 -- continuation lines.
 pub data Mode : Type 0 where
   awaiting : Mode
   dropping : Mode
   gathering : ℕ → List ℕ → Joined → ℕ → Mode
 
--- The answers to the lines so far of a script, for a reader that stands so.
+-- The answers to the lines so far of a script, for a reader in this state.
 abbrev pub Between : Mode → List Line → List Answer → Type 0
 Between awaiting lines answers = (parts : List Part) × Reads lines answers parts
 Between dropping lines answers = Drops lines answers
 Between (gathering number card j count) lines answers = Gathers lines answers number card j count
 
--- What a reader keeps of the lines so far: their count, and where it stands.
+-- What a reader keeps of the lines so far: their count, and its state.
 pub record Kept : Type 0 where
   pub count : ℕ
   pub mode : Mode
@@ -187,7 +187,7 @@ IsValidFed (Ok fed.More) = ⊤
 IsValidFed (Ok (fed.Ready request line)) = IsValidAsked (asked_in request)
 IsValidFed (Err fault) = ⊤
 
--- How a reader stands behind a line that it drops or breaks off at, by whether that line is continued.
+-- The state of a reader after a line that it drops or breaks off at, by whether that line is continued.
 abbrev pub behind_break : Bool → Mode
 behind_break true = dropping
 behind_break false = awaiting

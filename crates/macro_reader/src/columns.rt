@@ -34,21 +34,21 @@ pub(crate) fn is_blank(card: &[u8]) -> bool
     card.iter().all(|byte| *byte == b' ')
 }
 
-/// Whether an asterisk stands in column 1.
+/// Whether column 1 has an asterisk.
 pub(crate) fn is_comment(card: &[u8]) -> bool
     ensures { result ≡ is_comment card.now }
 {
     !card.is_empty() && card[0] == b'*'
 }
 
-/// What a line has in columns 1 to 71.
+/// Columns 1 to 71 of a line.
 fn front(line: &[u8]) -> &[u8]
     ensures { result.now ≡ take (min (length line.now) 71) line.now }
 {
     &line[..line.len().min(71)]
 }
 
-/// Whether a line, columns 1 to 71 of it, is a comment or empty. The blanks that fill it need no look.
+/// Whether a line, columns 1 to 71 of it, is a comment or empty. The blanks that fill it aren't read.
 #[tactic(auto, using(crate::proofs::Blanks::blank_as_filled, crate::proofs::Blanks::comment_as_filled))]
 pub(crate) fn is_skipped(line: &[u8]) -> bool
     ensures { result ≡ is_skipped line.now }

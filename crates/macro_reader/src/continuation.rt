@@ -15,8 +15,8 @@ use arrayvec::ArrayVec;
 use macro_statements::{Head, head_of};
 use operand_texts::nesting::Nesting;
 
-/// How many bytes of a text whose first byte stands so belong to the field, those up to the first blank outside
-/// apostrophes or all, and where the byte behind them stands. No byte above a parenthesis changes that.
+/// How many bytes of a text, whose first byte has this nesting, belong to the field, those up to the first blank
+/// outside apostrophes or all, and the nesting of the byte after them. No byte above a parenthesis changes that.
 fn field_part(start: Nesting, text: &[u8]) -> (usize, Nesting)
     requires { start.depth + length text.now < 2 ^ 64 }
     ensures len { result.0 ≡ field_len start text.now }
@@ -70,7 +70,7 @@ fn is_indented(card: &[u8]) -> bool
 
 impl OpenField {
     /// Takes the field's part on a first line, columns 1 to 71 of it, in place of what was gathered, and says what
-    /// stands in front of it.
+    /// precedes it.
     pub(crate) fn begin(&mut self, card: &[u8]) -> Head
         requires { length card.now ≡ 71 }
         ensures head { IsHead result card.now }
@@ -88,7 +88,7 @@ impl OpenField {
         head
     }
 
-    /// Takes what a line has of the field.
+    /// Takes the field's part of a line.
     fn take_part(&mut self, part: &[u8])
         requires room { array_vec_len self.old.text + length part.now ≤ 71 + 56 * self.old.lines }
         requires deep { self.old.at.depth + length part.now ≤ 71 + 56 * self.old.lines }
@@ -101,8 +101,8 @@ impl OpenField {
         self.goes_on = n == part.len() || ends_with_comma(self.text.as_slice());
     }
 
-    /// Takes one continuation line more, columns 1 to 71 of it, and says whether it is good. Where a rule of
-    /// continuation is broken, the field is of no use any more.
+    /// Takes one more continuation line, columns 1 to 71 of it, and says whether it is accepted. If a rule of
+    /// continuation is broken, the field can no longer be used.
     pub(crate) fn take_line(&mut self, card: &[u8]) -> bool
         requires size { length card.now ≡ 71 }
         requires fewer { self.old.lines ≤ 8 }

@@ -23,8 +23,8 @@ pub fn valid_requests_are_read()
         → (lines : List Line) × (length lines ≤ 10) × Answers lines (record { line = 1; what = Ok asked } ∷ []) }
 {}
 
-/// What each line of a script is to a reader, whether it begins a statement, goes on with one, breaks it off or is
-/// dropped, is what the parts of the script say; also where it ends in a broken statement, or in one that is open.
+/// What each line of a script is to a reader, whether it begins a statement, continues one, breaks it off or is
+/// dropped, is what the parts of the script say; also if it ends in a broken statement, or in one that is open.
 pub fn lines_have_roles()
     ensures whole { RolesAreOfParts }
     ensures broken { RolesAreOfBroken }

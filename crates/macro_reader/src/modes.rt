@@ -1,4 +1,4 @@
-//! Where a reader stands between two lines.
+//! The state of a reader between two lines.
 
 ghost use Rattle.std.specs.Prelude.{◌+◌, ◌*◌, ◌≤◌};
 ghost use Rattle.arrayvec.specs.ArrayVec.{array_vec_len};
@@ -8,7 +8,7 @@ use arrayvec::ArrayVec;
 use macro_statements::Head;
 use operand_texts::nesting::Nesting;
 
-/// The bytes of a field that a first line and nine continuation lines have at most: 71 and 9 times 56.
+/// The most bytes of a field that a first line and nine continuation lines hold: 71 and 9 times 56.
 pub const FIELD_BYTES: usize = 575;
 
 /// The operand field of an open statement.
@@ -16,9 +16,9 @@ pub const FIELD_BYTES: usize = 575;
 pub struct OpenField {
     /// The field so far.
     pub text: ArrayVec<u8, FIELD_BYTES>,
-    /// Where its next byte stands.
+    /// Where its next byte is.
     pub at: Nesting,
-    /// Whether it goes on at column 16 of the next line.
+    /// Whether it continues at column 16 of the next line.
     pub goes_on: bool,
     /// The continuation lines so far.
     pub lines: u8,
@@ -27,14 +27,14 @@ pub struct OpenField {
     ghost few: { lines ≤ 9 },
 }
 
-/// The statement that is open, or was the last one that was. What it holds of lines stays where it is, and is lent.
+/// The statement that is open, or was the last open one. What it holds of lines stays in place, and is lent.
 #[derive(Drop)]
 pub struct OpenStatement {
     /// The number of its first line.
     pub number: u32,
-    /// Columns 1 to 71 of its first line, or of a line behind it that was skipped.
+    /// Columns 1 to 71 of its first line, or of a line after it that was skipped.
     pub first: [u8; 71],
-    /// What that line says in front of its operand field.
+    /// What that line says before its operand field.
     pub head: Head,
     pub gathered: OpenField,
     ghost is_head: { IsHead head first },
@@ -65,18 +65,18 @@ impl OpenStatement {
 pub enum Due {
     /// None.
     Nothing,
-    /// What the statement asks for, which the line ends.
+    /// What the statement that the line ends asks for.
     Whole,
-    /// The fault of the statement, of which the line breaks a rule of continuation.
+    /// The fault of the statement: the line breaks a rule of continuation.
     Broken,
 }
 
-/// Where a reader stands between two lines.
+/// The state of a reader between two lines.
 #[derive(Clone, Copy)]
 pub enum Mode {
     /// It awaits a statement.
     Awaiting,
-    /// It drops the lines behind a statement that is broken.
+    /// It drops the lines after a statement that is broken.
     Dropping,
     /// Its statement is open.
     Gathering,

@@ -35,8 +35,8 @@ pub enum Fed {
     Ready(Request, u32),
 }
 
-/// A reader of statements. It keeps the count of the lines, which stays at 4,294,967,295 once it is there, and
-/// where it stands, with what it has of an open statement.
+/// A reader of statements. It keeps the count of the lines, which stays at 4,294,967,295 once it reaches that, and its
+/// state, with what it has of an open statement.
 #[derive(Drop)]
 pub struct Reader {
     count: u32,
@@ -54,12 +54,12 @@ impl Model for Reader {
     ghost view = { λ r. record { count = r.count; mode = mode_of r.mode r.statement } };
 }
 
-/// Where a reader stands between two lines.
+/// The state of a reader between two lines.
 #[derive(Clone, Copy, Debug, PartialEq, Eq)]
 pub enum ReaderState {
     /// It awaits a statement.
     Awaiting,
-    /// It drops the lines behind a statement that is broken.
+    /// It drops the lines after a statement that is broken.
     Dropping,
     /// Its statement is open.
     Gathering,
@@ -85,7 +85,7 @@ fn start(number: u32, mode: &mut Mode, statement: &mut OpenStatement, line: &[u8
     Due::Whole
 }
 
-/// How a reader stands behind a line that breaks a rule of continuation or is dropped, whatever statement it has.
+/// The state of a reader after a line that breaks a rule of continuation or is dropped, whatever statement it has.
 fn behind_break(line: &[u8]) -> Mode
     ensures mode { (s : OpenStatement) → mode_of result s ≡ behind_break (is_continued line.now) }
     ensures few { most_lines result ≡ 9 }
@@ -149,7 +149,7 @@ impl Reader {
         }
     }
 
-    /// Where the reader stands: what the next line is to it, by whether that is skipped, or breaks a rule.
+    /// The state of the reader: what the next line is to it, by whether that is skipped, or breaks a rule.
     pub fn stand(&self) -> ReaderState
         ensures { IsStand self.now.mode result }
     {
@@ -162,14 +162,14 @@ impl Reader {
 
     /// Takes the next line of a script, without its line feed. Columns 73 on aren't read.
     ///
-    /// Puts a request into a room where the line ends a statement that asks for one, and answers the number of the
-    /// statement's first line then, from 1; nothing where no answer is due; and the first fault of a statement that is
-    /// wrong. A line whose column 72 isn't blank is continued by the next line,
-    /// which is used from column 16 on; a statement has at most nine continuation lines. Where a rule of continuation
-    /// is broken the fault is `Continuation`, whatever else is wrong with the statement, and it comes at the line that
-    /// breaks the rule; the lines behind that are dropped as long as the line before has a column 72 that isn't blank.
-    /// Each other fault comes at the statement's last line. After a fault the reader awaits the next statement. (High
-    /// Level Assembler Language Reference, "Assembler language coding conventions".)
+    /// If the line ends a statement that asks for a request, puts that into a room and returns the number of the
+    /// statement's first line, from 1. Returns nothing if no answer is due, and the first fault of a statement that is
+    /// wrong. A line whose column 72 isn't blank is continued by the next line, which is used from column 16 on; a
+    /// statement has at most nine continuation lines. If a rule of continuation is broken the fault is `Continuation`,
+    /// whatever else is wrong with the statement, and it occurs at the line that breaks the rule; the lines after that
+    /// are dropped as long as the line before has a column 72 that isn't blank. Each other fault occurs at the
+    /// statement's last line. After a fault the reader awaits the next statement. (High Level Assembler Language
+    /// Reference, "Assembler language coding conventions".)
     pub fn next_into(&mut self, line: &[u8], request: &mut Request) -> Result<Option<u32>, Fault>
         ensures answers { (lines : List Line) (answers : List Answer) → IsBehind lines answers self.old
             → IsBehind (lines ++ line.now ∷ []) (answers ++ told_with result (asked_in request.new)) self.new }
@@ -195,7 +195,7 @@ impl Reader {
         Err(Fault { kind, line })
     }
 
-    /// Takes the next line in the same way, and answers the request itself, or `More` where no answer is due.
+    /// Takes the next line in the same way, and returns the request itself, or `More` if no answer is due.
     pub fn next(&mut self, line: &[u8]) -> Result<Fed, Fault>
         ensures answers { (lines : List Line) (answers : List Answer) → IsBehind lines answers self.old
             → IsBehind (lines ++ line.now ∷ []) (answers ++ told_by result) self.new }
@@ -209,7 +209,7 @@ impl Reader {
         }
     }
 
-    /// Ends the script. The reader then is as new, but that the count of its lines goes on.
+    /// Ends the script. The reader is then as new, except that the count of its lines continues.
     ///
     /// A statement that is still open has the fault `Continuation`.
     pub fn finish(&mut self) -> Result<(), Fault>

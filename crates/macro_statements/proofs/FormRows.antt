@@ -1,4 +1,4 @@
--- The rows of a macro's forms are of the shape that its slots have.
+-- The rows of a macro's forms have the shape of its slots.
 use Rattle.std.proofs.Common.{◌≡◌, ℕ, ◌==◌, ◌&&◌, Bool, true, false, List, [], ◌∷◌, length, Some, None, if◌then◌else◌, refl, sym, ap, ◌∙◌, eqb-true}
 use Rattle.std.specs.List.{list_all}
 use Rattle.operand_texts.specs.Words.{is_word}

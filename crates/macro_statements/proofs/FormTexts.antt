@@ -106,7 +106,7 @@ length_spelled (between a b) h =
       is = ap (λ x. either_length None x) t.spells;
     }
 
--- places, and names alone
+-- places, and plain names
 pub record SpelledPlace (k : Kind) (p : Option Target) : Type 0 where
   pub said : Option Said
   pub spelled : Spelled 63 k said

@@ -69,7 +69,7 @@ number_spelled : (v : Option Written) → IfSome v IsValue → SpelledNumber v
 number_spelled None h = record { said = None; spelled = unsaid 63 kind.Value; is = refl }
 number_spelled (Some v) h = let x = value_spelled v h in record { said = x.said; spelled = x.spelled; is = x.is }
 
--- a word in the position behind the form, or none
+-- a word in the position after the form, or none
 record SpelledWord (k : Kind) (said : Option Said) : Type 0 where
   text : Option (List ℕ)
   says : option_and_then (said_of k) text ≡ said
@@ -88,7 +88,7 @@ condition_word true =
 condition_word false =
     record { text = Some (codes "UNCOND"); says = refl; stands = (refl, word_stands (codes "UNCOND") (omega arith) refl); few = omega arith }
 
--- what a form with operands that its row has asks for
+-- what a form with operands in its row asks for
 form_reads : (f : PoolForm) (items : List Item) (slots : Slots) → AllFit (pool_form_row f) [] 0 items
     → map (λ (e : Entry). option_and_then (said_of e.kind) (lookup e.key items)) (pool_form_row f).entries ≡ slots
     → pool_form_with f (operands.written items) ≡ pool_by f slots

@@ -101,7 +101,7 @@ pub pairs_length : HasLengths kind.Pair
 pairs_length None = tt
 pairs_length (Some t) = length_valid (pair_said t) (or_pair_valid None t tt)
 
--- a value besides register 0
+-- a value that isn't in register 0
 abbrev IsBesides : Written → Type 0
 IsBesides v = IsValue v × (is_register_0 v ≡ false)
 
@@ -151,7 +151,7 @@ no_pair_unless (Some (location l)) h = refl
 no_pair_unless (Some (header t)) h = refl
 no_pair_unless (Some anything) h = refl
 
--- a length besides register 0
+-- a length that isn't in register 0
 record IsRegisterLength (l : WrittenLength) : Type 0 where
   valid : IsLength l
   single : is_fixed l ≡ true
@@ -232,7 +232,7 @@ named_value : (t : Option (List ℕ)) → IfSome (as_value (read kind.NamedValue
 named_value None = tt
 named_value (Some t) = named_value_if t (is_name t) refl
 
--- what another form has isn't read
+-- what belongs to another form isn't read
 no_boundary : (t : Option (List ℕ)) → boundary_by (as_boundary (read kind.OtherForm t)) ≡ Doubleword
 no_boundary None = refl
 no_boundary (Some t) = refl

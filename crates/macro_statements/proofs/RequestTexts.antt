@@ -142,7 +142,7 @@ step_operands o n asked has h e =
     let neat = number_text n h in
     record { operation = o; has = has; first = decimal n; rest = []; some = neat.some; stands = neat.goes 0; stand = tt; reads = e; fits = λ r. (let few = neat.few in omega (arith, few)) }
 
--- an operation with remarks alone asks for a request, or some operands do
+-- an operation with only remarks asks for a request, or some operands do
 pub operands_of : (asked : Asked) → AskedHasBytes asked → IsValidAsked asked → Remarks asked ⊎ Operands asked
 operands_of (act (obtain l s p y o form)) b h = inr (obtain_operands l s p y o form.family form.conditional h.0 h.1 h.2 h.3)
 operands_of (act (release l a s form)) b h = inr (release_operands l a s form.family form.conditional h.0 h.1 h.2 h.3)

@@ -1,4 +1,4 @@
--- Operands that a statement's row has, as they are written, and what an operation asks for with them or with none.
+-- Operands in a statement's row, as they are written, and what an operation asks for with them or with none.
 use Rattle.std.proofs.Common.{◌≡◌, ℕ, suc, ◌≤◌, ◌==◌, true, false, List, [], ◌∷◌, length, Some, None, Ok, is_some, ◌∙◌, ◌+◌}
 use Rattle.std.specs.List.{AllByRecursion}
 use Rattle.operand_texts.specs.Written.{Written}
@@ -17,7 +17,7 @@ use Rattle.macro_operands.proofs.WrittenOperands.{placed, Item, item, Fits, AllF
 use Rattle.macro_operands.proofs.WrittenOperands as operands
 use Rattle.macro_operands.proofs.ReadValues.{value_kept, some_kept}
 
--- operands that a row has, each once and of its kind
+-- operands in a row, each once and of its kind
 abbrev pub Good : Row → List Item → Type 0
 Good row items = AllFit row [] 0 items
 
@@ -34,7 +34,7 @@ pub in_position : (row : Row) (before : List Key) (i : ℕ) (e : Entry) (t : Lis
 in_position row before i e t has free once says some no_equals stands =
     record { entry = e; has = has; free = free; once = once; says = (says, placed i t some no_equals stands) }
 
--- how many bytes of operands have room behind the operation on a first line, less one and all
+-- the room for operands after the operation on a first line, in bytes: less one, and in full
 abbrev pub less : Operation → ℕ
 less operation.Storage = 61
 less operation.Getmain = 61
@@ -65,7 +65,7 @@ pub record Operands (asked : Asked) : Type 0 where
   pub reads : asked_of operation (first ∷ rest) ≡ Ok asked
   pub fits : HasRoom asked → length (joined first rest) ≤ room operation + 504
 
--- an operation with remarks alone that asks for this
+-- an operation with only remarks that asks for this
 pub record Remarks (asked : Asked) : Type 0 where
   pub operation : Operation
   pub has : behind_of (Some operation) ≡ behind.Remarks

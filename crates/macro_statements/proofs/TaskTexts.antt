@@ -23,7 +23,7 @@ use Rattle.macro_statements.specs.declared.statements.Operation.TheVariants as o
 use Rattle.macro_statements.proofs.FormTexts.{name_stands, with_keyword, keyed_few}
 use Rattle.macro_statements.proofs.SpelledOperands.{Good, no_fault, text, in_position, Operands, value_says}
 
--- a task alone
+-- a task as the only operand
 task_operands : (o : Operation) (row : Row) (t : Written) (asked : Asked) → behind_of (Some o) ≡ behind.Operands
     → entry_for row.entries (position 0) ≡ Some (entry (position 0) kind.Value)
     → ((os : List (List ℕ)) → first_fault row os ≡ None → value_at (position 0) os ≡ Some t → asked_of o os ≡ Ok asked) → IsValue t → Operands asked

@@ -38,12 +38,12 @@ subpools_by (Some n) list = one n
 subpools_by None (Some address) = listed address
 subpools_by None None = nothing
 
--- SZERO is YES where it is left out.
+-- SZERO is YES if it is left out.
 abbrev pub shares_zero_by : Option Bool → Bool
 shares_zero_by shares = unwrap_or shares true
 
--- Subpools that are given and that are shared, each by one number or by a list, and whether subpool 0 is. None of them
--- is required.
+-- Subpools that are given and that are shared, each by one number or by a list, and whether subpool 0 is shared. None
+-- of them is required.
 abbrev pub attach_with : Option Written → Option Written → Option Written → Option Written → Option Bool → Asked
 attach_with given given_list shared shared_list shares_zero =
     act (attach (subpools_by given given_list) (subpools_by shared shared_list) (shares_zero_by shares_zero))

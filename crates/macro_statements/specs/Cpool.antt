@@ -26,8 +26,8 @@ pool_form_of word =
     else if is_word word (codes "DELETE") then Some form.Delete
     else None
 
--- The operands behind a form: CPID, which each has; numbers, LOC, HDR, a word in the position behind the form, and
--- CELL, each of the kind that the form has; and RELATED, LINKAGE and REGS, which have no effect.
+-- The operands after a form: CPID, which each has; numbers, LOC, HDR, a word in the position after the form, and CELL,
+-- each of the kind that the form has; and RELATED, LINKAGE and REGS, which have no effect.
 abbrev pub pool_row : Kind → Kind → Kind → Kind → Kind → Row
 pool_row number location header word cell = record {
   entries = entry (keyword (codes "CPID")) kind.Name ∷ entry (keyword (codes "PCELLCT")) number
@@ -47,15 +47,15 @@ pool_form_row form.Get = pool_row kind.OtherForm kind.OtherForm kind.OtherForm k
 pool_form_row form.Free = pool_row kind.OtherForm kind.OtherForm kind.OtherForm kind.OtherForm kind.Value
 pool_form_row form.Delete = pool_row kind.OtherForm kind.OtherForm kind.OtherForm kind.OtherForm kind.OtherForm
 
--- BUILD requires a name, a number of cells (PCELLCT) and their size. SCELLCT and HDR may be left out, and SP is 0 and
--- LOC as the caller resides where they are.
+-- BUILD requires a name, a number of cells (PCELLCT) and their size. SCELLCT and HDR may be left out; SP is 0 and LOC
+-- as the caller resides if they are.
 abbrev pub build_with : Option (List ℕ) → Option (List ℕ) → Option Written → Option Written → Option Written
     → Option Written → Option Location → Result Asked FaultKind
 build_with (Some pool) header (Some primary) secondary (Some size) subpool location =
     Ok (act (build pool header primary secondary size (subpool_by subpool) (location_by family.S location)))
 build_with _ header _ secondary _ subpool location = Err fault.Missing
 
--- GET requires a name. It's unconditional where it doesn't say.
+-- GET requires a name. It's unconditional if it doesn't say.
 abbrev pub get_with : Option (List ℕ) → Option Target → Option Bool → Result Asked FaultKind
 get_with None target condition = Err fault.Missing
 get_with (Some pool) target condition = Ok (act (get pool target (condition_by condition)))

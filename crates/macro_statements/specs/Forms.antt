@@ -43,7 +43,7 @@ storage_row length_word length address_word address boundary location condition 
   left_out = left_out_keywords;
 }
 
--- A row has a place for each of these, and keys of their own.
+-- A row has a place for each of these, and distinct keys.
 abbrev pub is_storage_row : Row → Bool
 is_storage_row row = (length row.entries == 9) && are_apart row.entries
 
@@ -77,20 +77,20 @@ either_length None None = None
 abbrev pub as_length : Option Said → Option WrittenLength
 as_length said = either_length (as_value said) (as_pair said)
 
--- SP is 0 where it is left out.
+-- SP is 0 if it is left out.
 abbrev pub subpool_by : Option Written → Written
 subpool_by subpool = unwrap_or subpool (number 0)
 
--- BNDRY is a doubleword where it is left out.
+-- BNDRY is a doubleword if it is left out.
 abbrev pub boundary_by : Option Boundary → Boundary
 boundary_by boundary = unwrap_or boundary Doubleword
 
--- COND is NO where it is left out.
+-- COND is NO if it is left out.
 abbrev pub condition_by : Option Bool → Bool
 condition_by condition = unwrap_or condition false
 
--- LOC is as the caller resides where it is left out. The families R and E, which have no LOC, obtain below the 16 MB
--- line (Assembler Services Reference, "GETMAIN - Allocate virtual storage", LOC).
+-- LOC is as the caller resides if it is left out. The families R and E, which have no LOC, obtain below the 16 MB line
+-- (Assembler Services Reference, "GETMAIN - Allocate virtual storage", LOC).
 abbrev pub usual_location : Family → Location
 usual_location family.S = Caller
 usual_location family.R = Low
@@ -99,7 +99,7 @@ usual_location family.E = Low
 abbrev pub location_by : Family → Option Location → Location
 location_by f location = unwrap_or location (usual_location f)
 
--- A form is conditional by its word, or where COND says YES.
+-- A form is conditional by its word, or if COND says YES.
 abbrev pub form_by : Form → Option Bool → Form
 form_by form condition = record { family = form.family; conditional = form.conditional || condition_by condition }
 
@@ -148,7 +148,7 @@ release_by form slots =
 abbrev pub asked_by : StorageForm → Slots → Result Asked FaultKind
 asked_by f slots = if f.obtains then obtain_by f.form slots else release_by f.form slots
 
--- A form with the operands behind its word.
+-- A form with the operands after its word.
 abbrev pub form_with : StorageForm → List (List ℕ) → Result Asked FaultKind
 form_with f texts = unless_fault (first_fault f.row texts) (asked_by f (readings f.row.entries texts))
 

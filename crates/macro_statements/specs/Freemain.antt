@@ -12,8 +12,8 @@ abbrev pub freemain_row : Kind → Kind → Row
 freemain_row length address =
     storage_row (codes "LV") length (codes "A") address kind.OtherForm kind.OtherForm kind.OtherForm
 
--- R has a length besides register 0, and an address; RC and RU have a length and an address; E, EC and EU have a
--- length, and the name of the word that has the address.
+-- R has a length that isn't in register 0, and an address; RC and RU have a length and an address; E, EC and EU have a
+-- length, and the name of the word that holds the address.
 abbrev pub register_row : Row
 register_row = freemain_row kind.RegisterLength kind.Value
 

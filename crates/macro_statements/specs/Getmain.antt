@@ -11,8 +11,8 @@ abbrev pub getmain_row : Kind → Kind → Kind → Kind → Row
 getmain_row length address boundary location =
     storage_row (codes "LV") length (codes "A") address boundary location kind.OtherForm
 
--- R has a length besides register 0; RC and RU have a length, VRC and VRU a pair, and these four BNDRY and LOC; EC and
--- EU have a length, BNDRY, and a name for the address.
+-- R has a length that isn't in register 0; RC and RU have a length, VRC and VRU a pair, and these four BNDRY and LOC;
+-- EC and EU have a length, BNDRY, and a name for the address.
 abbrev pub register_row : Row
 register_row = getmain_row kind.RegisterLength kind.OtherForm kind.OtherForm kind.OtherForm
 

@@ -4,7 +4,7 @@ use Rattle.macro_operands.specs.declared.faults.FaultKind.{FaultKind}
 use Rattle.macro_operands.specs.Requests.{Asked, asked_in}
 use Rattle.macro_operands.specs.declared.requests.Request.{Request}
 
--- What the code answers that puts a request into a room, or tells a fault.
+-- The answer of the code that puts a request into a room or reports a fault.
 abbrev pub left : Result (Unit {0}) FaultKind → Request → Result Asked FaultKind
 left (Ok u) r = Ok (asked_in r)
 left (Err e) r = Err e

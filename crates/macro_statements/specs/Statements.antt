@@ -66,11 +66,11 @@ of_operation (Some o) text = if is_balanced outside text then asked_of o (operan
 abbrev pub SpellsRequest : Operation → List ℕ → Asked → Type 0
 SpellsRequest operation field asked = of_operation (Some operation) field ≡ Ok asked
 
--- What a first line, columns 1 to 71 of it, has from the operation on.
+-- A first line, columns 1 to 71 of it, from the operation on.
 abbrev pub from_operation : List ℕ → List ℕ
 from_operation card = after_blanks (after_word card)
 
--- What stands behind an operation: operands, also where it's none that is known, or remarks alone.
+-- What follows an operation: operands, also if it isn't a known one, or only remarks.
 abbrev pub behind_of : Option Operation → Behind
 behind_of None = behind.Operands
 behind_of (Some operation.Storage) = behind.Operands
@@ -87,29 +87,29 @@ behind_of (Some operation.Map) = behind.Remarks
 behind_of (Some operation.Back) = behind.Operands
 behind_of (Some operation.Forward) = behind.Operands
 
--- What of a text behind an operation is operands: nothing where remarks alone stand there.
+-- The operands in a text after an operation: nothing if it is only remarks.
 abbrev pub operands_in : Behind → List ℕ → List ℕ
 operands_in behind.Operands text = text
 operands_in behind.Remarks text = []
 
--- What a first line has from the operands on, where its operation has operands.
+-- A first line from the operands on, if its operation has operands.
 abbrev pub from_operands : List ℕ → List ℕ
 from_operands card =
     operands_in
     (behind_of (operation_of (word (from_operation card))))
     (after_blanks (after_word (from_operation card)))
 
--- Column 1 isn't blank, and no name with a blank behind it stands there (High Level Assembler Language Reference, "Name
+-- Column 1 isn't blank, and doesn't begin a name followed by a blank (High Level Assembler Language Reference, "Name
 -- entries").
 abbrev pub is_misplaced : List ℕ → Bool
 is_misplaced card = nat_lt 0 (word_len card) && not (is_name (word card))
 
--- What a first line, columns 1 to 71 of it, says in front of its operand field.
+-- What a first line, columns 1 to 71 of it, says before its operand field.
 abbrev pub IsHead : Head → List ℕ → Type 0
 IsHead h card = (h.misplaced ≡ is_misplaced card) × (h.operation ≡ operation_of (word (from_operation card)))
 
--- A statement whose first line has these columns and whose operand field is this text. A name may stand from column 1;
--- the operation comes behind blanks (High Level Assembler Language Reference, "Instruction statement format").
+-- A statement whose first line has these columns and whose operand field is this text. A name may begin in column 1;
+-- the operation follows blanks (High Level Assembler Language Reference, "Instruction statement format").
 abbrev pub statement_with : List ℕ → List ℕ → Result Asked FaultKind
 statement_with card text =
     if is_misplaced card then Err fault.Column

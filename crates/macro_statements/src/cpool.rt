@@ -1,4 +1,4 @@
-//! CPOOL: its forms that make a cell pool, hand out a cell, take one back, and end a cell pool.
+//! CPOOL: its forms that make a cell pool, provide a cell, take one back, and end a cell pool.
 
 ghost use Rattle.std.specs.Prelude.{◌≡◌, length};
 ghost use Rattle.std.specs.Option.{option_copied};
@@ -28,7 +28,7 @@ pub enum PoolForm {
     Delete,
 }
 
-/// The operands of a form: CPID; numbers, LOC, HDR, the word in the position behind the form, and CELL, of these kinds.
+/// The operands of a form: CPID; numbers, LOC, HDR, the word in the position after the form, and CELL, of these kinds.
 macro_rules! pool_row {
     ($number:ident, $location:ident, $header:ident, $word:ident, $cell:ident) => {
         OperandRow {
@@ -99,7 +99,7 @@ fn pool_form_of(word: &[u8]) -> Option<PoolForm>
     }
 }
 
-/// The operands that a form has.
+/// The operands of a form.
 fn row_of(form: PoolForm) -> OperandRow
     ensures { row_in result ≡ pool_form_row form }
 {
@@ -197,7 +197,7 @@ fn pool_by(form: PoolForm, said: &[Option<Said>], request: &mut Request) -> Resu
     }
 }
 
-/// A form with the operands behind its word.
+/// A form with the operands after its word.
 fn pool_form_with(
     form: PoolForm,
     behind: Option<&[u8]>,

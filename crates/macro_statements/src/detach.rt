@@ -1,4 +1,4 @@
-//! DETACH: the end of a task, and of all below it.
+//! DETACH: the end of a task and of all below it.
 
 ghost use Rattle.std.specs.Prelude.{◌≡◌, length};
 ghost use Rattle.operand_texts.specs.Field.{operands};

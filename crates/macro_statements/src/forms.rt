@@ -48,9 +48,9 @@ pub const LEFT_OUT_KEYWORDS: [&[u8]; 13] = [
 pub struct StorageForm {
     /// Its word, in upper case, which is the macro's first operand.
     pub word: &'static [u8],
-    /// Whether it obtains storage, or else releases it.
+    /// Whether it obtains storage; otherwise it releases it.
     pub obtains: bool,
-    /// Its operands, as `storage_row` has them.
+    /// Its operands, as in `storage_row`.
     pub row: &'static OperandRow,
     /// Its family of completion codes, and whether it's conditional without COND.
     pub form: Form,
@@ -147,7 +147,7 @@ fn length_at(said: &[Option<Said>], i: usize) -> Option<Length>
     }
 }
 
-/// SP as it was read at a place, 0 where it is left out.
+/// SP as it was read at a place, 0 if it is left out.
 pub(crate) fn subpool_at(said: &[Option<Said>], i: usize) -> Value
     requires { i < length said.now }
     ensures { written_in result ≡ subpool_by (as_value (slot (slots_in said.now) i)) }
@@ -169,7 +169,7 @@ fn form_by(form: Form, said: &[Option<Said>], i: usize) -> Form
     }
 }
 
-/// Where storage lies that is obtained without LOC.
+/// Where storage that is obtained without LOC lies.
 fn usual_location(family: Family) -> Location
     ensures { result ≡ usual_location family }
 {
@@ -222,7 +222,7 @@ fn obtain_by(form: Form, said: &[Option<Said>], request: &mut Request) -> Result
     Ok(())
 }
 
-/// What a form that releases storage asks for by what was read, where that is no length: all of a subpool.
+/// What a form that releases storage asks for by what was read, if that is no length: all of a subpool.
 #[inline(never)]
 fn whole_by(form: Form, said: &[Option<Said>], request: &mut Request) -> Result<(), FaultKind>
     requires { length said.now ≡ 9 }
@@ -289,7 +289,7 @@ fn is_one_of(words: &[&[u8]], word: &[u8]) -> bool
     false
 }
 
-/// What is wrong with a first operand that is no form's word, where these words are those of forms that are left out.
+/// What is wrong with a first operand that is no form's word; these words are those of forms that are left out.
 pub(crate) fn no_form_fault(left_out: &[&[u8]], word: &[u8]) -> FaultKind
     ensures { result ≡ no_form_fault (map (λ w. w.now) left_out.now) word.now }
 {
@@ -300,7 +300,7 @@ pub(crate) fn no_form_fault(left_out: &[&[u8]], word: &[u8]) -> FaultKind
     }
 }
 
-/// The form that a field's first operand says, and the operands behind it, or what is wrong with that operand.
+/// The form that a field's first operand says, and the operands after it, or what is wrong with that operand.
 fn form_in_field<'a>(
     storage_macro: &StorageMacro,
     field: &'a [u8],

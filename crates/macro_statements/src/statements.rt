@@ -24,7 +24,7 @@ use macro_operands::{FaultKind, Request, Statement};
 use operand_texts::nesting::is_balanced;
 use operand_texts::words::{after_blanks, after_word, is_name, is_word, word, word_len};
 
-/// An operation that is known.
+/// A known operation.
 #[derive(Clone, Copy)]
 pub enum Operation {
     Storage,
@@ -42,12 +42,12 @@ pub enum Operation {
     Forward,
 }
 
-/// What a first line says in front of its operand field.
+/// What a first line says before its operand field.
 #[derive(Clone, Copy)]
 pub struct Head {
-    /// Whether it's misplaced: column 1 isn't blank, and no name with a blank behind it stands there.
+    /// Whether it's misplaced: column 1 isn't blank, and doesn't begin a name followed by a blank.
     pub misplaced: bool,
-    /// Its operation, where that is one that is known.
+    /// Its operation, if it's a known one.
     pub operation: Option<Operation>,
 }
 
@@ -113,14 +113,14 @@ fn asked_of(operation: Operation, field: &[u8], request: &mut Request) -> Result
     }
 }
 
-/// What a first line, columns 1 to 71 of it, has from the operation on.
+/// A first line, columns 1 to 71 of it, from the operation on.
 fn from_operation(card: &[u8]) -> &[u8]
     ensures { result.now ≡ from_operation card.now }
 {
     after_blanks(after_word(card))
 }
 
-/// What stands behind an operation, or behind a word that is none.
+/// What follows an operation, or a word that isn't one.
 fn behind_of(operation: Option<Operation>) -> Behind
     ensures { result ≡ behind_of operation }
 {
@@ -143,7 +143,7 @@ fn behind_of(operation: Option<Operation>) -> Behind
     }
 }
 
-/// What of a text behind an operation is operands.
+/// The operands in a text after an operation.
 fn operands_in(behind: Behind, text: &[u8]) -> &[u8]
     ensures value { result.now ≡ operands_in behind text.now }
     ensures within { length result.now ≤ length text.now }
@@ -154,7 +154,7 @@ fn operands_in(behind: Behind, text: &[u8]) -> &[u8]
     }
 }
 
-/// Whether column 1 of a first line isn't blank and no name with a blank behind it stands there, so that nothing tells
+/// Whether column 1 of a first line isn't blank and doesn't begin a name followed by a blank, so that nothing says
 /// where a field begins.
 fn is_misplaced(card: &[u8]) -> bool
     ensures { result ≡ is_misplaced card.now }
@@ -162,9 +162,9 @@ fn is_misplaced(card: &[u8]) -> bool
     word_len(card) > 0 && !is_name(word(card))
 }
 
-/// What a first line, columns 1 to 71 of it, says in front of its operand field, and what it has from the operands on:
-/// what stands behind the blanks behind the operation. That may be empty, and is so where an operation has no operands
-/// but remarks alone.
+/// What a first line, columns 1 to 71 of it, says before its operand field, and its text from the operands on: what
+/// follows the blanks after the operation. That may be empty, and is so if an operation has no operands but only
+/// remarks.
 pub fn head_of(card: &[u8]) -> (Head, &[u8])
     ensures head { IsHead result.0 card.now }
     ensures rest { result.1.now ≡ from_operands card.now }
@@ -183,9 +183,9 @@ pub fn head_of(card: &[u8]) -> (Head, &[u8])
 
 /// Puts the request of a statement, whose first line says this and whose operand field is this text, into a room.
 ///
-/// Else the first fault, in this order: `Column` where the first line is misplaced; `Operation` where its operation
-/// isn't known; `Operand` where an apostrophe or parenthesis of the field isn't closed or is closed too often; and then
-/// that of the leftmost operand that has one, or `Missing`.
+/// Otherwise returns the first fault, in this order: `Column` if the first line is misplaced; `Operation` if its
+/// operation isn't known; `Operand` if an apostrophe or parenthesis of the field isn't closed or is closed too often;
+/// and then that of the leftmost operand that has one, or `Missing`.
 #[inline(never)]
 pub fn statement_into(head: Head, text: &[u8], request: &mut Request) -> Result<(), FaultKind>
     ensures value { (card : List ℕ) → IsHead head card → left result request.new ≡ statement_with card text.now }
@@ -203,7 +203,7 @@ pub fn statement_into(head: Head, text: &[u8], request: &mut Request) -> Result<
     asked_of(operation, text, request)
 }
 
-/// The same, with the request as the answer.
+/// The same, with the request as the result.
 pub fn statement_with(head: Head, text: &[u8]) -> Result<Request, FaultKind>
     ensures value { (card : List ℕ) → IsHead head card → seen result ≡ statement_with card text.now }
     ensures valid { IfOk result (λ r. IsValidAsked (asked_in r)) }

@@ -63,7 +63,7 @@ registers_keep : (rows : List (ℕ × ℕ)) (s : State) → (with_registers s ro
 registers_keep [] s = refl
 registers_keep (row ∷ rows) s = registers_keep rows (with_register s row.0 row.1)
 
--- The reply tells of nothing.
+-- The reply says nothing.
 abbrev IsQuiet : Reply → Type 0
 IsQuiet reply = (b c : ℕ) → taken_by reply b c ≡ []
 
@@ -71,7 +71,7 @@ module _ (settings : Settings) (names_full : Bool) (s t : State) (x : Service) (
   same_reply : (r : Reply) → ◌≡◌ {A = Option Reply} (Some r) (Some reply) → reply ≡ r
   same_reply r e = cc
 
-  -- A service whose effect takes nothing, and whose reply tells of nothing.
+  -- A service whose effect takes nothing, and whose reply says nothing.
   quiet : ((d : ℕ) → is_newly s (effect settings s x).0 d ≡ false) → IsQuiet (effect settings s x).1 → step settings names_full s x ≡ Accepted t reply →
       (b c : ℕ) → taken_by reply b c ≡ newly_between s t
   quiet none silent e b c = elim (accepted_has_its_effect settings names_full s t x reply e) [

@@ -24,7 +24,7 @@ front_run f first (suc c) b all none =
     ∙ ap (with_first first) (front_run f (suc first) c b (λ k from to. all k (omega (arith, from)) (omega (arith, to))) (λ k from. none k (omega (arith, from))))
     ∙ ap (λ t. if t then (first, suc (suc c)) ∷ [] else (first, 1) ∷ (suc first, suc c) ∷ []) (eq-eqb (suc first) (suc first) refl)
 
--- and behind others
+-- and after others
 later_run : (f : ℕ → Bool) (first a c b start : ℕ) → start ≡ first + a → ((k : ℕ) → k < start → f k ≡ false) → ((k : ℕ) → start ≤ k → k < start + suc c → f k ≡ true) →
     ((k : ℕ) → start + suc c ≤ k → f k ≡ false) → runs f first (a + (suc c + b)) ≡ (start, suc c) ∷ []
 later_run f first zero c b start is before all none =
@@ -45,7 +45,7 @@ is_before first count k to = grind arith
 pub is_past : (first count k : ℕ) → first + count ≤ k → among first count k ≡ false
 is_past first count k from = grind arith
 
--- The runs of a set that has just these numbers.
+-- The runs of a set that has exactly these numbers.
 pub one_run : (f : ℕ → Bool) (first count top : ℕ) → ((k : ℕ) → f k ≡ among first count k) → first + count ≤ top → runs f 0 top ≡ run_of first count
 one_run f first zero top is within = no_runs f 0 top (λ k from to. is k ∙ none k) where
   none : (k : ℕ) → among first 0 k ≡ false

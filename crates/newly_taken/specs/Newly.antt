@@ -21,13 +21,13 @@ is_newly s t d = t.taken d && not (s.taken d)
 unfoldable pub newly_between : State → State → List (ℕ × ℕ)
 newly_between s t = runs (is_newly s t) 0 (2 ^ 28)
 
--- ---- what the reply tells of it
+-- ---- what the reply says of it
 
 abbrev pub run_of : ℕ → ℕ → List (ℕ × ℕ)
 run_of first zero = []
 run_of first (suc count) = (first, suc count) ∷ []
 
--- how many doublewords more are taken if so many bytes were before and are after
+-- by how many doublewords the taken bytes grew
 abbrev pub grown : ℕ → ℕ → ℕ
 grown before after = min ((after - before) / 8) 4294967295
 

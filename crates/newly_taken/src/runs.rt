@@ -9,7 +9,7 @@ use vsm_model::Reply;
 /// none.
 pub type Newly = ArrayVec<(u32, u32), 1>;
 
-/// So many doublewords from the first on, or none.
+/// This many doublewords from the first on, or none.
 fn run_of(first: u32, count: u32) -> Newly
     ensures { result.items ≡ run_of first count }
 {
@@ -20,14 +20,14 @@ fn run_of(first: u32, count: u32) -> Newly
     newly
 }
 
-/// How many doublewords more are taken if so many bytes were before and are after.
+/// By how many doublewords the taken bytes grew.
 fn grown(before: u64, after: u64) -> u32
     ensures { result ≡ grown before after }
 {
     (after.saturating_sub(before) / 8).min(u64::from(u32::MAX)) as u32
 }
 
-/// What a service with this reply took if so many bytes were taken before and are after.
+/// What a service with this reply took, by the taken bytes before and after it.
 pub fn taken_by(reply: Reply, before: u64, after: u64) -> Newly
     ensures { result.items ≡ taken_by reply before after }
 {

@@ -1,4 +1,4 @@
--- A text is made out byte by byte, and bytes above those that a field is made out by leave all as it stands.
+-- A text is scanned byte by byte; bytes above those that delimit a field change nothing.
 use Rattle.std.proofs.Common.{◌≡◌, ℕ, ◌+◌, ◌<◌, ◌≤◌, ◌==◌, Bool, true, false, not, ◌&&◌, List, ◌∷◌, length, drop, get_or, if◌then◌else◌, arith, refl, sym, ap, ◌∙◌}
 use Rattle.std.proofs.lemmas.List.{drop_more}
 use Rattle.std.proofs.lemmas.Bool.Decides.{nat_tests}
@@ -32,7 +32,7 @@ above_operand n c cs h =
     ap (λ b. if b && not n.quoted && (n.depth == 0) then 0 else 1 + operand_len (past n c) cs) (apart c 44 h)
     ∙ ap (λ m. 1 + operand_len m cs) (past_above n c (omega (arith, h)))
 
--- a depth is at most the number of bytes that were passed, or is so behind a depth at the start
+-- a depth is at most the number of bytes that were passed, or at most that number above the depth at the start
 pub as_deep : (n i : ℕ) → n ≤ i → n ≤ i + 1
 as_deep n i h = omega arith
 
@@ -45,7 +45,7 @@ as_deep_behind n start i h = omega arith
 pub deeper_behind : (m n start i : ℕ) → m ≤ n + 1 → n ≤ start + i → m ≤ start + (i + 1)
 deeper_behind m n start i h k = omega arith
 
--- one byte more of a text that is balanced or not
+-- one more byte of a text that is balanced or not
 pub balanced_passes : (n : Nesting) (t : List ℕ) (i : ℕ) → i < length t → 41 < get_or t i 0 → is_balanced n (drop (i + 1) t) ≡ is_balanced n (drop i t)
 balanced_passes n t i h k = sym (ap (is_balanced n) (drop_more t i 0 h) ∙ above_balanced n (get_or t i 0) (drop (i + 1) t) k)
 
@@ -64,7 +64,7 @@ counted i a b all h k = omega arith
 ended : (i a all : ℕ) → a ≡ 0 → i + a ≡ all → i ≡ all
 ended i a all h k = omega arith
 
--- one byte more of a text whose field goes so far
+-- one more byte of a text whose field ends at this place
 pub field_passes : (n : Nesting) (t : List ℕ) (i all : ℕ) → i < length t → 41 < get_or t i 0 → i + field_len n (drop i t) ≡ all → i + 1 + field_len n (drop (i + 1) t) ≡ all
 field_passes n t i all h k e = counted i _ _ all (ap (field_len n) (drop_more t i 0 h) ∙ above_field n (get_or t i 0) (drop (i + 1) t) k) e
 
@@ -79,7 +79,7 @@ pub field_ends : (n : Nesting) (t : List ℕ) (i all : ℕ) → i < length t →
 field_ends n t i all h k e =
     ended i _ all (ap (field_len n) (drop_more t i 0 h) ∙ ap (λ b. if b then 0 else 1 + field_len (past n (get_or t i 0)) (drop (i + 1) t)) k) e
 
--- one byte more of a text whose first operand goes so far
+-- one more byte of a text whose first operand ends at this place
 pub operand_passes : (n : Nesting) (t : List ℕ) (i all : ℕ) → i < length t → 44 < get_or t i 0 → i + operand_len n (drop i t) ≡ all → i + 1 + operand_len n (drop (i + 1) t) ≡ all
 operand_passes n t i all h k e = counted i _ _ all (ap (operand_len n) (drop_more t i 0 h) ∙ above_operand n (get_or t i 0) (drop (i + 1) t) k) e
 

@@ -7,7 +7,7 @@ use Rattle.std.specs.Char.{is_digit, digit_value}
 use Rattle.operand_texts.specs.Written.{Written, spelled, word}
 use Rattle.operand_texts.specs.Values.{byte_of, onto_bytes, hex_bytes, spelled_bytes, is_quoted, word_of, content_of}
 
--- the two digits of a pair, and those behind it
+-- the two digits of a pair, and those after it
 two_more : (t : List ℕ) (i : ℕ) → 2 * i + 1 < length t
     → drop (2 * i) t ≡ get_or t (2 * i) 0 ∷ get_or t (2 * i + 1) 0 ∷ drop (2 * (i + 1)) t
 two_more t i h =

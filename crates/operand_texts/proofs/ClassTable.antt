@@ -1,14 +1,14 @@
--- A table of classes is held against their definition at each byte, by computing.
+-- A table of classes is compared with their definition at each byte, by computing.
 use Rattle.std.proofs.Common.{◌≡◌, ℕ, zero, suc, ◌<◌, Bool, true, false, ◌&&◌, ◌==◌, get_or, List, refl, arith, inl, inr}
 use Rattle.std.proofs.lemmas.Bool.{cases_eq, eqb-true}
 use Rattle.std.specs.Int.RustNames.{bit_and}
 use Rattle.operand_texts.specs.Characters.{classes_of}
 
--- what a table of digits has of a byte
+-- what a table of digits contains for a byte
 abbrev pub class_in : List ℕ → ℕ → ℕ
 class_in table c = bit_and (get_or table c 0) 15
 
--- the table has the classes of each byte below n
+-- the table contains the classes of each byte below n
 unfoldable pub are_classes : List ℕ → ℕ → Bool
 are_classes table zero = true
 are_classes table (suc n) = (class_in table n == classes_of n) && are_classes table n

@@ -1,4 +1,4 @@
--- The classes of a character say whether it begins a name, and whether it stands in one.
+-- The classes of a character say whether it begins a name, and whether it may be in one.
 use Rattle.std.proofs.Common.{◌≡◌, ℕ, ◌==◌, Bool, true, false, not, ◌&&◌, ◌||◌, if◌then◌else◌, nat_le, refl}
 use Rattle.std.specs.Int.RustNames.{bit_and}
 use Rattle.operand_texts.specs.Characters.{classes_of}

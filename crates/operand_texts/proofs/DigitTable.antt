@@ -1,14 +1,14 @@
--- A table of hexadecimal digits is held against their values at each byte, by computing.
+-- A table of hexadecimal digits is compared with their values at each byte, by computing.
 use Rattle.std.proofs.Common.{◌≡◌, ℕ, zero, suc, ◌<◌, Bool, true, false, ◌&&◌, ◌==◌, get_or, List, min, refl, arith, inl, inr}
 use Rattle.std.proofs.lemmas.Bool.{cases_eq, eqb-true}
 use Rattle.std.specs.Char.{digit_value}
 use Rattle.std.specs.Int.RustNames.{bit_and}
 
--- what a table has of a byte
+-- what a table contains for a byte
 abbrev pub digit_in : List ℕ → ℕ → ℕ
 digit_in table c = bit_and (get_or table c 0) 31
 
--- the table has the value of each byte below n
+-- the table contains the value of each byte below n
 unfoldable pub are_digits : List ℕ → ℕ → Bool
 are_digits table zero = true
 are_digits table (suc n) = (digit_in table n == min (digit_value n) 16) && are_digits table n

@@ -11,7 +11,7 @@ use Rattle.operand_texts.specs.Values.{digits_number}
 none_if : (b : Bool) (n : ℕ) → 2 ^ 32 ≤ n → (if b && nat_lt n (2 ^ 32) then Some n else None) ≡ None
 none_if b n h = elim b as (λ v. (if v && nat_lt n (2 ^ 32) then Some n else None) ≡ None) [ true ↦ grind (arith, nat_tests) | false ↦ refl ]
 
--- one digit more, and the number has more than 32 bits
+-- another digit, and the number has more than 32 bits
 pub too_great : (radix most : ℕ) (text : List ℕ) (i : ℕ) → 1 ≤ radix → i < length text
     → 2 ^ 32 ≤ digits_value radix (take i text) * radix + digit_value (get_or text i 0) → digits_number radix most text ≡ None
 too_great radix most text i r lt h =

@@ -1,4 +1,4 @@
--- Texts that stand as operands, and fields that are made of them.
+-- Texts that can be operands, and fields that are made of them.
 use Rattle.std.proofs.Common.{◌≡◌, ℕ, ◌<◌, ◌≤◌, ◌==◌, Bool, true, false, not, ◌&&◌, List, [], ◌∷◌, ◌++◌, length, if◌then◌else◌, arith, refl, ap, ◌∙◌}
 use Rattle.std.specs.List.{AllByRecursion, list_all}
 use Rattle.std.specs.Char.{digit_value}
@@ -103,7 +103,7 @@ abbrev pub joined : List ℕ → List (List ℕ) → List ℕ
 joined o [] = o
 joined o (p ∷ os) = o ++ 44 ∷ joined p os
 
--- a text that can stand as an operand
+-- a text that can be an operand
 abbrev pub IsOperand : List ℕ → Type 0
 IsOperand o = Goes outside o outside
 

@@ -52,7 +52,7 @@ spelled_back bytes h some few =
     let even : (length (hex_text bytes) % 2 == 0) ≡ true = eq-eqb _ _ (omega (arith, len)) in
     rw (least, most, even, bytes_back bytes h) refl
 
--- the last byte, and what stands in front of it
+-- the last byte, and what precedes it
 pub last_is : (xs : List ℕ) (z : ℕ) → slice_index (xs ++ z ∷ []) (length (xs ++ z ∷ []) - 1) ≡ z
 last_is xs z = get_or_at xs z [] 0 (length (xs ++ z ∷ []) - 1) (omega (arith, length_push xs z))
 

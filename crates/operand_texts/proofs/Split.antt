@@ -1,4 +1,4 @@
--- The first operand of a field, and those behind it.
+-- The first operand of a field, and those after it.
 use Rattle.std.proofs.lemmas.List.{take_rest, take_all}
 use Rattle.std.proofs.lemmas.Bool.{cases_lt}
 use Rattle.std.proofs.Common.{inl, inr, ◌-◌, ◌≡◌, ℕ, suc, ◌+◌, ◌<◌, ◌≤◌, List, [], ◌∷◌, length, take, drop, cond, true, false, refl, arith}
@@ -6,7 +6,7 @@ use Rattle.std.proofs.Math.Numerals.{one-add, add-one}
 use Rattle.operand_texts.specs.declared.nesting.Nesting.{Nesting}
 use Rattle.operand_texts.specs.Field.{outside, past, separates, operand_len, operands_from, onto}
 
--- one byte more in front
+-- one more byte at the start
 step : (c : ℕ) (cs : List ℕ) (k : ℕ) (os : List (List ℕ)) → os ≡ take k cs ∷ operands_from outside (drop (k + 1) cs)
     → onto c os ≡ take (1 + k) (c ∷ cs) ∷ operands_from outside (drop (1 + k + 1) (c ∷ cs))
 step c cs k os e = rw (e, one-add k, add-one k, add-one (suc k)) refl
@@ -33,7 +33,7 @@ last_of n (c ∷ cs) h =
       | false ↦ λ below. rw (last_of (past n c) cs (omega arith)) refl
     ] h
 
--- the same at a number that is that length, and at the slice behind it
+-- the same at a number that is that length, and at the slice after it
 pub first_at : (t : List ℕ) (n : ℕ) → n ≡ operand_len outside t → n < length t
     → operands_from outside t ≡ take n t ∷ operands_from outside (take (length t - (n + 1)) (drop (n + 1) t))
 first_at t n e h = rw (take_rest t (n + 1), e) (first_of outside t (omega arith))

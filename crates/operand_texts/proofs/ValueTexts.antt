@@ -1,4 +1,4 @@
--- A text for each value, place and content that is valid, which can stand as an operand.
+-- A text for each value, place and content that is valid, which can be an operand.
 use Rattle.std.proofs.Common.{◌≡◌, ℕ, ◌+◌, ◌-◌, ◌/◌, ◌%◌, ◌^◌, ◌<◌, ◌≤◌, ◌==◌, Bool, true, false, ◌&&◌, List, [], ◌∷◌, ◌++◌, length, Some, nat_le, decimal, arith, refl, ap, ◌∙◌, inl, inr, ◌*◌}
 use Rattle.std.specs.List.{AllByRecursion}
 use Rattle.std.specs.Option.{option_map}
@@ -15,7 +15,7 @@ use Rattle.operand_texts.proofs.Spelling.{written, name_spelled, low_register, h
 use Rattle.operand_texts.proofs.SpelledBytes.{digit, hex_text, text_len, spelled_back, quoted_text, constant_text}
 use Rattle.operand_texts.proofs.OperandTexts.{Goes, IsPlain, IsOperand, goes_append, goes_plain, plain_name, plain_digit, plain_digits}
 
--- outside apostrophes, in so many parentheses
+-- outside apostrophes, in this many parentheses
 abbrev within : ℕ → Nesting
 within d = record { quoted = false; depth = d }
 

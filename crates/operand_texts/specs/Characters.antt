@@ -3,7 +3,7 @@ use Rattle.std.specs.Prelude.{ℕ, ◌&&◌, ◌||◌, ◌==◌, nat_le, if◌th
 use Rattle.bitflags.specs.Sets as flags
 
 -- The classes of the characters of names, each with its bit (High Level Assembler Language Reference, "Character set"),
--- and behind them two sets of these: what begins a name, and what stands in one.
+-- followed by two sets of these: what begins a name, and what may be in one.
 abbrev pub classes : List flags.Row
 classes =
     (codes "LETTER", 1) ∷ (codes "NATIONAL", 2) ∷ (codes "UNDERSCORE", 4) ∷ (codes "DIGIT", 8) ∷ (codes "ALPHABETIC", 7)

@@ -3,7 +3,7 @@ use Rattle.std.specs.Prelude.{ℕ, ◌+◌, ◌-◌, Bool, false, not, ◌&&◌,
 use Rattle.std.specs.Prelude.{None, Some}
 use Rattle.operand_texts.specs.declared.nesting.Nesting.{Nesting}
 
--- The start of a field stands outside apostrophes and parentheses.
+-- The start of a field is outside apostrophes and parentheses.
 abbrev pub outside : Nesting
 outside = record { quoted = false; depth = 0 }
 
@@ -28,7 +28,7 @@ abbrev pub is_balanced : Nesting → List ℕ → Bool
 is_balanced n [] = not n.quoted && (n.depth == 0)
 is_balanced n (c ∷ cs) = not (c == 41 && not n.quoted && (n.depth == 0)) && is_balanced (past n c) cs
 
--- A comma outside apostrophes and parentheses stands between two operands.
+-- A comma outside apostrophes and parentheses separates two operands.
 abbrev pub separates : Nesting → ℕ → Bool
 separates n c = c == 44 && not n.quoted && (n.depth == 0)
 
@@ -37,7 +37,7 @@ abbrev pub operand_len : Nesting → List ℕ → ℕ
 operand_len n [] = 0
 operand_len n (c ∷ cs) = if separates n c then 0 else 1 + operand_len (past n c) cs
 
--- A byte is put in front of the first operand.
+-- A byte is put before the first operand.
 abbrev pub onto : ℕ → List (List ℕ) → List (List ℕ)
 onto c [] = (c ∷ []) ∷ []
 onto c (o ∷ os) = (c ∷ o) ∷ os
@@ -47,11 +47,11 @@ abbrev pub operands_from : Nesting → List ℕ → List (List ℕ)
 operands_from n [] = [] ∷ []
 operands_from n (c ∷ cs) = if separates n c then [] ∷ operands_from outside cs else onto c (operands_from (past n c) cs)
 
--- The operands of a field, of which an empty field has none.
+-- The operands of a field; an empty field has none.
 abbrev pub operands : List ℕ → List (List ℕ)
 operands text = if length text == 0 then [] else operands_from outside text
 
--- The operands behind one, where a comma and this text follow it, or nothing.
+-- The operands after one that is followed by a comma and this text, or by nothing.
 abbrev pub operands_behind : Option (List ℕ) → List (List ℕ)
 operands_behind None = []
 operands_behind (Some text) = operands_from outside text

@@ -11,7 +11,7 @@ use Rattle.operand_texts.specs.Written.{Written, number, named, register, Target
 use Rattle.operand_texts.specs.Written.{word}
 use Rattle.operand_texts.specs.Field.{outside, is_balanced, operands_from}
 
--- The number that one digit or more of a radix spell, up to this many, where it is below 2 ^ 32.
+-- The number that 1 to this many digits of a radix spell, if it is below 2 ^ 32.
 abbrev pub digits_number : ℕ → ℕ → List ℕ → Option ℕ
 digits_number radix most text =
     if nat_le 1 (length text) && nat_le (length text) most && list_all (λ c. is_digit c radix) text
@@ -43,15 +43,15 @@ register_number digits =
     then Some (slice_index digits 1 - 38)
     else None
 
--- What stands behind an R, in either case, or the whole text where none stands in front.
+-- What follows an R, in either case, or the whole text if it begins with none.
 abbrev pub without_r : List ℕ → List ℕ
 without_r text = if nat_le 1 (length text) && (to_ascii_uppercase (slice_index text 0) == 82) then drop 1 text else text
 
--- A text that stands in parentheses, as far as its first and last byte tell.
+-- A text is in parentheses, as far as its first and last byte show.
 abbrev pub is_enclosed : List ℕ → Bool
 is_enclosed text = nat_le 2 (length text) && (slice_index text 0 == 40) && (slice_index text (length text - 1) == 41)
 
--- What stands between the first and the last byte.
+-- What is between the first and the last byte.
 abbrev pub enclosed : List ℕ → List ℕ
 enclosed text = slice_range text 1 (length text - 1)
 
@@ -74,7 +74,7 @@ value_of text = or_other (number_of text) text
 abbrev pub Spells : List ℕ → Written → Type 0
 Spells text value = value_of text ≡ Some value
 
--- A register where something may be stored goes from 1 to 12.
+-- A register in which something may be stored goes from 1 to 12.
 abbrev pub target_register : Option ℕ → Option Target
 target_register None = None
 target_register (Some n) = if nat_le 1 n && nat_le n 12 then Some (in_register n) else None
@@ -106,7 +106,7 @@ parts_of text =
 abbrev pub byte_of : ℕ → ℕ → Option ℕ
 byte_of high low = if is_digit high 16 && is_digit low 16 then Some (16 * digit_value high + digit_value low) else None
 
--- A byte is put in front of bytes, where there are both.
+-- A byte is put before bytes, if both exist.
 abbrev pub onto_bytes : Option ℕ → Option (List ℕ) → Option (List ℕ)
 onto_bytes None rest = None
 onto_bytes (Some byte) rest = option_map (λ bytes. byte ∷ bytes) rest
@@ -117,7 +117,7 @@ hex_bytes [] = Some []
 hex_bytes (high ∷ []) = None
 hex_bytes (high ∷ low ∷ rest) = onto_bytes (byte_of high low) (hex_bytes rest)
 
--- The bytes that two digits or more spell, an even number of them, up to 256 bytes.
+-- The bytes that two or more digits spell, an even number of them, up to 256 bytes.
 abbrev pub spelled_bytes : List ℕ → Option (List ℕ)
 spelled_bytes digits =
     if nat_le 2 (length digits) && nat_le (length digits) 512 && (length digits % 2 == 0) then hex_bytes digits

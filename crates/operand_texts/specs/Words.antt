@@ -9,7 +9,7 @@ abbrev pub is_letter : ℕ → Bool
 is_letter c =
     (nat_le 65 c && nat_le c 90) || (nat_le 97 c && nat_le c 122) || (c == 36) || (c == 35) || (c == 64) || (c == 95)
 
--- A byte of a name behind the first is a letter or a digit.
+-- A byte of a name after the first is a letter or a digit.
 abbrev pub is_name_byte : ℕ → Bool
 is_name_byte c = is_letter c || (nat_le 48 c && nat_le c 57)
 
@@ -18,7 +18,7 @@ abbrev pub is_name : List ℕ → Bool
 is_name text =
     nat_le 1 (length text) && nat_le (length text) 63 && is_letter (slice_index text 0) && list_all is_name_byte text
 
--- A text is this word where it is so in upper case, bytes above 127 as they are.
+-- A text is this word if it is so in upper case, bytes above 127 as they are.
 abbrev pub is_word : List ℕ → List ℕ → Bool
 is_word text word = bytes_eq (map to_ascii_uppercase text) word
 
@@ -26,18 +26,18 @@ is_word text word = bytes_eq (map to_ascii_uppercase text) word
 abbrev pub word_len : List ℕ → ℕ
 word_len text = position_or_len (λ c. c == 32) text
 
--- How many blanks stand in front.
+-- How many blanks a text begins with.
 abbrev pub blank_len : List ℕ → ℕ
 blank_len text = prefix_len (λ c. c == 32) text
 
--- The word in front.
+-- The first word.
 abbrev pub word : List ℕ → List ℕ
 word text = take (word_len text) text
 
--- What stands behind the word in front.
+-- What follows the first word.
 abbrev pub after_word : List ℕ → List ℕ
 after_word text = drop (word_len text) text
 
--- What stands behind the blanks in front.
+-- What follows the blanks at the start.
 abbrev pub after_blanks : List ℕ → List ℕ
 after_blanks text = drop (blank_len text) text

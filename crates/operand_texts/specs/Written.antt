@@ -15,7 +15,7 @@ pub data Written : Type 0 where
   named : List ℕ → Written
   register : ℕ → Written
 
--- Where an address is stored besides register 1: in the word of a name, or in a register.
+-- Where an address is stored in addition to register 1: in the word of a name, or in a register.
 pub data Target : Type 0 where
   in_name : List ℕ → Target
   in_register : ℕ → Target

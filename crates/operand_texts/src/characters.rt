@@ -21,7 +21,7 @@ bitflag_items! {
         const DIGIT = 8;
         /// Letters, national characters and the underscore: what a name begins with.
         const ALPHABETIC = 7;
-        /// These and digits: what stands in a name.
+        /// These and digits: what may be in a name.
         const ALPHANUMERIC = 15;
     }
 }
@@ -59,7 +59,7 @@ static CLASSES: [u8; 256] = *b"\
     00000000000000000000000000000000\
     00000000000000000000000000000000";
 
-/// The set of classes of a character: the one that it's in, or none where it stands in no name.
+/// The set of classes of a character: the one that it's in, or none if it's in no name.
 pub fn classes_of(byte: u8) -> Classes
     ensures { result.0 ≡ classes_of byte }
 {

@@ -92,7 +92,7 @@ fn spelled_bytes(digits: &[u8]) -> Option<ArrayVec<u8, 256>>
     }
 }
 
-/// What stands behind the first byte.
+/// What follows the first byte.
 fn behind_first(text: &[u8]) -> &[u8]
     requires { 1 ≤ length text.now }
     ensures { result.now ≡ drop 1 text.now }
@@ -107,7 +107,7 @@ fn is_address_constant(text: &[u8]) -> bool
     !text.is_empty() && text[0].to_ascii_uppercase() == b'A' && is_enclosed(behind_first(text))
 }
 
-/// The value that an A and parentheses make a word.
+/// The value that A(..) makes a word of.
 fn word_of(text: &[u8]) -> Option<Value>
     ensures value { option_map written_in result ≡ word_of text.now }
     ensures valid { IfSome result (λ v. IsValue (written_in v)) }
@@ -120,7 +120,7 @@ fn word_of(text: &[u8]) -> Option<Value>
     }
 }
 
-/// What a text says is stored: X'..' with the digits of 1 to 256 bytes, or A(..) with a value. Nothing where it says
+/// What a text says is stored: X'..' with the digits of 1 to 256 bytes, or A(..) with a value. Nothing if it says
 /// neither.
 pub fn content_of(text: &[u8]) -> Option<Content>
     ensures value { option_map stored_in result ≡ content_of text.now }
@@ -184,7 +184,7 @@ pub fn is_content(text: &[u8]) -> bool
     }
 }
 
-/// The size that a text spells, a number from 1 to 256. Nothing where it spells none.
+/// The size that a text spells, a number from 1 to 256. Nothing if it spells none.
 pub fn size_of(text: &[u8]) -> Option<u16>
     ensures value { result ≡ size_of text.now }
     ensures least { IfSome result (λ n. 1 ≤ n) }

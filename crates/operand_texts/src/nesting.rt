@@ -5,17 +5,17 @@ ghost use Rattle.std.specs.Option.{option_copied};
 ghost use Rattle.operand_texts.specs.Field.{outside, past, field_len, is_balanced, operand_len, operands_from};
 ghost use Rattle.operand_texts.specs.Field.{operands_behind};
 
-/// Where a byte of a field stands: between apostrophes or not, and in how many parentheses.
+/// Where a byte of a field is: between apostrophes or not, and in how many parentheses.
 #[derive(Clone, Copy)]
 pub struct Nesting {
-    /// Whether it stands between apostrophes.
+    /// Whether it's between apostrophes.
     pub quoted: bool,
-    /// In how many parentheses it stands.
+    /// How many parentheses it's in.
     pub depth: usize,
 }
 
 impl Nesting {
-    /// Where the first byte of a field stands: outside apostrophes and parentheses.
+    /// Where the first byte of a field is: outside apostrophes and parentheses.
     pub fn outside() -> Nesting
         ensures { result ≡ outside }
     {
@@ -25,7 +25,7 @@ impl Nesting {
         }
     }
 
-    /// Where the byte behind this one stands. A parenthesis that is closed too often leaves a depth of 0.
+    /// Where the byte after this one is. A parenthesis that is closed too often leaves a depth of 0.
     pub fn past(self, byte: u8) -> Nesting
         requires { self.depth + 1 < 2 ^ 64 }
         ensures value { result ≡ past self byte }
@@ -51,10 +51,10 @@ impl Nesting {
     }
 }
 
-// Apostrophes, parentheses, commas and blanks are bytes up to a comma, so loops pass over those above at once.
+// Apostrophes, parentheses, commas and blanks are bytes up to a comma, so loops skip those above at once.
 
-/// How many bytes of a text whose first byte stands so belong to the field: those up to the first blank outside
-/// apostrophes, or all.
+/// How many bytes of a text, whose first byte has this nesting, belong to the field: those up to the first blank
+/// outside apostrophes, or all.
 pub fn field_len(start: Nesting, text: &[u8]) -> usize
     requires { start.depth + length text.now < 2 ^ 64 }
     ensures value { result ≡ field_len start text.now }
@@ -90,7 +90,7 @@ pub fn is_balanced(text: &[u8]) -> bool
     !at.quoted && at.depth == 0
 }
 
-/// How far the first operand of a field goes.
+/// How long the first operand of a field is.
 fn operand_len(text: &[u8]) -> usize
     ensures value { result ≡ operand_len outside text.now }
     ensures within { result ≤ length text.now }
@@ -108,8 +108,8 @@ fn operand_len(text: &[u8]) -> usize
     text.len()
 }
 
-/// The first operand of a text, up to a comma outside apostrophes and parentheses, and what stands behind that comma,
-/// or nothing where there is none.
+/// The first operand of a text, up to a comma outside apostrophes and parentheses, and what follows that comma, or
+/// nothing if there is none.
 pub fn split(text: &[u8]) -> (&[u8], Option<&[u8]>)
     ensures operands { operands_from outside text.now ≡ result.0.now ∷ operands_behind (option_copied result.1) }
     ensures shorter { (rest : List ℕ) → option_copied result.1 ≡ Some rest → length rest < length text.now }

@@ -3,7 +3,7 @@
 ghost use Rattle.std.specs.Prelude.{◌≡◌, ◌≤◌, length};
 ghost use Rattle.operand_texts.specs.Values.{digits_number, is_quoted, number_of};
 
-/// The number that one to `most` digits spell, where it has 32 bits.
+/// The number that one to `most` digits spell, if it has 32 bits.
 fn digits_number(radix: u32, most: usize, text: &[u8]) -> Option<u32>
     requires least { 2 ≤ radix }
     requires greatest { radix ≤ 36 }
@@ -31,7 +31,7 @@ pub(crate) fn is_quoted(letter: u8, text: &[u8]) -> bool
 }
 
 /// The number that a text spells: 1 to 10 decimal digits, X'..' with 1 to 8 hexadecimal ones or B'..' with 1 to 32
-/// binary ones. Nothing where it spells none, or one of more than 32 bits.
+/// binary ones. Nothing if it spells none, or a number of more than 32 bits.
 pub fn number_of(text: &[u8]) -> Option<u32>
     ensures { result ≡ number_of text.now }
 {

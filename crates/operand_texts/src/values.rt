@@ -22,7 +22,7 @@ pub enum Value {
     Register(u8),
 }
 
-/// Where an address is stored besides register 1.
+/// Where an address is stored in addition to register 1.
 #[derive(Clone, Copy, Debug, PartialEq, Eq)]
 pub enum Place {
     /// In the word of a name.
@@ -31,7 +31,7 @@ pub enum Place {
     Register(u8),
 }
 
-/// Whether a name is one, in upper case.
+/// Whether a name is valid and in upper case.
 fn is_upper_name(name: &[u8]) -> bool
     ensures { result ≡ is_upper_name name.now }
 {
@@ -78,7 +78,7 @@ fn register_number(digits: &[u8]) -> Option<u8>
     }
 }
 
-/// What stands behind an R, in either case, or the whole text.
+/// What follows an R, in either case, or the whole text.
 fn without_r(text: &[u8]) -> &[u8]
     ensures { result.now ≡ without_r text.now }
 {
@@ -96,7 +96,7 @@ pub(crate) fn is_enclosed(text: &[u8]) -> bool
     text.len() >= 2 && text[0] == b'(' && text[text.len() - 1] == b')'
 }
 
-/// What stands between the first and the last byte.
+/// What is between the first and the last byte.
 pub(crate) fn enclosed(text: &[u8]) -> &[u8]
     requires { IsTrue (is_enclosed text.now) }
     ensures { result.now ≡ enclosed text.now }
@@ -104,7 +104,7 @@ pub(crate) fn enclosed(text: &[u8]) -> &[u8]
     &text[1..text.len() - 1]
 }
 
-/// The register that a text spells, from 0 to 15. Nothing where it spells none.
+/// The register that a text spells, from 0 to 15. Nothing if it spells none.
 pub fn register_of(text: &[u8]) -> Option<u8>
     ensures value { result ≡ register_of text.now }
     ensures small { IfSome result (λ r. r < 16) }
@@ -116,8 +116,8 @@ pub fn register_of(text: &[u8]) -> Option<u8>
     }
 }
 
-/// The value that a text spells: a number, a name, or a register as `(n)` or `(Rn)` with n from 0 to 15. Nothing where
-/// it spells none.
+/// The value that a text spells: a number, a name, or a register as `(n)` or `(Rn)` with n from 0 to 15. Nothing if it
+/// spells none.
 pub fn value_of(text: &[u8]) -> Option<Value>
     ensures value { option_map written_in result ≡ value_of text.now }
     ensures valid { IfSome result (λ v. IsValue (written_in v)) }
@@ -134,7 +134,7 @@ pub fn value_of(text: &[u8]) -> Option<Value>
     }
 }
 
-/// The two operands of a text, where it has two.
+/// The two operands of a text, if it has exactly two.
 fn two_of(text: &[u8]) -> Option<(&[u8], &[u8])>
     ensures { option_map (λ p. (p.0.now, p.1.now)) result ≡ two_of (operands_from outside text.now) }
 {
@@ -146,8 +146,7 @@ fn two_of(text: &[u8]) -> Option<(&[u8], &[u8])>
     }
 }
 
-/// The two parts of a text in parentheses, with a comma between them, whatever they are. Nothing where a text isn't
-/// such.
+/// The two parts of a text in parentheses, with a comma between them, whatever they are. Nothing for any other text.
 pub fn parts_of(text: &[u8]) -> Option<(&[u8], &[u8])>
     ensures { option_map (λ p. (p.0.now, p.1.now)) result ≡ parts_of text.now }
 {

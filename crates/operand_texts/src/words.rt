@@ -74,7 +74,7 @@ pub fn is_word(text: &[u8], word: &[u8]) -> bool
     true
 }
 
-/// How many bytes the word in front has: those up to the first blank, or all.
+/// How many bytes the first word has: those up to the first blank, or all.
 pub fn word_len(text: &[u8]) -> usize
     ensures value { result ≡ word_len text.now }
     ensures within { result ≤ length text.now }
@@ -87,7 +87,7 @@ pub fn word_len(text: &[u8]) -> usize
     text.len()
 }
 
-/// How far the blanks at the front go.
+/// How many blanks a text begins with.
 fn blank_len(text: &[u8]) -> usize
     ensures value { result ≡ blank_len text.now }
     ensures within { result ≤ length text.now }
@@ -100,14 +100,14 @@ fn blank_len(text: &[u8]) -> usize
     text.len()
 }
 
-/// The word in front, up to the first blank; it may be empty.
+/// The first word, up to the first blank; it may be empty.
 pub fn word(text: &[u8]) -> &[u8]
     ensures { result.now ≡ word text.now }
 {
     &text[..word_len(text)]
 }
 
-/// What stands behind the word in front, from the first blank on.
+/// What follows the first word, from the first blank on.
 pub fn after_word(text: &[u8]) -> &[u8]
     ensures value { result.now ≡ after_word text.now }
     ensures within { length result.now ≤ length text.now }
@@ -115,7 +115,7 @@ pub fn after_word(text: &[u8]) -> &[u8]
     &text[word_len(text)..]
 }
 
-/// What stands behind the blanks in front, from the first byte on that is none.
+/// What follows the blanks at the start, from the first byte on that isn't blank.
 pub fn after_blanks(text: &[u8]) -> &[u8]
     ensures value { result.now ≡ after_blanks text.now }
     ensures within { length result.now ≤ length text.now }

@@ -1,4 +1,4 @@
--- Texts of which the end is known, one behind the other.
+-- Texts of which the end is known, one after the other.
 use Rattle.std.proofs.Common.{◌≡◌, ℕ, true, false, not, List, [], ◌++◌, Option, Some, None, is_some, refl, sym, subst, append_assoc, true≢false}
 use Rattle.std.specs.Prelude.{IfSome, codes}
 use Rattle.std.proofs.lemmas.List.{append-nil}
@@ -27,7 +27,7 @@ some_of old new a b x h = (x, h)
 pub some_of_ending : (old new : Option (List ℕ)) (a b : Gathered) (x : List ℕ) → PutsEnding old new a b x → PutsSome old new a b
 some_of_ending old new a b x (front, h) = (front ++ x, h)
 
--- behind some text
+-- after some text
 pub ending_behind : (old now new : Option (List ℕ)) (a b c : Gathered) (x : List ℕ) → PutsSome old now a b → Puts now new b c x → PutsEnding old new a c x
 ending_behind old now new a b c x (front, h) k = (front, puts_both old now new a b c front x h k)
 
@@ -81,7 +81,7 @@ told_none Nowhere (Inside d) e f = absurd (true≢false f)
 told_none Nowhere (Fresh page) e f = absurd (true≢false f)
 told_none Nowhere Nowhere e f = refl
 
--- the place of a request, behind some text
+-- the place of a request, after some text
 pub place_behind : (s : Storage) (o : Obtain) (old now new : Option (List ℕ)) (a b c : Gathered) → PutsSome old now a b → TellsPlace s o now new b c → TellsPlace s o old new a c
 place_behind s o old now new a b c some told asks =
     let (its, count, place, fixed, none, ending) = told asks in

@@ -47,7 +47,7 @@ first_left s p w first h =
     let areas = free_areas (state_in_place s).subpools p in
     subst (λ (n : ℕ). AreLeft areas first (drop n areas)) (sym h.index) (all_left areas ((state_in_place s).subpools.free p) first (areas_are_runs s p))
 
--- what stands from an index on
+-- what follows from an index on
 pub at_index : (xs : List Run) (i j : ℕ) (r : Run) → Some r ≡ slice_get xs i → j ≡ i + 1 → drop i xs ≡ r ∷ drop j xs
 at_index [] i j r e next = absurd (let f : ◌≡◌ {A = Option Run} (Some r) None = e in cc)
 at_index (x ∷ xs) zero j r e next =

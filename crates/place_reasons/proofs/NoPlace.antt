@@ -1,4 +1,4 @@
--- A request that comes to look for a place has none just where its first cause is want of storage.
+-- A request that gets to look for a place has none exactly if its first cause is lack of storage.
 use Rattle.std.proofs.Common.{◌≡◌, ◌⊎◌, ℕ, Bool, true, false, not, ◌&&◌, ◌||◌, ◌==◌, nat_lt, ◌↔◌, is_none, Option, Some, None, ◌∷◌, [], refl, subst, sym, ◌∙◌, inl, inr, true≢false}
 use Rattle.vsm_model.specs.declared.causes.Cause.{Cause}
 use Rattle.vsm_model.specs.declared.causes.Cause.TheVariants.{UnsupportedSubpool, SubpoolNotAllowed, BadLength, TooManyNames, NoStorage}
@@ -10,7 +10,7 @@ use Rattle.vsm_model.specs.Services.{maximum, minimum}
 use Rattle.vsm_model.specs.State.{State}
 use Rattle.place_reasons.specs.Places.{asks_for_place, NoPlaceIsWantOfStorage}
 
--- none of these holds, or the first that does is want of storage
+-- none of these holds, or the first that does is lack of storage
 abbrev Looks : Option Cause → Type 0
 Looks cause = (cause ≡ None) ⊎ (cause ≡ Some NoStorage)
 

@@ -13,7 +13,7 @@ use Rattle.vsm_model.specs.State.{State}
 use Rattle.vsm_model.specs.Subpools.{same_subpool}
 use Rattle.place_reasons.specs.Searches.{is_beside, lesser}
 
--- None before a number passes, nor from there to the end of its page, if the test looks at pages alone.
+-- None before a number passes, nor from there to the end of its page, if the test looks only at pages.
 pub none_on_page : (f : ℕ → Bool) (first at next : ℕ) → ((d : ℕ) → first ≤ d → d < at → f d ≡ false) → f at ≡ false
     → ((d : ℕ) → at ≤ d → d < next → f d ≡ f at) → (d : ℕ) → first ≤ d → d < next → f d ≡ false
 none_on_page f first at next none here same d from below = elim (le_or_lt at d) [
@@ -36,7 +36,7 @@ not_inside d r h = grind (arith, common_steps)
 before_it : (d : ℕ) (r : Run) → d < r.start → inside d r ≡ false
 before_it d r h = grind (arith, common_steps)
 
--- a run that ends before the first number is left behind
+-- a run that ends before the first number is passed
 pub less_left : (rs left rest : List Run) (first : ℕ) (r : Run) → left ≡ r ∷ rest → r.start + r.len ≤ first → AreLeft rs first left → AreLeft rs first rest
 less_left rs left rest first r e ends h = record {
   low = r.start + r.len + 1;

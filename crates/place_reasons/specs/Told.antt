@@ -1,4 +1,4 @@
--- What is told of the place of an area: lines of text that end in the place, or in that there is none.
+-- What is said of the place of an area: lines of text that end in the place, or in that there is none.
 use Rattle.std.specs.Prelude.{◌≡◌, ◌↔◌, ℕ, ◌*◌, ◌-◌, ◌^◌, min, Bool, true, not, List, [], ◌++◌, Option, Some, None}
 use Rattle.std.specs.Prelude.{codes, unwrap_or}
 use Rattle.vsm_model.specs.declared.services.Obtain.{Obtain}
@@ -19,11 +19,11 @@ use Rattle.place_reasons.specs.Places.{asks_for_place}
 abbrev pub address_text : ℕ → List ℕ
 address_text address = hexadecimal 8 (min address (2 ^ 32 - 1))
 
--- how a place is told, where there is one
+-- the text of a place, if there is one
 abbrev pub found_text : Place → List ℕ
 found_text (Inside d) = codes "fits: the lowest place is " ++ address_text (8 * d) ++ codes "\n"
 found_text (Fresh page) =
-    codes "the lowest unassigned pages that are as many in a row begin at " ++ address_text (4096 * page) ++ codes "\n"
+    codes "the lowest run of enough unassigned pages begins at " ++ address_text (4096 * page) ++ codes "\n"
 found_text Nowhere = []
 
 -- or that there is none
@@ -32,12 +32,12 @@ place_text (Inside d) = found_text (Inside d)
 place_text (Fresh page) = found_text (Fresh page)
 place_text Nowhere = codes "  no place\n"
 
--- the place on a side, where that is looked at
+-- the place on a side, if that is searched
 abbrev pub option_place : Option SideReason → Place
 option_place None = Nowhere
 option_place (Some r) = side_place r
 
--- Some text follows all text before it; and ends in this one.
+-- Some text that ends in this one follows all text before it.
 abbrev pub PutsEnding : Option (List ℕ) → Option (List ℕ) → Gathered → Gathered → List ℕ → Type 0
 PutsEnding old new before after last = (front : List ℕ) × Puts old new before after (front ++ last)
 
@@ -49,9 +49,9 @@ pub record TellsSide (old new : Option (List ℕ)) (before after : Gathered) (it
   pub place : PutsEnding old new before after (found_text its)
   pub found : answer ≡ not (is_nowhere its)
 
--- If a request comes to look for a place, what is put ends in the place that the plain machine gives to as many
--- doublewords as it gives the request: the greatest number that has a place, or its fewest if none has; or in that
--- there is none, just if the request has no such number.
+-- If a request gets to look for a place, what is put ends in the place that the plain machine gives to the number of
+-- doublewords that it gives the request: the greatest number that has a place, or its fewest if none has; or in that
+-- there is none, exactly if the request has no such number.
 abbrev pub TellsPlace : Storage → Obtain → Option (List ℕ) → Option (List ℕ) → Gathered → Gathered → Type 0
 TellsPlace s o old new before after =
     asks_for_place o ≡ true

@@ -22,7 +22,7 @@ pub fn area_of(r: Release) -> Run
     }
 }
 
-/// Whether a page is one of so many from the first on.
+/// Whether a page is one of that number from the first on.
 fn is_among(first: u32, count: u32, page: u32) -> bool
     requires { first + count < 2 ^ 32 }
     ensures { result ≡ among first count page }
@@ -142,14 +142,4 @@ pub fn first_not_taken(storage: &Storage, subpool: Subpool, area: Run) -> Option
         first_free(storage, subpool, area),
         first_beside(storage, subpool, area),
     )
-}
-
-/// The first number of both runs.
-pub fn first_of_both(run: Run, other: Run) -> Option<u32> {
-    let first = run.start.max(other.start);
-    let end = run
-        .start
-        .saturating_add(run.len)
-        .min(other.start.saturating_add(other.len));
-    if first < end { Some(first) } else { None }
 }

@@ -1,5 +1,6 @@
-//! Which of some bytes are free, told.
-ghost use Rattle.std.specs.Prelude.{◌+◌, ◌^◌, ◌≤◌};
+//! Which of some bytes are free, as text.
+ghost use Rattle.std.specs.Prelude.{◌≡◌, ◌+◌, ◌^◌, ◌≤◌};
+ghost use Rattle.place_reasons.specs.Pieces.{bytes_word};
 ghost use Rattle.place_reasons.specs.Told.{PutsSome};
 
 use crate::areas::first_free;
@@ -9,8 +10,10 @@ use storage_core::{Run, Storage};
 use text_output::Gathered;
 use vsm_model::geometry::PAGE_DOUBLEWORDS;
 
-/// The word for so many bytes.
-pub fn bytes_word(count: u32) -> &'static str {
+/// The word for a number of bytes.
+pub fn bytes_word(count: u32) -> &'static str
+    ensures { result.now ≡ bytes_word count }
+{
     if count == 1 { " byte" } else { " bytes" }
 }
 

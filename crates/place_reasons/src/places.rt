@@ -5,12 +5,12 @@ ghost use Rattle.vsm_model.specs.Obtaining.{longest, place_for};
 ghost use Rattle.vsm_model.specs.Regions.{doublewords};
 ghost use Rattle.vsm_model.specs.Services.{minimum};
 ghost use Rattle.storage_core.specs.Meaning.{settings_of, state_of};
-ghost use Rattle.place_reasons.specs.Places.{asks_for_place, sides_place};
+ghost use Rattle.place_reasons.specs.Places.{asks_for_place, extent_asked, sides_place};
 
 use storage_core::{Boundary, Lengths, Location, Obtain, SideReason, Storage};
 use vsm_model::geometry::LAST_SUBPOOL;
 
-/// What each side of the line that is looked at has for an area: above the line first, where it may be there.
+/// What each side of the line that is searched has for an area: above the line first, if it may be there.
 #[derive(Clone, Copy)]
 pub(crate) struct LengthSides {
     /// The doublewords that a place is looked for, and the boundary that they begin on.
@@ -20,8 +20,10 @@ pub(crate) struct LengthSides {
     pub(crate) second: Option<SideReason>,
 }
 
-/// The request that is made for an extent of so many cells of a size in bytes, in a subpool of this number.
-pub fn extent_asked(cells: u32, size: u32, number: u32, location: Location) -> Obtain {
+/// The request for an extent of a number of cells of a size in bytes, in a subpool of this number.
+pub fn extent_asked(cells: u32, size: u32, number: u32, location: Location) -> Obtain
+    ensures { result ≡ extent_asked cells size number location }
+{
     Obtain {
         lengths: Lengths::Fixed(cells.saturating_mul(size)),
         number,
@@ -42,7 +44,7 @@ fn least_length(lengths: Lengths) -> u32
     }
 }
 
-/// Whether a request comes as far as looking for a place: its number can be asked for, and its lengths are in order.
+/// Whether a request gets as far as looking for a place: its number can be asked for, and its lengths are in order.
 fn asks_for_place(o: Obtain) -> bool
     ensures { result ≡ asks_for_place o }
 {
@@ -50,11 +52,10 @@ fn asks_for_place(o: Obtain) -> bool
     o.number <= LAST_SUBPOOL && least != 0 && least <= o.lengths.maximum()
 }
 
-/// What a request finds on the sides of the line; `None` if it doesn't come to look for a place, since its number can't
-/// be asked for, or a length is bad. No place is found just if the request wants storage.
+/// What a request finds on the sides of the line; `None` if it doesn't get to look for a place, since its number can't
+/// be asked for, or a length is bad. No place is found exactly if the request lacks storage.
 ///
-/// Looked at is a place for the length that the request is given: of two bounds for the greatest that has one, else for
-/// the least.
+/// The place is for the length that the request is given: with two bounds the greatest that has one, else the least.
 pub(crate) fn sides_for(storage: &Storage, o: Obtain) -> Option<LengthSides>
     ensures asked { is_some result ≡ asks_for_place o }
     ensures count { IfSome result (λ r. r.count

@@ -1,4 +1,4 @@
-//! What each side of the line has for an area, told.
+//! What each side of the line has for an area, as text.
 ghost use Rattle.std.specs.Prelude.{IfSome};
 ghost use Rattle.vsm_model.specs.Areas.{Inside, Fresh};
 ghost use Rattle.storage_plans.specs.Reasons.{side_place};
@@ -15,7 +15,7 @@ use storage_core::{Boundary, Obtain, Residence, SideReason, Storage, Subpool, Su
 use text_output::{Gathered, put_hexadecimal};
 use vsm_model::geometry::{PAGE_BYTES, PAGE_DOUBLEWORDS};
 
-/// How a side is called.
+/// The name of a side.
 fn side_word(side: Residence) -> &'static str {
     match side {
         Residence::Below => "  below: ",
@@ -102,14 +102,14 @@ fn put_inside<W: Write>(
     }
 }
 
-/// Puts how many pages are wanted on a side.
+/// Puts how many pages are needed on a side.
 fn put_wanted<W: Write>(gathered: &mut Gathered, writer: &mut W, side: Residence, pages: u32)
     ensures { PutsSome (W.contents writer.old) (W.contents writer.new) gathered.old gathered.new }
 {
     let word = if pages == 1 {
-        " page wanted; "
+        " page needed; "
     } else {
-        " pages wanted; "
+        " pages needed; "
     };
     put_pieces(
         gathered,
@@ -129,13 +129,13 @@ fn put_run<W: Write>(gathered: &mut Gathered, writer: &mut W, page: u32)
 {
     gathered.put(
         writer,
-        b"the lowest unassigned pages that are as many in a row begin at ",
+        b"the lowest run of enough unassigned pages begins at ",
     );
     put_hexadecimal(gathered, writer, 8, PAGE_BYTES.saturating_mul(page));
     gathered.put(writer, b"\n");
 }
 
-/// Puts what the unassigned pages on a side have for so many doublewords.
+/// Puts what the unassigned pages on a side have for that number of doublewords.
 fn put_fresh<W: Write>(gathered: &mut Gathered, writer: &mut W, count: u32, reason: SideReason)
     ensures some { PutsSome (W.contents writer.old) (W.contents writer.new) gathered.old gathered.new }
     ensures place { IfSome reason.fresh (λ page. PutsEnding (W.contents writer.old) (W.contents writer.new)
@@ -161,7 +161,7 @@ fn put_fresh<W: Write>(gathered: &mut Gathered, writer: &mut W, count: u32, reas
     }
 }
 
-/// Puts what a side has; `true` where it has a place, which ends the search.
+/// Puts what a side has; `true` if it has a place, which ends the search.
 fn put_side<W: Write>(
     gathered: &mut Gathered,
     writer: &mut W,
@@ -180,7 +180,7 @@ fn put_side<W: Write>(
     reason.fresh.is_some()
 }
 
-/// Puts what the second side has, where there is one; `true` where it has a place.
+/// Puts what the second side has, if there is one; `true` if it has a place.
 fn put_second<W: Write>(
     gathered: &mut Gathered,
     writer: &mut W,
@@ -222,8 +222,8 @@ fn put_sides<W: Write>(
 }
 
 /// Puts what the sides of the line have for an area that is asked for, or for the extent of a cell pool: lines that end
-/// in its place, or in that there is none. Nothing where the request doesn't come to look for a place, since its number
-/// can't be asked for, or a length is bad. Of two bounds it's the place of the greatest length that has one.
+/// in its place, or in that there is none. Nothing if the request doesn't get to look for a place, since its number
+/// can't be asked for, or a length is bad. With two bounds it's the place of the greatest length that has one.
 pub fn put_place<W: Write>(gathered: &mut Gathered, writer: &mut W, storage: &Storage, o: Obtain)
     ensures some { PutsSome (W.contents writer.old) (W.contents writer.new) gathered.old gathered.new }
     ensures place { TellsPlace storage.now o (W.contents writer.old) (W.contents writer.new)

@@ -1,4 +1,4 @@
-//! What the end of a task lets go, and what stays, told.
+//! What the end of a task releases, and what stays, as text.
 ghost use Rattle.place_reasons.specs.Told.{PutsSome};
 
 use crate::pieces::{Piece, put_line};
@@ -43,8 +43,8 @@ fn taken_bytes(storage: &Storage, subpool: Subpool) -> u64 {
     8 * has.saturating_sub(lacks)
 }
 
-/// Puts what becomes of a subpool at the end of a task and of those below it: it goes with its owner, with the bytes that
-/// are taken in it; or it stays, if only its sharers end.
+/// Puts what becomes of a subpool at the end of a task and of those below it: it goes with its owner, with the bytes
+/// that are taken in it; or it stays, if only its sharers end.
 fn put_subpool_end<W: Write>(
     gathered: &mut Gathered,
     writer: &mut W,

@@ -1,4 +1,4 @@
--- Rows that ascend: what stands under a key, by where it stands.
+-- Rows that ascend: what is under a key, by where it is.
 use Rattle.std.proofs.Common.{◌≡◌, ℕ, true, false, ◌⊎◌, inl, inr, List, [], ◌∷◌, ◌++◌, Option, Some, None, refl, sym, ap, ◌∙◌}
 use Rattle.std.specs.Prelude.{map, if◌then◌else◌}
 use Rattle.vsm_elements.specs.Chain.{Link}
@@ -8,7 +8,7 @@ use Rattle.row_table.specs.RowTable.{row_of}
 use Rattle.row_table.proofs.RowLemmas.{either, not_both, same_parts, same_by, first, second, none_by}
 use Rattle.row_table.proofs.NextLemmas.{before_more, not_before, before_or}
 
--- a link that comes behind a key, or before it, is under another
+-- a link after a key, or before it, is under another
 pub other_behind : (a b : ℕ) (n : Link) → comes_before a b (first n) (second n) ≡ true → is_under a b n.words ≡ false
 other_behind a b n h = elim (either (is_under a b n.words)) [
   | inl p ↦ (let q : (first n ≡ a) × (second n ≡ b) = same_parts (first n) (second n) a b p in
@@ -31,7 +31,7 @@ pub none_before : (a b : ℕ) (ns : List Link) → AllBefore a b ns → row_in a
 none_before a b [] h = refl
 none_before a b (n ∷ ns) h = none_by a b n ns (other_before a b n h.0) (none_before a b ns h.1)
 
--- no link that doesn't come behind a key is under one that does
+-- no link that isn't after a key is under one that is
 pub none_passed : (a b x y : ℕ) (ns : List Link) → comes_before a b x y ≡ true → NoneBehind a b ns → row_in x y ns ≡ None
 none_passed a b x y [] e h = refl
 none_passed a b x y (n ∷ ns) e h = none_by x y n ns (go (either (is_under x y n.words))) (none_passed a b x y ns e h.1) where
@@ -78,7 +78,7 @@ pub ascends_right : (xs ys : List Link) → Ascends (xs ++ ys) → Ascends ys
 ascends_right [] ys h = h
 ascends_right (x ∷ xs) ys h = ascends_right xs ys h.1
 
--- a link in the middle: those before it come before, and those behind it behind
+-- a link in the middle: those before it have lower keys, and those after it higher ones
 pub before_middle : (n : Link) (xs ys : List Link) → Ascends (xs ++ n ∷ ys) → AllBefore (first n) (second n) xs
 before_middle n [] ys h = tt
 before_middle n (x ∷ xs) ys h = (at xs h.0, before_middle n xs ys h.1) where
@@ -86,7 +86,7 @@ before_middle n (x ∷ xs) ys h = (at xs h.0, before_middle n xs ys h.1) where
   at [] k = k.0
   at (z ∷ zs) k = at zs k.1
 
--- a list from a place on, whose first link doesn't come before the key: it has the key, or all come behind
+-- a list from a place on, whose first link isn't before the key: it has the key, or all are after it
 pub at_or_behind : (a b : ℕ) (n : Link) (ns : List Link) → Ascends (n ∷ ns) → comes_before (first n) (second n) a b ≡ false → AllBehind a b (n ∷ ns) ⊎ (is_under a b n.words ≡ true)
 at_or_behind a b n ns h e = go (before_or (first n) (second n) a b e) where
   go : (comes_before a b (first n) (second n) ≡ true) ⊎ ((a ≡ first n) × (b ≡ second n)) → AllBehind a b (n ∷ ns) ⊎ (is_under a b n.words ≡ true)

@@ -1,4 +1,4 @@
--- What the calls on a tree are on its rows.
+-- What the calls on a tree do to its rows.
 use Rattle.std.proofs.Common.{◌≡◌, ℕ, ◌+◌, ◌<◌, ◌≤◌, Bool, true, false, ◌==◌, inl, inr, List, [], ◌∷◌, ◌++◌, drop, Option, Some, None, IsSome, refl, sym, ap, ◌∙◌, subst, arith}
 use Rattle.std.specs.Prelude.{if◌then◌else◌, map, option_map}
 use Rattle.std.proofs.lemmas.Bool.Decides.{eqb_tells}
@@ -28,7 +28,7 @@ use Rattle.row_table.proofs.AscendLemmas.{single}
 use Rattle.row_table.proofs.KeyLemmas.{false_by, key_parts, row_by_item, links_ascend, map_parts}
 use Rattle.row_table.proofs.TableLemmas.{stored_in}
 
--- a row is taken out
+-- a row is removed
 module _ (s t : Store) (h r : ItemTree) (a b : ℕ) (item : Item) (kept : IsKept s h) (low : a < 256) (k : Takes s t h (key_of a b) item r) where
   abbrev xs : List Link
   xs = map link_in k.taken.before
@@ -69,7 +69,7 @@ module _ (s t : Store) (h r : ItemTree) (a b : ℕ) (item : Item) (kept : IsKept
   pub took_kept : IsKept t r
   took_kept = record { tree = k.tree; ascends = k.order }
 
--- whose the elements are once an item is taken out
+-- which elements are owned after an item was removed
 pub took_leaves : (s t : Store) (h r : ItemTree) (m : ℕ) (item : Item) → Takes s t h m item r → Leaves s t (owned s h) (item.id ∷ owned t r)
 took_leaves s t h r m item k = record {
   others = λ i p q. k.others i p;
@@ -79,7 +79,7 @@ took_leaves s t h r m item k = record {
   as_many = k.as_many;
 }
 
--- and once it is given back
+-- and after it was given back
 pub gave_leaves : (s u t : Store) (h r : ItemTree) (m : ℕ) (item : Item) → Takes s u h m item r → IsTree t r → owned t r ≡ owned u r → Updates u t item.id None → t.spare ≡ u.spare + 1 → Leaves s t (owned s h) (owned t r)
 gave_leaves s u t h r m item k tree own up more =
     let P : List ℕ → Type 0 = λ z. Leaves s t (owned s h) z in
@@ -98,7 +98,7 @@ gave_leaves s u t h r m item k tree own up more =
 pub left_same : (s u t : Store) (h r : ItemTree) (m : ℕ) (item : Item) → Takes s u h m item r → Updates u t item.id None → (i : ℕ) → among i (owned u r) ≡ true → at t i ≡ at u i
 left_same s u t h r m item k up i p = up.others i (λ e. not_both (among i (owned u r)) p (ap (λ (z : ℕ). among z (owned u r)) e ∙ k.out))
 
--- a row is put in
+-- a row is inserted
 module _ (s t : Store) (h r : ItemTree) (item : Item) (words : List ℕ) (back : seven item.words ≡ words) (kept : IsKept s h)
     (absent : row_in (word words 0) (word words 1) (links s h) ≡ None) (p : Puts s t h item r) where
   abbrev xs' : List Link
@@ -297,14 +297,14 @@ taken_first s u t x e had has fresh up fewer l = record {
   as_many = l.as_many ∙ up.as_many;
 }
 
--- what a table has is not an element that was not live
+-- what a table has is not an element that wasn't live
 pub fresh_out : (s : Store) (ids : List ℕ) (x : ℕ) → ((i : ℕ) → among i ids ≡ true → IsSome (at s i)) → at s x ≡ None → among x ids ≡ false
 fresh_out s ids x live fresh = false_by (among x ids) (λ m. gone (at s x) fresh (live x m))
 
 pub fresh_same : (s u : Store) (ids : List ℕ) (x : ℕ) (e : Option Element) → ((i : ℕ) → among i ids ≡ true → IsSome (at s i)) → at s x ≡ None → Updates s u x e → (i : ℕ) → among i ids ≡ true → at u i ≡ at s i
 fresh_same s u ids x e live fresh up i m = up.others i (λ y. gone (at s x) fresh (live x (ap (λ (z : ℕ). among z ids) (sym y) ∙ m)))
 
--- the first row is taken out, and its element given back
+-- the first row is removed, and its element given back
 pub gave_kept : (s u t : Store) (h r : ItemTree) (m : ℕ) (item : Item) → Takes s u h m item r → Updates u t item.id None → IsKept t r
 gave_kept s u t h r m item k up =
     let same : (i : ℕ) → among i (owned u r) ≡ true → at t i ≡ at u i = left_same s u t h r m item k up in

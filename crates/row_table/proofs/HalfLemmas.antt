@@ -1,4 +1,4 @@
--- A table by its parts, its last row, and lists of rows that are one.
+-- A table by its parts, its last row, and lists of rows that are equal.
 use Rattle.std.proofs.Common.{◌≡◌, ℕ, ◌≤◌, Bool, true, inl, inr, List, [], ◌∷◌, ◌++◌, length, Option, Some, None, refl, sym, ap, ◌∙◌, subst, arith}
 use Rattle.std.specs.Prelude.{map, option_map, if◌then◌else◌}
 use Rattle.vsm_elements.specs.Store.{Store}
@@ -65,7 +65,7 @@ pub rows_own : RowsOwn
 unfolding rows owned
 rows_own s q = owned_ids s q.tree ∙ ids_of (items s q.tree)
 
--- no row behind a key is under it, or under one before it
+-- no row after a key is under it, or under one before it
 none_behind : (a b : ℕ) (rs : List Row) → RowsBehind a b rs → row_among a b rs ≡ None
 none_behind a b [] h = refl
 none_behind a b (r ∷ rs) h = elim (either (is_under a b r.words)) [
@@ -81,7 +81,7 @@ behind_more x y a b (r ∷ rs) e h = (before_more x y a b (word r.words 0) (word
 first_among : (r : Row) (rs : List Row) → row_among (word r.words 0) (word r.words 1) (r ∷ rs) ≡ Some r
 first_among r rs = ap (λ (z : Bool). if z then Some r else row_among (word r.words 0) (word r.words 1) rs) (same_self (word r.words 0) (word r.words 1))
 
--- what is found is behind, where all are
+-- what is found is after it, if all are
 found_behind : (x y a b : ℕ) (rs : List Row) (r : Row) → RowsBehind x y rs → row_among a b rs ≡ Some r → comes_before x y a b ≡ true
 found_behind x y a b [] r h e = absurd (none_some None r refl e)
 found_behind x y a b (q ∷ rs) r h e = elim (either (is_under a b q.words)) [
@@ -93,7 +93,7 @@ found_behind x y a b (q ∷ rs) r h e = elim (either (is_under a b q.words)) [
 some_row : (x y : Row) → Some x ≡ Some y → x ≡ y
 some_row x y e = cc
 
--- the first rows are one
+-- the first rows are equal
 heads : (x y : Row) (xs ys : List Row) → AreInOrder (x ∷ xs) → AreInOrder (y ∷ ys) → ((a b : ℕ) → row_among a b (x ∷ xs) ≡ row_among a b (y ∷ ys)) → x ≡ y
 heads x y xs ys h k e = elim (either (is_under (word x.words 0) (word x.words 1) y.words)) [
   | inl p ↦ some_row x y (sym (first_among x xs) ∙ e (word x.words 0) (word x.words 1) ∙ ap (λ (z : Bool). if z then Some y else row_among (word x.words 0) (word x.words 1) ys) p)

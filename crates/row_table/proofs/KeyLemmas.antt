@@ -1,4 +1,4 @@
--- Rows as items: what stands under two numbers, and that the rows ascend.
+-- Rows as items: what is under two numbers, and that the rows ascend.
 use Rattle.std.proofs.Common.{◌≡◌, ℕ, ◌+◌, ◌/◌, ◌%◌, ◌<◌, ◌≤◌, Bool, true, false, ◌==◌, ◌⊎◌, inl, inr, List, [], ◌∷◌, ◌++◌, length, Option, Some, None, IsSome, refl, sym, ap, ◌∙◌, subst, arith}
 use Rattle.std.specs.Prelude.{if◌then◌else◌, map, option_map}
 use Rattle.std.proofs.lemmas.Bool.Decides.{eqb_tells}
@@ -101,7 +101,7 @@ item_of_row a b ns r e =
 pub none_item : (a b : ℕ) (ns : List Item) → a < 256 → row_in a b (map link_in ns) ≡ None → item_in (key_of a b) ns ≡ None
 none_item a b ns low e = none_of_map (item_in (key_of a b) ns) (sym (row_by_item a b ns low) ∙ e)
 
--- what `find` answers
+-- what `find` returns
 
 pub found_none : (a b : ℕ) (ns : List Item) (o : Option Item) → a < 256 → o ≡ item_in (key_of a b) ns → o ≡ None → None ≡ row_in a b (map link_in ns)
 found_none a b ns o low e f = sym (row_by_item a b ns low ∙ ap (option_map row_in_item) (sym e ∙ f))

@@ -1,4 +1,4 @@
--- A row that goes out of one table and into another.
+-- A row that moves from one table to another.
 use Rattle.std.proofs.Common.{◌≡◌, ℕ, ◌+◌, Bool, true, false, ◌||◌, ◌⊎◌, List, [], ◌∷◌, ◌++◌, length, Option, Some, None, IsSome, inl, inr, refl, sym, ap, ◌∙◌, subst, arith, length-append}
 use Rattle.std.specs.Prelude.{if◌then◌else◌}
 use Rattle.std.proofs.lemmas.Bool.Decides.{eqb_tells}
@@ -16,7 +16,7 @@ use Rattle.row_table.proofs.RowLemmas.{not_both, same_parts, same_sym}
 use Rattle.std.proofs.lemmas.Bool.{cond-true}
 use Rattle.row_table.proofs.TableLemmas.{tables_stand, tables_stay}
 
--- under another key than that of a row which is put in under it, nothing changes
+-- nothing changes under another key than that of a row inserted under it
 pub key_free : (f g : ℕ → ℕ → Option Row) (a b x y : ℕ) → ((v w : ℕ) → g v w ≡ (if same_key a b v w then None else f v w)) → (same_key x y a b ≡ true) ⊎ (f x y ≡ None) → g x y ≡ None
 key_free f g a b x y left (inl p) = left x y ∙ cond-true (same_key a b x y) None (f x y) (same_sym a b x y ∙ p)
 key_free f g a b x y left (inr p) = left x y ∙ go (same_key a b x y) where
@@ -24,7 +24,7 @@ key_free f g a b x y left (inr p) = left x y ∙ go (same_key a b x y) where
   go true = refl
   go false = p
 
--- a member is put in front, and in the middle
+-- a member is put first, and in the middle
 among_moved : (i x : ℕ) (xs ys : List ℕ) → among i (xs ++ x ∷ ys) ≡ among i (x ∷ xs ++ ys)
 among_moved i x xs ys = elim (eqb_tells i x) [
   | inl p ↦ ap (λ (j : ℕ). among j (xs ++ x ∷ ys)) p.1 ∙ here xs ∙ sym (ap (λ (j : ℕ). among j (x ∷ xs ++ ys)) p.1 ∙ among_first x (xs ++ ys))
@@ -34,7 +34,7 @@ among_moved i x xs ys = elim (eqb_tells i x) [
   here [] = among_first x ys
   here (z ∷ zs) = among_later x z (zs ++ x ∷ ys) (here zs)
 
--- the row of `q` goes out of it (`q1`), and into `to` (`to2`)
+-- the row of `q` leaves it (`q1`), and moves to `to` (`to2`)
 module _ (s s1 t : Store) (q q1 to to2 : RowTable) (r : Row) (a b : ℕ)
     (table : IsTable s q) (other : IsTable s to) (apart : Apart (owned s q) (owned s to))
     (table1 : IsTable s1 q1) (was : row s q a b ≡ Some r)
@@ -65,7 +65,7 @@ module _ (s s1 t : Store) (q q1 to to2 : RowTable) (r : Row) (a b : ℕ)
   module _ (table2 : IsTable t to2)
       (put : (x y : ℕ) → row t to2 x y ≡ (if is_under x y r.words then Some r else row s1 to x y))
       (leaves2 : Leaves s1 t (r.id ∷ owned s1 to) (owned t to2)) (same2 : t.spare ≡ s1.spare) where
-    -- the first table stands apart from what the second gets
+    -- the first table is apart from what the second gets
     first_apart : Apart (r.id ∷ owned s1 to) (owned s1 q1)
     first_apart i m = elim (eqb_tells i r.id) [
       | inl p ↦ ap (λ (j : ℕ). among j (owned s1 q1)) p.1 ∙ out

@@ -1,4 +1,4 @@
--- How keys come one behind the other.
+-- How keys follow one another.
 use Rattle.std.proofs.Common.{◌≡◌, ℕ, ◌<◌, Bool, true, false, ◌&&◌, ◌||◌, ◌==◌, nat_lt, ◌⊎◌, inl, inr, refl, sym, ap, ◌∙◌, arith}
 use Rattle.std.proofs.lemmas.Bool.{ltb-true, lt-ltb}
 use Rattle.row_table.specs.Rows.{comes_before}
@@ -43,7 +43,7 @@ not_before a b h = go (before_says a b a b h) where
   go (inl p) = omega (arith, p)
   go (inr p) = omega (arith, p.1)
 
--- a key is behind another, or it is that one, or it is before it
+-- a key is after another, or it is that one, or it is before it
 pub before_or : (a b x y : ℕ) → comes_before a b x y ≡ false → (comes_before x y a b ≡ true) ⊎ ((x ≡ a) × (y ≡ b))
 before_or a b x y h = go (either (comes_before x y a b)) where
   same : comes_before x y a b ≡ false → (x ≡ a) × (y ≡ b)

@@ -1,4 +1,4 @@
--- A row that is taken out and put in under other words.
+-- A row that is removed and inserted under other words.
 use Rattle.std.proofs.Common.{◌≡◌, ℕ, List, Some, None, sym}
 use Rattle.std.specs.Prelude.{if◌then◌else◌, option_map}
 use Rattle.vsm_elements.specs.Store.{Store}

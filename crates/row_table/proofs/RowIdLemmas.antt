@@ -18,7 +18,7 @@ use Rattle.row_table.proofs.RowLemmas.{either, not_both, none_some, same_parts, 
 some_row : (x y : Row) → Some x ≡ Some y → x ≡ y
 some_row x y e = cc
 
--- what stands under a key in a list whose first link has another stands so in the whole
+-- what is under a key in a list after a first link under another is also under it in the whole
 later : (n : Link) (ns : List Link) (a b : ℕ) (r : Row) → row_in (word n.words 0) (word n.words 1) ns ≡ None → row_in a b ns ≡ Some r → row_in a b (n ∷ ns) ≡ Some r
 later n ns a b r none e = elim (either (is_under a b n.words)) [
   | inl p ↦ (let k : (word n.words 0 ≡ a) × (word n.words 1 ≡ b) = same_parts (word n.words 0) (word n.words 1) a b p in
@@ -60,7 +60,7 @@ same_bool true b f g = sym (f refl)
 same_bool false true f g = absurd (not_both false (g refl) refl)
 same_bool false false f g = refl
 
--- where each row of one table has its id in another, and the other way round, they have the same ids
+-- if each row of one table has its id in another, and the other way round, they have the same ids
 pub same_ids : (s t : Store) (q r : RowTable) → IsTable s q → IsTable t r
     → ((a b : ℕ) (x : Row) → row s q a b ≡ Some x → (y : Row) × ((row t r a b ≡ Some y) × (y.id ≡ x.id)))
     → ((a b : ℕ) (y : Row) → row t r a b ≡ Some y → (x : Row) × ((row s q a b ≡ Some x) × (x.id ≡ y.id)))

@@ -89,7 +89,7 @@ module _ (s : Store) (h : ItemTree) (id : ℕ) (words : List ℕ) (kept : IsKept
             twice true p q r = refl
             twice false p q r = refl
 
--- A word of a row behind its key is the item's at the place before.
+-- A word of a row after its key is the item's at the place before.
 
 seven_set : (w : List ℕ) (p v : ℕ) → 2 ≤ p → seven (slice_set w (p - 1) v) ≡ slice_set (seven w) p v
 seven_set w zero v h = absurd (omega arith)

@@ -1,4 +1,4 @@
--- Walks over the rows: the first one, and the one behind a place.
+-- Walks over the rows: the first one, and the one after a place.
 use Rattle.std.proofs.Common.{◌≡◌, ◌≢◌, ℕ, zero, suc, ◌+◌, ◌<◌, ◌≤◌, ◌%◌, ◌/◌, Bool, true, inl, inr, List, [], ◌∷◌, ◌++◌, length, take, drop, get_or, Option, Some, None, IsSome, refl, sym, ap, ◌∙◌, subst, append_assoc, arith}
 use Rattle.std.specs.Prelude.{if◌then◌else◌, map, option_map, slice_get}
 use Rattle.std.proofs.lemmas.List.{take_more, take-append-drop}
@@ -54,7 +54,7 @@ got_within [] k n e = absurd (no e) where
 got_within (m ∷ ns) zero n e = omega arith
 got_within (m ∷ ns) (suc k) n e = omega (arith, got_within ns k n e)
 
--- the first item of a key or above it, by where that stands
+-- the first item of a key or above it, by where that is
 
 from_later : (k : ℕ) (x : Item) (xs : List Item) → key x < k → item_from k (x ∷ xs) ≡ item_from k xs
 from_later k x xs low = elim (leb_tells k (key x)) [
@@ -88,7 +88,7 @@ first_none (m ∷ ns) e = absurd (no (sym (first_is (m ∷ ns)) ∙ e)) where
   no : Some m ≡ None → ⊥
   no e = cc
 
--- a first row stands under its own numbers
+-- a first row is under its own numbers
 pub first_row : (ns : List Item) (n : Item) (r : Row) → item_from 0 ns ≡ Some n → r ≡ row_in_item n → row_in (word r.words 0) (word r.words 1) (map link_in ns) ≡ Some r
 first_row ns n r e same =
     let cut : ns ≡ n ∷ drop 1 ns = first_cut ns n e in
@@ -177,7 +177,7 @@ module _ (s : Store) (q : ItemTree) (kept : IsKept s q) (index before : ℕ) (pl
       (subst B (sym l.front) (below_join k l.xs (l.n ∷ []) (below_more (key l.n) k l.xs (omega (arith, k_is)) (below_middle l.xs l.n l.ys order)) (omega (arith, k_is), tt)))
       (subst F (sym l.rest) (subst G (sym k_is) (ascends_right l.xs (l.n ∷ l.ys) order).0))
 
-  -- the place behind the row that is read
+  -- the place after the row that is read
   pub next_stands : (n : Item) → slice_get ns index ≡ Some n → StandsAt s q (index + 1) n.id
   next_stands n e =
       let low : index < length ns = got_within ns index n e in

@@ -1,4 +1,4 @@
--- How rows stand as items of a tree: the first word of an item is the place of the row's two numbers in their order.
+-- Rows as items of a tree: the first word of an item is the place of the row's two numbers in their order.
 use Rattle.std.specs.Prelude.{ℕ, ◌+◌, ◌*◌, ◌/◌, ◌%◌, List, ◌∷◌, map, drop}
 use Rattle.vsm_elements.specs.Store.{Store}
 use Rattle.vsm_elements.specs.Chain.{Link}

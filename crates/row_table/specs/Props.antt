@@ -1,4 +1,4 @@
--- That a table stands has one proof at most.
+-- That elements hold a table has at most one proof.
 use Rattle.std.proofs.Props.{props}
 use Rattle.vsm_elements.specs.Store.{Store}
 use Rattle.item_tree.specs.declared.tree.ItemTree.{ItemTree}

@@ -1,6 +1,6 @@
 -- What a contract sees of a `RowTable`: the row under two numbers, and the elements that the table owns.
 --
--- The words are closed, so that nothing above depends on how the rows stand in the elements.
+-- The definitions are closed, so that nothing above depends on how the elements hold the rows.
 use Rattle.std.specs.Prelude.{◌≡◌, ℕ, List, Option, Some, map, drop}
 use Rattle.vsm_elements.specs.Store.{Store}
 use Rattle.vsm_elements.specs.Chain.{Link, element}
@@ -23,7 +23,7 @@ row_of n = record { id = n.id; words = n.words }
 unfoldable pub rows : Store → RowTable → List Row
 rows s q = map row_of (links s q.tree)
 
--- how many of the rows stand before the place
+-- how many of the rows are before the place
 unfoldable pub place_index : RowPlace → ℕ
 place_index place = place.index
 
@@ -31,7 +31,7 @@ place_index place = place.index
 unfoldable pub id_before : RowPlace → ℕ
 id_before place = place.before
 
--- the place is before, between or behind the table's rows
+-- the place is before, between or after the table's rows
 unfoldable pub IsPlace : Store → RowTable → RowPlace → Type 0
 IsPlace s q place = StandsAt s q.tree place.index place.before
 
@@ -39,7 +39,7 @@ IsPlace s q place = StandsAt s q.tree place.index place.before
 unfoldable pub owned : Store → RowTable → List ℕ
 owned s q = Trees.owned s q.tree
 
--- the table stands in these elements
+-- these elements hold the table
 unfoldable pub IsTable : Store → RowTable → Type 0
 IsTable s q = IsKept s q.tree
 

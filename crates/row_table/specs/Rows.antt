@@ -1,4 +1,4 @@
--- Rows as a list: what stands under two numbers.
+-- Rows as a list: what is under two numbers.
 use Rattle.std.specs.Prelude.{◌≡◌, ℕ, Bool, true, false, ◌&&◌, ◌==◌, List, [], ◌∷◌, Option, Some, None, slice_index_or}
 use Rattle.std.specs.Prelude.{◌||◌, ◌^◌, ◌<◌, nat_lt, if◌then◌else◌}
 use Rattle.vsm_elements.specs.Chain.{Link}
@@ -8,11 +8,11 @@ use Rattle.row_table.specs.declared.row.Row.{Row}
 abbrev pub word : List ℕ → ℕ → ℕ
 word words k = slice_index_or words k 0
 
--- the two keys are one
+-- the two keys are equal
 abbrev pub same_key : ℕ → ℕ → ℕ → ℕ → Bool
 same_key first second a b = (first == a) && (second == b)
 
--- the first key comes before the other: by the second number, and then by the first
+-- the first key is before the other: by the second number, and then by the first
 abbrev pub comes_before : ℕ → ℕ → ℕ → ℕ → Bool
 comes_before first second a b = nat_lt second b || ((second == b) && nat_lt first a)
 
@@ -25,17 +25,17 @@ abbrev pub row_in : ℕ → ℕ → List Link → Option Row
 row_in a b [] = None
 row_in a b (n ∷ ns) = if is_under a b n.words then Some (record { id = n.id; words = n.words }) else row_in a b ns
 
--- each of the links comes behind this key
+-- each of the links is after this key
 abbrev pub AllBehind : ℕ → ℕ → List Link → Type 0
 AllBehind a b [] = Unit {0}
 AllBehind a b (n ∷ ns) = (comes_before a b (word n.words 0) (word n.words 1) ≡ true) × AllBehind a b ns
 
--- each of them comes before it
+-- each of them is before it
 abbrev pub AllBefore : ℕ → ℕ → List Link → Type 0
 AllBefore a b [] = Unit {0}
 AllBefore a b (n ∷ ns) = (comes_before (word n.words 0) (word n.words 1) a b ≡ true) × AllBefore a b ns
 
--- none of them comes behind it
+-- none of them is after it
 abbrev pub NoneBehind : ℕ → ℕ → List Link → Type 0
 NoneBehind a b [] = Unit {0}
 NoneBehind a b (n ∷ ns) = (comes_before a b (word n.words 0) (word n.words 1) ≡ false) × NoneBehind a b ns
@@ -45,7 +45,7 @@ abbrev pub Ascends : List Link → Type 0
 Ascends [] = Unit {0}
 Ascends (n ∷ ns) = AllBehind (word n.words 0) (word n.words 1) ns × Ascends ns
 
--- each of the rows comes behind this key
+-- each of the rows is after this key
 abbrev pub RowsBehind : ℕ → ℕ → List Row → Type 0
 RowsBehind a b [] = Unit {0}
 RowsBehind a b (r ∷ rs) = (comes_before a b (word r.words 0) (word r.words 1) ≡ true) × RowsBehind a b rs
@@ -75,17 +75,17 @@ abbrev pub last_row : List Row → Option Row
 last_row [] = None
 last_row (r ∷ rs) = Some (row_or r (last_row rs))
 
--- no two rows stand under the same numbers
+-- no two rows are under the same numbers
 abbrev pub Single : List Link → Type 0
 Single [] = Unit {0}
 Single (n ∷ ns) = (row_in (word n.words 0) (word n.words 1) ns ≡ None) × Single ns
 
--- the first of the two that is there
+-- the first of the two that exists
 abbrev pub either_of : {A : Type 0} → Option A → Option A → Option A
 either_of None y = y
 either_of (Some x) y = Some x
 
--- both numbers are such as a row can have
+-- both numbers are in the range of a row's
 pub record IsInRange (words : List ℕ) : Type 0 where
   pub first : word words 0 < 256
   pub second : word words 1 < 2 ^ 24

@@ -1,4 +1,4 @@
-//! A table by its parts: a row, and the tables of those before and behind it; and its last row.
+//! A table by its parts: a row, and the tables of those before and after it; and its last row.
 
 ghost use Rattle.std.specs.Prelude.{◌≡◌, ◌+◌, ◌≤◌, ◌++◌, ◌∷◌, [], length, IfSome, IfNone};
 ghost use Rattle.row_table.specs.Rows.{last_row};
@@ -9,8 +9,8 @@ use crate::row::Row;
 use crate::table::RowTable;
 use vsm_elements::Elements;
 
-/// A row of a table, with the tables of the rows before and behind it. They stand in the table's elements, and are read
-/// alone.
+/// A row of a table, with the tables of the rows before and after it. The table's elements hold these, and they are
+/// only read.
 #[derive(Clone, Copy)]
 pub struct RowPart {
     pub before: RowTable,
@@ -20,7 +20,7 @@ pub struct RowPart {
 
 #[tactic(auto, unfolding(crate::specs::RowTable::rows, crate::specs::RowTable::IsTable))]
 impl RowTable {
-    /// A row somewhere in the middle, with what stands before and behind it; `None` where the table has none. So all
+    /// A row somewhere in the middle, with what is before and after it; `None` if the table has none. In this way all
     /// rows are read at the cost of one element each.
     pub fn part(&self, elements: &Elements) -> Option<RowPart>
         requires { IsTable elements.now self.now }

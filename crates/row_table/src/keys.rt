@@ -1,5 +1,5 @@
-//! Rows as items of a tree. An item's key is the place of the row's two numbers in their order: the second number
-//! counts 256 times the first, which is below that.
+//! Rows as items of a tree. An item's key is the place of the row's two numbers in their order: the second number times
+//! 256, plus the first, which is below 256.
 
 ghost use Rattle.std.specs.Prelude.{◌≡◌, ℕ, ◌^◌, ◌<◌, ◌∷◌, drop};
 ghost use Rattle.row_table.specs.Rows.{word, IsInRange};
@@ -58,7 +58,7 @@ pub(crate) fn item_words(words: [u32; 7]) -> [u32; 6]
     [key, words[2], words[3], words[4], words[5], words[6]]
 }
 
-// The words of a row behind its key.
+// The words of a row after its key.
 pub(crate) fn words_behind_key(words: [u32; 7]) -> [u32; 5]
     ensures words { result ≡ drop 2 words }
     ensures back { (key : ℕ) → key ≡ key_of (word words 0) (word words 1) → word words 0 < 256

@@ -13,9 +13,9 @@ use crate::table::RowTable;
 use vsm_elements::Elements;
 
 #[tactic(auto, unfolding(
-// what stands in the elements
+// what the elements hold
 crate::specs::RowTable::row, crate::specs::RowTable::rows, crate::specs::RowTable::IsTable,
-// where a walk stands
+// where a walk is
 crate::specs::RowTable::place_index, crate::specs::RowTable::id_before, crate::specs::RowTable::IsPlace))]
 impl RowTable {
     /// The place before the first row of any table.
@@ -26,7 +26,7 @@ impl RowTable {
         RowPlace::FRONT
     }
 
-    // The least key that an item behind the place can have.
+    // The least key that an item after the place can have.
     fn key_behind(&self, elements: &Elements, place: RowPlace) -> u64
         requires table { IsTable elements.now self.now }
         requires place { IsPlace elements.now self.now place }
@@ -40,8 +40,8 @@ impl RowTable {
         u64::from(last.words[0]) + 1
     }
 
-    /// The row behind the place, and the place behind that row; `None` behind the last. From the first place on, the
-    /// rows come in ascending order, each at the cost of a look-up.
+    /// The row after the place, and the place after that row; `None` after the last. From the first place on, the rows
+    /// follow in ascending order, each at the cost of a look-up.
     pub fn next_row(&self, elements: &Elements, place: RowPlace) -> Option<(Row, RowPlace)>
         requires table { IsTable elements.now self.now }
         requires place { IsPlace elements.now self.now place }

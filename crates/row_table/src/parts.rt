@@ -14,7 +14,7 @@ use vsm_elements::{Elements, Id};
 
 #[tactic(auto, unfolding(crate::specs::RowTable::row, crate::specs::RowTable::owned, crate::specs::RowTable::IsTable))]
 impl RowTable {
-    // Takes the row under these two numbers out. Its element stays live, and is no table's.
+    // Removes the row under these two numbers. Its element stays live, and is no table's.
     pub(crate) fn take_out(&mut self, elements: &mut Elements, first: u32, second: u32) -> Row
         requires table { IsTable elements.old self.old }
         requires there { IsSome (row elements.old self.old first second) }
@@ -33,7 +33,7 @@ impl RowTable {
         row_of(item)
     }
 
-    // Puts a row with these words in at its place, with a live element that is not the table's.
+    // Inserts a row with these words at its place, with a live element that is not the table's.
     pub(crate) fn put_in(&mut self, elements: &mut Elements, id: Id, words: [u32; 7])
         requires table { IsTable elements.old self.old }
         requires range { IsInRange words }

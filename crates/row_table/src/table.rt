@@ -9,19 +9,19 @@ use crate::row::Row;
 use item_tree::ItemTree;
 use vsm_elements::{Element, Elements, Id};
 
-/// The head of a table of rows, of which no two begin with the same two words.
+/// The head of a table of rows, no two of which begin with the same two words.
 ///
-/// It is kept by value. Every call is handed the elements that it stands in, and changes those of its own
-/// alone. A table that is no longer wanted is discarded: its elements stay live until then.
+/// It is kept by value. Every call is passed the elements that hold it, and changes only its own. A table that is no
+/// longer needed is discarded: its elements stay live until then.
 #[derive(Clone, Copy)]
 pub struct RowTable {
     pub(crate) tree: ItemTree,
 }
 
 #[tactic(auto, unfolding(
-// what stands in the elements
+// what the elements hold
 crate::specs::RowTable::row, crate::specs::RowTable::rows, crate::specs::RowTable::words_of,
-// whose they are
+// which of them are its own
 crate::specs::RowTable::owned, crate::specs::RowTable::IsTable,
 // what a head is
 crate::specs::RowTable::table_of))]
@@ -78,7 +78,7 @@ impl RowTable {
         row_words(self.tree.get(elements, id).words)
     }
 
-    /// Some row of the table; `None` where it has none.
+    /// Some row of the table; `None` if it has none.
     pub fn any(&self, elements: &Elements) -> Option<Row>
         requires { IsTable elements.now self.now }
         ensures none { IfNone result (owned elements.now self.now ≡ []) }
@@ -92,7 +92,7 @@ impl RowTable {
         }
     }
 
-    /// A row with these words. Its key is not in the table.
+    /// Adds a row with these words. Its key is not in the table.
     ///
     /// It takes one element.
     pub fn insert(&mut self, elements: &mut Elements, words: [u32; 7]) -> Id
@@ -112,7 +112,7 @@ impl RowTable {
         id
     }
 
-    /// The row of this id gets other words under its key. It keeps its element and its place, and isn't looked for.
+    /// Gives the row of this id other words under its key. It keeps its element and its place, and isn't searched for.
     pub fn set_row(&self, elements: &mut Elements, id: Id, words: [u32; 7])
         requires table { IsTable elements.old self.now }
         requires row { option_map (λ r. r.id) (row elements.old self.now (word words 0) (word words 1)) ≡ Some id }
@@ -126,7 +126,7 @@ impl RowTable {
         self.tree.set_rest(elements, id, words_behind_key(words));
     }
 
-    /// The row of this id gets another word behind its key. Its old one is answered.
+    /// Sets a word of this id's row after its key, and returns the old one.
     pub fn swap_word(&self, elements: &mut Elements, id: Id, place: usize, value: u32) -> u32
         requires table { IsTable elements.old self.now }
         requires row { IsRow elements.old self.now id }
@@ -144,7 +144,7 @@ impl RowTable {
         self.tree.swap_word(elements, id, place - 1, value)
     }
 
-    /// The row of this id gets these four words at its end.
+    /// Sets the last four words of this id's row.
     pub fn set_last(&self, elements: &mut Elements, id: Id, four: [u32; 4])
         requires table { IsTable elements.old self.now }
         requires row { IsRow elements.old self.now id }
@@ -160,8 +160,8 @@ impl RowTable {
         self.tree.set_last(elements, id, four);
     }
 
-    /// The row under these two numbers gets other words, and keeps its element. Where its key changes, the new
-    /// one is not in the table.
+    /// Gives the row under these two numbers other words. It keeps its element. If its key changes, the new one is not
+    /// in the table.
     pub fn set_key(&mut self, elements: &mut Elements, first: u32, second: u32, words: [u32; 7])
         requires table { IsTable elements.old self.old }
         requires there { IsSome (row elements.old self.old first second) }
@@ -180,7 +180,7 @@ impl RowTable {
         self.put_in(elements, row.id, words);
     }
 
-    /// The row under these two numbers goes. Its element becomes a spare one.
+    /// Removes the row under these two numbers. Its element becomes a spare one.
     pub fn remove(&mut self, elements: &mut Elements, first: u32, second: u32)
         requires table { IsTable elements.old self.old }
         requires there { IsSome (row elements.old self.old first second) }
@@ -239,7 +239,7 @@ impl RowTable {
         }
     }
 
-    /// Takes some row out. Its element becomes a spare one.
+    /// Removes some row. Its element becomes a spare one.
     pub fn pop(&mut self, elements: &mut Elements) -> Option<Row>
         requires { IsTable elements.old self.old }
         ensures table { IsTable elements.new self.new }

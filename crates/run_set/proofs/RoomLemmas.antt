@@ -1,4 +1,4 @@
--- Where a length fits, run by run: no number of a run with less room begins a fit.
+-- The fits of a length, run by run: no number of a run with less room begins a fit.
 use Rattle.std.proofs.Common.{◌≡◌, ℕ, zero, suc, ◌+◌, ◌-◌, ◌*◌, ◌/◌, ◌%◌, ◌<◌, ◌≤◌, max, Bool, true, false, ◌||◌, ◌⊎◌, inl, inr, List, [], ◌∷◌, length, Some, refl, sym, ap, ◌∙◌, arith, subst}
 use Rattle.std.specs.Prelude.{slice_get}
 use Rattle.std.proofs.lemmas.Option.{slice_get-get_or}
@@ -88,13 +88,13 @@ module _ (zs : List Run) (sound : Spaced 0 zs) where
         go (inr q) = none_yet i q a h f
         go (inl q) = absurd (omega (arith, g.none_before i q l, room_fits on_page i a len boundary region (omega (arith, l, g.within)) h b f))
 
-      -- nowhere, once every run was looked at
+      -- nowhere, after every run was looked at
       pub none_fits : length zs ≤ place → (a : ℕ) → ¬ Fits set region a len boundary
       none_fits all a f =
           let r : (i : ℕ) × (i < length zs) × (inside a (run_at zs i) ≡ true) = held_at a zs (f.held a (omega arith) (omega arith)) in
           none_yet r.0 (omega (arith, r.1, all)) a r.2 f
 
-      -- or where the next run begins behind the region
+      -- or if the next run begins after the region
       pub none_beyond : (y : Run) → place < length zs → slice_get zs place ≡ Some y → region.start + region.len ≤ y.start → (a : ℕ) → ¬ Fits set region a len boundary
       none_beyond y l e behind a f = go (le_or_lt place r.0) where
         r : (i : ℕ) × (i < length zs) × (inside a (run_at zs i) ≡ true)
@@ -190,7 +190,7 @@ module _ (zs : List Run) (sound : Spaced 0 zs) where
           let same : i ≡ k = omega (arith, p, q, next) in
           omega (arith, size, lies_in zs k y sound e l boundary region first end clip a (suc n) (omega arith) (ap (inside a) (sym (ap (run_at zs) same ∙ y-at)) ∙ h) f)
 
-    -- runs that lie in the region whole
+    -- runs that lie entirely in the region
     module _ (from to : ℕ) (within : to ≤ length zs) (whole : (i : ℕ) → from ≤ i → i < to → (region.start ≤ (run_at zs i).start) × ((run_at zs i).start + (run_at zs i).len ≤ region.start + region.len)) where
       fits_whole : (i a n : ℕ) → from ≤ i → i < to → a % boundary ≡ 0 → (run_at zs i).start ≤ a → a + n ≤ (run_at zs i).start + (run_at zs i).len → Fits set region a n boundary
       fits_whole i a n p q on low high = record {

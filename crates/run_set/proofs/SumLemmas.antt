@@ -1,4 +1,4 @@
--- What the runs from a place to before another come to, and those on a side of a line.
+-- The sums of the runs from a place to before another, and of those on a side of a line.
 use Rattle.std.proofs.Common.{◌≡◌, ℕ, zero, suc, ◌+◌, ◌-◌, ◌%◌, ◌^◌, ◌<◌, ◌≤◌, ◌⊎◌, inl, inr, Bool, true, false, nat_lt, if◌then◌else◌, max, List, [], ◌∷◌, ◌++◌, length, take, drop, get_or, Some, refl, sym, ap, ◌∙◌, arith, subst}
 use Rattle.std.specs.Prelude.{slice_get}
 use Rattle.std.proofs.lemmas.Bool.{ltb-true, ltb-false}
@@ -66,12 +66,12 @@ module _ (zs : List Run) (sound : Spaced 0 zs) (line : ℕ) (end : Run) (starts 
         omega (arith, q, some)
     go (inr p) = omega (arith, last, apart_at 0 zs j (f.index - 1) sound p (omega (arith, l, found.seeks.within)))
 
-  -- where the run at the place doesn't begin before the line
+  -- if the run at the place doesn't begin before the line
   pub sides_here : line ≤ f.behind.start → (low_runs line zs ≡ take f.index zs) × (high_runs line zs ≡ drop f.index zs)
   sides_here high = sides_at line 0 zs f.index sound found.seeks.within before_place
       (λ low. (let e : f.behind.start ≡ (run_at zs f.index).start = ap (λ (r : Run). r.start) (found.next low) in omega (arith, e, high)))
 
-  -- and where it does: then there is one
+  -- and if it does: then there is one
   pub is_there : f.behind.start < line → f.index < length zs
   is_there low = go (le_or_lt (length zs) f.index) where
     go : (length zs ≤ f.index) ⊎ (f.index < length zs) → f.index < length zs
@@ -118,14 +118,14 @@ parts_of zs from to l =
     ∙ ap (λ (rs : List Run). total rs + total (drop from (take to zs))) first
     ∙ ap (λ (rs : List Run). total (take from zs) + total rs) rest
 
--- what a word has of them is all of them
+-- what a word holds of them is all of them
 pub word_is : (zs : List Run) → Spaced 0 zs → (k n : ℕ) → n ≡ total (take k zs) % 2 ^ 32 → n ≡ total (take k zs)
 word_is zs h k n e =
     let all : total zs ≡ total (take k zs) + total (drop k zs) = ap total (sym (take-append-drop k zs)) ∙ total-append (take k zs) (drop k zs) in
     let few : 0 + total zs ≤ max 0 (2 ^ 29) = few_from 0 zs h in
     omega (arith, e, all, few)
 
--- what the runs from a place to before another come to
+-- the sums of the runs from a place to before another
 
 abbrev pub part : List Run → ℕ → ℕ → List Run
 part zs from to = take (to - from) (drop from zs)
@@ -205,7 +205,7 @@ module _ (zs : List Run) (sound : Spaced 0 zs) (from to : ℕ) (low : from < to)
 pub no_less : (zs : List Run) → Spaced 0 zs → (from to before all : ℕ) → from ≤ to → before ≡ total (take from zs) % 2 ^ 32 → all ≡ total (take to zs) % 2 ^ 32 → before ≤ all
 no_less zs h from to before all l b a = omega (arith, parts_of zs from to l, word_is zs h from before b, word_is zs h to all a)
 
--- both sides in one
+-- both sides together
 
 pub both_numbers : (line : ℕ) (zs : List Run) → numbers_in (low_runs line zs) + numbers_in (high_runs line zs) ≡ numbers_in zs
 both_numbers line [] = refl
@@ -223,7 +223,7 @@ both_lengths line (z ∷ zs) = go (nat_lt z.start line) (both_lengths line zs) w
   go true e = omega (arith, e)
   go false e = omega (arith, e)
 
--- what the runs before a place and those from it on come to is what both sides do
+-- the sums of the runs before a place and of those from it on are those of both sides
 pub are_sides : (line : ℕ) (zs : List Run) (k n : ℕ) (low high : Sums) → k ≤ n → length zs ≡ n → low_runs line zs ≡ take k zs → high_runs line zs ≡ drop k zs
     → IsSumsOf (take (k - 0) (drop 0 zs)) low → IsSumsOf (take (n - k) (drop k zs)) high → IsSidesOf line zs (record { low = low; high = high })
 are_sides line zs k n low high l len lows highs a b =

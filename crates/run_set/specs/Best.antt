@@ -5,7 +5,7 @@ use Rattle.run_set.specs.Runs.{inside, contains}
 use Rattle.run_set.specs.Fits.{Fits}
 use Rattle.run_tree.specs.Searches.{run_at}
 
--- so many fit somewhere, and no more from a number of a run from one place to before another
+-- this many fit somewhere, and no more than that from a number of a run from one place to before another
 pub record IsBest (zs : List Run) (region : Run) (boundary from to most : ℕ) : Type 0 where
   pub reached : 0 < most → (a : ℕ) × Fits (λ n. contains n zs) region a most boundary
   pub greatest :

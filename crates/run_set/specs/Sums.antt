@@ -1,5 +1,6 @@
--- What some runs come to: how many numbers and how many runs there are, and the longest.
-use Rattle.std.specs.Prelude.{◌≡◌, ℕ, ◌+◌, ◌<◌, ◌≤◌, nat_lt, if◌then◌else◌, List, [], ◌∷◌, ◌++◌, length, slice_get, Some}
+-- The sums of some runs: how many numbers and how many runs there are, and the longest.
+use Rattle.std.specs.Prelude.{◌≡◌, ℕ, ◌+◌, ◌<◌, ◌≤◌, nat_lt, if◌then◌else◌}
+use Rattle.std.specs.Prelude.{List, [], ◌∷◌, ◌++◌, length, slice_get, Some}
 use Rattle.run_tree.specs.declared.run.Run.{Run}
 use Rattle.run_set.specs.declared.sums.SideSums.{SideSums}
 use Rattle.run_set.specs.declared.sums.Sums.{Sums}
@@ -23,8 +24,8 @@ pub record IsFirstLongest (rs : List Run) (i start len : ℕ) : Type 0 where
   pub is : slice_get rs i ≡ Some (record { start = start; len = len })
   pub before : (j : ℕ) (r : Run) → j < i → slice_get rs j ≡ Some r → r.len < len
 
--- That many numbers and runs there are; none is longer than the longest; and if this isn't 0, it begins at that number,
--- which is 0 if it is.
+-- There are that many numbers and runs; none is longer than the longest; and the first of that length begins at that
+-- number, which is 0 if the longest is 0.
 pub record IsSumsOf (rs : List Run) (s : Sums) : Type 0 where
   pub total : s.total ≡ numbers_in rs
   pub count : s.count ≡ length rs
@@ -32,7 +33,7 @@ pub record IsSumsOf (rs : List Run) (s : Sums) : Type 0 where
   pub first : 0 < s.longest → (i : ℕ) × IsFirstLongest rs i s.at s.longest
   pub none : s.longest ≡ 0 → s.at ≡ 0
 
--- those on both sides of a line, and all that begin before it come first
+-- those on both sides of a line; all that begin before it are first
 pub record IsSidesOf (line : ℕ) (rs : List Run) (s : SideSums) : Type 0 where
   pub low : IsSumsOf (low_runs line rs) s.low
   pub high : IsSumsOf (high_runs line rs) s.high

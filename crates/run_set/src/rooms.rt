@@ -23,7 +23,7 @@ impl RunSet {
         end.saturating_sub(first)
     }
 
-    // The greatest length of the runs that lie between two places, and in the region whole.
+    // The greatest length of the runs that lie between two places, and entirely in the region.
     fn room_between(
         &self,
         elements: &Elements,

@@ -12,21 +12,21 @@ use crate::run::Cover;
 use run_tree::{Run, RunTree};
 use vsm_elements::Elements;
 
-/// The head of a set of numbers below 2^29, whose maximal runs stand in elements.
+/// The head of a set of numbers below 2^29, whose maximal runs are kept in elements.
 ///
-/// It is kept by value. Every call is handed the elements that it stands in, and changes those of its own
-/// alone. A set that is no longer wanted is discarded: its elements stay live until then.
+/// It is kept by value. Every call is passed the elements that hold it, and changes only its own. A set that is no
+/// longer needed is discarded: its elements stay live until then.
 #[derive(Clone, Copy, Debug, PartialEq, Eq)]
 pub struct RunSet {
     pub(crate) tree: RunTree,
 }
 
 #[tactic(auto, unfolding(
-// what stands in the elements
+// what the elements hold
 crate::specs::RunSet::runs, crate::specs::RunSet::owned, crate::specs::RunSet::IsRunSet,
 // what a head is
 crate::specs::RunSet::set_of,
-// where a walk stands
+// where a walk is
 crate::specs::RunSet::place_index, crate::specs::RunSet::IsPlace))]
 impl RunSet {
     ghost use Rattle.run_set.specs.RunSet.{runs, holds, owned, set_of, place_index, IsRunSet, IsPlace};
@@ -62,10 +62,10 @@ impl RunSet {
         }
     }
 
-    /// Adds a run, of whose numbers none is in the set. It is joined to the runs that it touches.
+    /// Adds a run that has no number in the set. It is joined to the runs that it touches.
     ///
-    /// It takes one element, less one for each of the two numbers beside it that are in the set: where both are,
-    /// one is given back.
+    /// It takes one element, less one for each of the two numbers next to it that are in the set: if both are, one is
+    /// given back.
     pub fn insert(&mut self, elements: &mut Elements, run: Run)
         requires set { IsRunSet elements.old self.old }
         requires range { (0 < run.len) × (run.start + run.len ≤ 2 ^ 29) }
@@ -102,11 +102,10 @@ impl RunSet {
         }
     }
 
-    /// Takes a run out, of whose numbers all are in the set. What is left of the maximal run that holds it
-    /// are none, one or two runs.
+    /// Removes a run whose numbers are all in the set. None, one or two runs are left of the maximal run that held it.
     ///
-    /// It takes one element for each of the two numbers beside it that are in the set, less one: where neither is,
-    /// one is given back.
+    /// It takes one element for each of the two numbers next to it that are in the set, less one: if neither is, one is
+    /// given back.
     pub fn remove(&mut self, elements: &mut Elements, run: Run)
         requires set { IsRunSet elements.old self.old }
         requires range { (0 < run.len) × (run.start + run.len ≤ 2 ^ 29) }
@@ -182,7 +181,7 @@ impl RunSet {
         }
     }
 
-    /// The first number from this one on that isn't in the set: where this one is, the end of its run.
+    /// The first number from this one on that isn't in the set: if this one is, the end of its run.
     pub fn end_from(&self, elements: &Elements, n: u32) -> u32
         requires { IsRunSet elements.now self.now }
         ensures { IsEndFrom (λ m. holds elements.now self.now m) n result }
@@ -215,8 +214,8 @@ impl RunSet {
         RunPlace::FRONT
     }
 
-    /// The maximal run behind the place, and the place behind that run; `None` behind the last. From the first place
-    /// on, the runs come in ascending order, each at the cost of a descent.
+    /// The maximal run after the place, and the place after that run; `None` after the last. From the first place on,
+    /// the runs follow in ascending order, each at the cost of a descent.
     pub fn next_run(&self, elements: &Elements, place: RunPlace) -> Option<(Run, RunPlace)>
         requires set { IsRunSet elements.now self.now }
         requires place { IsPlace elements.now self.now place }
@@ -265,8 +264,7 @@ impl RunSet {
         None
     }
 
-    /// The greatest length that a run of the set has in the region from a number on the boundary; 0 where
-    /// there is none.
+    /// The greatest length that a run of the set has in the region from a number on the boundary; 0 if there is none.
     pub fn longest(&self, elements: &Elements, boundary: u32, region: Run) -> u32
         requires set { IsRunSet elements.now self.now }
         requires asked { (0 < boundary) × (boundary ≤ 512) }

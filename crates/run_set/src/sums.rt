@@ -6,7 +6,7 @@ use crate::set::RunSet;
 use run_tree::Run;
 use vsm_elements::Elements;
 
-/// What some runs come to.
+/// The sums of some runs.
 #[derive(Clone, Copy, Debug, PartialEq, Eq)]
 pub struct Sums {
     /// How many numbers they have.
@@ -15,11 +15,11 @@ pub struct Sums {
     pub count: u32,
     /// How many numbers the longest has; 0 without runs.
     pub longest: u32,
-    /// The first number of the longest: of the first of those that are as long. 0 without runs.
+    /// The first number of the longest; if several are the longest, of the first one. 0 without runs.
     pub at: u32,
 }
 
-/// What the runs come to that begin before a line, and those that don't.
+/// The sums of the runs that begin before a line, and of those that don't.
 #[derive(Clone, Copy, Debug, PartialEq, Eq)]
 pub struct SideSums {
     pub low: Sums,
@@ -49,7 +49,7 @@ impl RunSet {
         }
     }
 
-    // What the runs from a place to before another come to.
+    // The sums of the runs from a place to before another.
     fn sums_between(&self, elements: &Elements, from: u32, to: u32) -> Sums
         requires kept { IsKept elements.now self.now.tree }
         requires place { (from ≤ to) × (to ≤ self.now.tree.count) }
@@ -78,13 +78,13 @@ impl RunSet {
 }
 
 #[tactic(auto, unfolding(
-// what stands in the elements
+// what the elements hold
 crate::specs::RunSet::runs, crate::specs::RunSet::IsRunSet))]
 impl RunSet {
     ghost use Rattle.run_set.specs.RunSet.{runs, IsRunSet};
 
-    /// What the runs come to that begin before a line, and those that don't, which come after these. It costs some
-    /// descents, however many runs there are.
+    /// The sums of the runs that begin before a line, and of those after them. It costs some descents, however many
+    /// runs there are.
     pub fn sums(&self, elements: &Elements, line: u32) -> SideSums
         requires { IsRunSet elements.now self.now }
         ensures { IsSidesOf line (runs elements.now self.now) result }

@@ -1,4 +1,4 @@
--- A node whose element says already what stands below it, before it does.
+-- A node whose element says in advance what is below it.
 use Rattle.std.proofs.Common.{◌≡◌, ◌≢◌, ℕ, zero, suc, ◌+◌, ◌<◌, List, [], ◌∷◌, ◌++◌, false, true, take, drop, get_or, set, Some, Option, refl, sym, ap, ◌∙◌, arith, IsSome, subst, inl, inr}
 use Rattle.std.specs.Prelude.{unwrap_or}
 use Rattle.std.proofs.lemmas.List.{get_or-take}
@@ -17,7 +17,7 @@ use Rattle.run_tree.specs.Trees.{fitted, runs, owned, IsTree, Opens, Joins, Puts
 use Rattle.run_tree.proofs.Lists.{in_left, in_right, in_middle, out_cons, not_middle}
 use Rattle.run_tree.proofs.TreeLemmas.{tree_kept, joins, top_in}
 
--- where all elements lead on to the same ones, with the same runs, the same is read
+-- if all elements lead on to the same ones, with the same runs, the same is read
 
 record Leads (a b : Element) : Type 0 where
   pub next : b.next ≡ a.next
@@ -101,7 +101,7 @@ module _ (s u : Store) (h : RunTree) (n : RunNode) (o : Opens s h n) (l : IsLink
     as_many = up.as_many;
   }
 
--- it is so
+-- the tree is as announced
 
 pub stands : (u t : Store) (left : RunTree) (id : ℕ) (run : Run) (right h : RunTree) (rooms : Rooms)
     → at u id ≡ Some (record { next = left.root; words = right.root ∷ left.count ∷ run.start ∷ run.len ∷ rooms.plain ∷ rooms.paged ∷ rooms.total ∷ [] }) → at t id ≡ at u id → IsSome (at t id)
@@ -111,7 +111,7 @@ stands u t left id run right h rooms says kept live tl tq distinct are root coun
     joins t t left id run right tl tq distinct live rooms.plain rooms.paged rooms.total h are.0 are.1 are.2
     (record { changed = kept ∙ says; others = λ i ne. refl; as_many = refl }) refl root count
 
--- what becomes of the tree then has become of the one before
+-- what holds of the tree after that holds of the one before
 
 module _ (s u : Store) (h : RunTree) (n : RunNode) (count : ℕ) (rooms : Rooms) (a : Announces s u h n count rooms) where
   pub other_id : (i : ℕ) → among i (owned s h) ≡ false → i ≢ n.id

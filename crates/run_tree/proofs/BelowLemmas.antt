@@ -1,4 +1,4 @@
--- A node whose element said already what stands below it, as it does now.
+-- A node whose element said in advance what is below it now.
 use Rattle.std.proofs.Common.{◌≡◌, ℕ, suc, ◌+◌, ◌-◌, ◌<◌, ◌≤◌, List, [], ◌∷◌, ◌++◌, length, false, take, drop, set, Some, refl, sym, ap, ◌∙◌, arith, IsSome, subst}
 use Rattle.std.specs.Prelude.{slice_get}
 use Rattle.std.proofs.lemmas.List.{take-append-drop, set-get_or, set_split}
@@ -60,7 +60,7 @@ head_is h r n root count = ap (λ (i : ℕ). record { root = i; count = r.count 
 pub put_head : (s t : Store) (h r : RunTree) (k id : ℕ) (run : Run) → r.root ≡ h.root → Puts s t h k id run r → Puts s t h k id run (record { root = h.root; count = h.count + 1 })
 put_head s t h r k id run root g = let P : RunTree → Type 0 = Puts s t h k id run in subst P (head_is h r (h.count + 1) root g.count) g
 
--- a run comes besides
+-- a run is added
 module _ (s u : Store) (h : RunTree) (n : RunNode) (count : ℕ) (rooms one : Rooms) (a : Announces s u h n count rooms)
     (id : ℕ) (run : Run) (live : IsSome (at s id)) (out : among id (owned s h) ≡ false) (is : AreRooms n.rooms (runs s h)) (of : AreRooms one (run ∷ [])) (adds : Adds n.rooms one rooms) where
   pub live_then : IsSome (at u id)
@@ -111,7 +111,7 @@ module _ (s u : Store) (h : RunTree) (n : RunNode) (count : ℕ) (rooms one : Ro
       (subst P (sym (put_up_are' u h n o id run live_then out_then k k' high fewer t (more n.right) g)) (put_rooms k))
       (sym o.root) (omega (arith, o.count))))
 
--- a run gives way
+-- a run is replaced or removed
 
 parts_at : (rs : List Run) (k : ℕ) (r : Run) → k < length rs → slice_get rs k ≡ Some r → rs ≡ take k rs ++ r ∷ drop (suc k) rs
 parts_at rs k r low e = sym (set-get_or rs k none) ∙ ap (set rs k) (get_or_from_slice_get rs k r none e) ∙ set_split rs k r low
@@ -134,7 +134,7 @@ module _ (s u : Store) (h : RunTree) (n : RunNode) (count : ℕ) (rooms was now 
   changed_rooms : (new : List Run) → AreRooms now new → AreRooms rooms (take k (runs s h) ++ (new ++ drop (suc k) (runs s h)))
   changed_rooms new are = let P : List Run → Type 0 = AreRooms n.rooms in changes (take k (runs s h)) (old ∷ []) new (drop (suc k) (runs s h)) (subst P (parts_at (runs s h) k old within there) is) of are
 
-  -- to another
+  -- replaced
   module _ (run : Run) (one : AreRooms now (run ∷ [])) (same : count ≡ n.left.count) where
     abbrev head : RunTree
     head = record { root = n.id; count = n.left.count + n.right.count + 1 }
@@ -175,7 +175,7 @@ module _ (s u : Store) (h : RunTree) (n : RunNode) (count : ℕ) (rooms was now 
         (subst P (sym (up_are' u h n o k run j high fewer t g)) set_rooms)
         refl refl))
 
-  -- to none
+  -- removed
   module _ (no : AreRooms now []) where
     gone_rooms : AreRooms rooms (take k (runs u h) ++ drop (k + 1) (runs u h))
     gone_rooms =

@@ -1,4 +1,4 @@
--- A run that is another, at a place.
+-- A run that is replaced, at a place.
 use Rattle.std.proofs.Common.{◌≡◌, ℕ, suc, ◌+◌, ◌<◌, List, ◌∷◌, ◌++◌, take, drop, sym, ap, ◌∙◌, arith, subst}
 use Rattle.std.proofs.lemmas.List.{set_split}
 use Rattle.vsm_elements.specs.Store.{Store, among}
@@ -9,7 +9,7 @@ use Rattle.run_tree.specs.declared.tree.RunTree.{RunTree}
 use Rattle.run_tree.specs.Trees.{runs, owned, IsTree, Writes}
 use Rattle.run_tree.proofs.TreeLemmas.{length-tree}
 
--- what a run at one place makes of the list
+-- what replacing the run at one place does to the list
 pub set_parts : (s t : Store) (h : RunTree) (k : ℕ) (run : Run) → IsTree s h → k < h.count → Writes s t h k run → runs t h ≡ take k (runs s h) ++ run ∷ drop (k + 1) (runs s h)
 set_parts s t h k run tree low w =
     let e : suc k ≡ k + 1 = omega arith in

@@ -1,4 +1,4 @@
--- A run that is taken out of a tree.
+-- A run that is removed from a tree.
 use Rattle.std.proofs.Common.{◌≡◌, ◌≢◌, ℕ, ◌+◌, ◌-◌, ◌<◌, true, false, inl, inr, List, [], ◌∷◌, ◌++◌, length, take, drop, None, refl, sym, ap, ◌∙◌, arith, IsSome, subst, append_assoc, length-append}
 use Rattle.std.proofs.lemmas.List.{take_at, take-append-le, drop-append-le}
 use Rattle.std.proofs.lemmas.Bool.Decides.{eqb_tells}
@@ -150,7 +150,7 @@ module _ (s : Store) (h : RunTree) (n : RunNode) (o : Opens s h n) where
       as_many = j.as_many ∙ g.as_many;
     }
 
-  -- one behind it
+  -- one after it
   module _ (k k' : ℕ) (high : n.left.count < k) (less : k' ≡ k - n.left.count - 1) (u : Store) (m : RunTree) (id : ℕ) (g : CutsOut s u n.right k' m id) where
     same' : (i : ℕ) → among i L ≡ true → at u i ≡ at s i
     same' i q = g.others i (out_cons i n.id R (distinct_apart L (n.id ∷ R) o.distinct i q)).1

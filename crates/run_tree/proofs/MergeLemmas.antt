@@ -38,7 +38,7 @@ merged_second s a b ta tb e =
       as_many = refl;
     }
 
--- the first stands above the second
+-- the first is above the second
 module _ (s : Store) (a b : RunTree) (n : RunNode) (o : Opens s a n) (d : Distinct (owned s a ++ owned s b)) where
   abbrev back : List ℕ
   back = owned s n.right ++ owned s b
@@ -93,7 +93,7 @@ module _ (s : Store) (a b : RunTree) (n : RunNode) (o : Opens s a n) (d : Distin
           let q = out_cons i n.id back p.1 in
           j.others i (out_of_cons i n.id [] q.0 refl) ∙ g.others i q.1
 
--- the second stands above the first
+-- the second is above the first
 module _ (s : Store) (a b : RunTree) (n : RunNode) (o : Opens s b n) (d : Distinct (owned s a ++ owned s b)) where
   abbrev front : List ℕ
   front = owned s a ++ owned s n.left

@@ -17,7 +17,7 @@ use Rattle.run_tree.proofs.TreeLemmas.{tree_kept, runs_kept, owned_kept, no_runs
 
 -- lists
 
--- x at k of a list in two parts with one between, where k is in the left part, or in the right one
+-- x at k of a list in two parts with one between, if k is in the left part, or in the right one
 pub put_left : {A : Type 0} (k : ℕ) (xs : List A) (y x : A) (ys : List A) → k ≤ length xs
     → (take k xs ++ x ∷ drop k xs) ++ y ∷ ys ≡ take k (xs ++ y ∷ ys) ++ x ∷ drop k (xs ++ y ∷ ys)
 put_left k xs y x ys le =
@@ -46,7 +46,7 @@ put_right k j xs y x ys e =
     ∙ ap (λ (z : List _). z ++ x ∷ drop j ys) (sym (take_behind k j xs y ys e))
     ∙ ap (λ (z : List _). take k (xs ++ y ∷ ys) ++ x ∷ z) (sym (drop_behind k j xs y ys e))
 
--- the same ids, with one more
+-- the same ids, and one more
 pub put_distinct : (k : ℕ) (xs : List ℕ) (x : ℕ) → Distinct xs → among x xs ≡ false → Distinct (take k xs ++ x ∷ drop k xs)
 put_distinct k xs x d out =
     let P : List ℕ → Type 0 = Distinct in
@@ -87,7 +87,7 @@ put_first s t h r k id run tree e j = record {
   drop_none zero = refl
   drop_none (suc n) = refl
 
--- the element stands above the whole tree
+-- the element is above the whole tree
 module _ (s u : Store) (h a b : RunTree) (k id : ℕ) (run : Run) (tree : IsTree s h) (live : IsSome (at s id)) (out : among id (owned s h) ≡ false) (c : Splits s u h k a b) where
   cut_ids : (take k (owned s h) ≡ owned u a) × (drop k (owned s h) ≡ owned u b)
   cut_ids = (

@@ -1,4 +1,4 @@
--- The most room and the numbers of a list in which some runs come besides, or give way to others.
+-- The most room and the numbers of a list to which some runs are added, or in which others replace some.
 use Rattle.std.proofs.Common.{◌≡◌, ℕ, ◌+◌, ◌-◌, ◌%◌, ◌^◌, max, List, ◌++◌, arith, ◌∙◌}
 use Rattle.run_tree.specs.declared.run.Run.{Run}
 use Rattle.run_tree.specs.Shape.{longest, total}

@@ -63,7 +63,7 @@ module _ (s : Store) (h : RunTree) (n : RunNode) (o : Opens s h n) (t : IsTree s
   lr : length (runs s n.right) ≡ n.right.count
   lr = length-tree s n.right o.right
 
-  -- where a fact of one run is one of the tree's
+  -- when a fact of one run is one of the tree's
   on_left : (P : Run → Type 0) (i : ℕ) → i < n.left.count → P (run_at (runs s n.left) i) → P (run_at (runs s h) i)
   on_left P i low p = subst P (sym (at_left s h n o i low)) p
 

@@ -69,7 +69,7 @@ length-runs (node l id r q) = omega (arith, length-append (runs_in l) (r ∷ run
 pub longest_node : (room : Run → ℕ) (xs : List Run) (x : Run) (ys : List Run) (n : ℕ) → max (max (longest room xs) (room x)) (longest room ys) ≡ n → n ≡ longest room (xs ++ x ∷ ys)
 longest_node room xs x ys n e = omega (arith, e, longest-append room xs (x ∷ ys))
 
--- the numbers of a list in parts, and what a word has of them
+-- the numbers of a list in parts, and what a word holds of them
 pub total-append : (xs ys : List Run) → total (xs ++ ys) ≡ total xs + total ys
 total-append [] ys = omega arith
 total-append (x ∷ xs) ys = omega (arith, total-append xs ys)

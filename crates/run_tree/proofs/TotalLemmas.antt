@@ -23,7 +23,7 @@ module _ (s : Store) (h : RunTree) (n : RunNode) (o : Opens s h n) where
       ∙ ap total (take_behind k j (runs s n.left) n.run (runs s n.right) (omega (arith, e, length-tree s n.left o.left)))
       ∙ omega (arith, total-append (runs s n.left) (n.run ∷ take j (runs s n.right)))
 
-  -- what a word has of the numbers before the top, and of its run's, is counted
+  -- what a word holds of the numbers before the top, and of its run's, is counted
   pub counted_right : (k j sum before now all : ℕ) → k ≡ n.left.count + 1 + j → before ≡ total (runs s n.left) % 2 ^ 32 → now ≡ ((sum + before) % 2 ^ 32 + n.run.len) % 2 ^ 32
       → (sum + total (take k (runs s h))) % 2 ^ 32 ≡ all → (now + total (take j (runs s n.right))) % 2 ^ 32 ≡ all
   counted_right k j sum before now all e b is g = omega (arith, b, is, g, total_right k j e)

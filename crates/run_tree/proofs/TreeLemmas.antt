@@ -1,4 +1,4 @@
--- Trees of elements: what a node opens to, what is joined, and that a tree stays whose elements are as they were.
+-- Trees of elements: what a node opens to, what is joined, and that a tree stays if its elements are as they were.
 use Rattle.std.proofs.Common.{◌≡◌, ℕ, zero, suc, ◌+◌, ◌-◌, ◌%◌, ◌^◌, ◌<◌, ◌≤◌, true, false, List, [], ◌∷◌, ◌++◌, length, take, drop, get_or, max, Some, Option, refl, sym, ap, ◌∙◌, arith, IsSome, subst, inl, inr, length-append}
 use Rattle.std.specs.Prelude.{unwrap_or}
 use Rattle.std.proofs.lemmas.List.{nil_from_length}
@@ -40,7 +40,7 @@ pub runs_are : (s : Store) (h : RunTree) (x : Shape) → IsTreeOf s h x → runs
 unfolding runs
 runs_are s h x t = ap (λ (y : Shape). fitted h.count (runs_in y)) (read_off s h x t) ∙ fitted_all (runs_in x) h.count (t.count ∙ sym (length-runs x))
 
--- in any elements as many as the head counts
+-- in any elements, as many as the head counts
 pub length-any : (s : Store) (h : RunTree) → length (runs s h) ≡ h.count
 unfolding runs
 length-any s h = length-fitted h.count (runs_in (grown s h.count h.root))
@@ -233,7 +233,7 @@ module _ (s t : Store) (left : RunTree) (id : ℕ) (run : Run) (right : RunTree)
         as_many = up.as_many;
       }
 
--- a node has other trees below it with the same tops
+-- a node gets other trees below it with the same tops
 
 pub linked_kept : (s u : Store) (n : RunNode) → at u n.id ≡ at s n.id → IsLinked s n → IsLinked u n
 linked_kept s u n e l =
@@ -273,7 +273,7 @@ no_runs s h t e = nil_from_length (runs s h) (length-tree s h t ∙ e)
 pub none_owned : (s : Store) (h : RunTree) → IsTree s h → h.count ≡ 0 → owned s h ≡ []
 none_owned s h t e = nil_from_length (owned s h) (length-owned s h t ∙ e)
 
--- different live ids are no more than there can be
+-- at most as many different live ids exist as there can be
 pub room_for : (s : Store) (left : RunTree) (id : ℕ) (right : RunTree) → IsTree s left → IsTree s right → Distinct (owned s left ++ id ∷ owned s right) → IsSome (at s id)
     → ((i : ℕ) → IsSome (at s i) → (0 < i) × (i ≤ 4294967040)) → left.count + right.count + 1 ≤ 4294967040
 room_for s left id right tl tq distinct live range =

@@ -1,4 +1,4 @@
--- An element whose run is another.
+-- An element whose run is replaced.
 use Rattle.std.proofs.Common.{◌≡◌, ℕ, suc, ◌+◌, ◌-◌, ◌<◌, true, false, List, [], ◌∷◌, ◌++◌, length, set, refl, sym, ap, ◌∙◌, arith, IsSome, subst}
 use Rattle.std.proofs.lemmas.List.{set-append_left, set-append_right, set_at}
 use Rattle.vsm_elements.specs.Store.{Store, at, among, Distinct}
@@ -76,7 +76,7 @@ module _ (s : Store) (h : RunTree) (n : RunNode) (o : Opens s h n) (k : ℕ) (ru
       as_many = j.as_many ∙ g.as_many;
     }
 
-  -- behind it
+  -- after it
   module _ (k' : ℕ) (high : n.left.count < k) (less : k' ≡ k - n.left.count - 1) (u : Store) (g : Writes s u n.right k' run) where
     same' : (i : ℕ) → among i (owned s n.left) ≡ true → at u i ≡ at s i
     same' i q = g.others i (out_cons i n.id (owned s n.right) (distinct_apart (owned s n.left) (n.id ∷ owned s n.right) o.distinct i q)).1

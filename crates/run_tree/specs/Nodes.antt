@@ -16,23 +16,25 @@ pub record IsLinked (s : Store) (n : RunNode) : Type 0 where
   pub len : slice_index_or ((element s n.id).words) 3 0 ≡ n.run.len
   pub end : drop 7 ((element s n.id).words) ≡ []
 
--- this is the most room of all runs, from any number and from one on a page, and what a word has of their numbers
+-- this is the most room of all runs, from any number and from one on a page, and what a word holds of their numbers
 abbrev pub AreRooms : Rooms → List Run → Type 0
 AreRooms r rs = (r.plain ≡ longest plain rs) × (r.paged ≡ longest paged rs) × (r.total ≡ total rs % 2 ^ 32)
 
--- a list has those rooms in which some runs come besides
+-- the rooms of a list to which some runs are added
 abbrev pub Adds : Rooms → Rooms → Rooms → Type 0
-Adds rooms more next = (xs new ys : List Run) → AreRooms rooms (xs ++ ys) → AreRooms more new → AreRooms next (xs ++ (new ++ ys))
+Adds rooms more next = (xs new ys : List Run) → AreRooms rooms (xs ++ ys) → AreRooms more new →
+    AreRooms next (xs ++ (new ++ ys))
 
--- a list has those rooms in which some runs give way to others
+-- the rooms of a list in which other runs replace some
 abbrev pub Changes : Rooms → Rooms → Rooms → Rooms → Type 0
-Changes rooms was now next = (xs old new ys : List Run) → AreRooms rooms (xs ++ (old ++ ys)) → AreRooms was old → AreRooms now new → AreRooms next (xs ++ (new ++ ys))
+Changes rooms was now next = (xs old new ys : List Run) → AreRooms rooms (xs ++ (old ++ ys)) →
+    AreRooms was old → AreRooms now new → AreRooms next (xs ++ (new ++ ys))
 
 -- how many runs are before the one at the top
 abbrev pub top_place : Store → RunTree → ℕ
 top_place s h = slice_index_or ((element s h.root).words) 1 0
 
--- the node's element says that so many runs are before it, and so much room is in all: what else it says is as it was
+-- the node's element says that this many runs are before it, and this is the room of all: the rest is as it was
 pub record Announces (s t : Store) (h : RunTree) (n : RunNode) (count : ℕ) (rooms : Rooms) : Type 0 where
   pub opens : Opens t h n
   pub are : runs t h ≡ runs s h

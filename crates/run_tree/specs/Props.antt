@@ -1,4 +1,4 @@
--- That a tree stands has one proof at most.
+-- That elements hold a tree has at most one proof.
 use Rattle.std.proofs.Props.{props}
 use mathlib.Core.HLevel.{Unit-prop}
 use Rattle.vsm_elements.specs.Store.{Store}

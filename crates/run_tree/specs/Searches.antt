@@ -10,13 +10,13 @@ none = record { start = 0; len = 0 }
 abbrev pub run_at : List Run → ℕ → Run
 run_at rs i = slice_index_or rs i none
 
--- the run before the place ends at n or before, and the one at the place behind n
+-- the run before the place ends at n or before, and the one at the place after n
 pub record SeeksTo (n : ℕ) (rs : List Run) (k : ℕ) : Type 0 where
   pub within : k ≤ length rs
   pub before : 0 < k → (run_at rs (k - 1)).start + (run_at rs (k - 1)).len ≤ n
   pub behind : k < length rs → n < (run_at rs k).start + (run_at rs k).len
 
--- so does this search, which tells the runs on both sides, or else what it was given for them
+-- so does this search, which returns the runs on both sides, or what it was given for them
 pub record FindsRuns (n : ℕ) (before behind : Run) (rs : List Run) (f : FoundRun) : Type 0 where
   pub seeks : SeeksTo n rs f.index
   pub last : 0 < f.index → f.before ≡ run_at rs (f.index - 1)
@@ -24,7 +24,7 @@ pub record FindsRuns (n : ℕ) (before behind : Run) (rs : List Run) (f : FoundR
   pub next : f.index < length rs → f.behind ≡ run_at rs f.index
   pub end : length rs ≤ f.index → f.behind ≡ behind
 
--- the first run from a place on that has room for len is at k, or there is none and k is the end
+-- the first run from a place on that has room for len is at k, or none has and k is the end
 pub record RoomsTo (room : Run → ℕ) (rs : List Run) (from len k : ℕ) : Type 0 where
   pub low : from ≤ k
   pub within : k ≤ length rs

@@ -1,7 +1,7 @@
--- A tree of elements: each node has its run, the list before it and the list behind it, and writes into its element
--- how many are before it, how long the longest of all its runs is, and how many numbers these have.
-use Rattle.std.specs.Prelude.{◌≡◌, ℕ, zero, suc, ◌+◌, ◌-◌, ◌*◌, ◌/◌, ◌%◌, ◌^◌, max, Bool, true, false, List, [], ◌∷◌, ◌++◌}
-use Rattle.std.specs.Prelude.{length, Some, slice_index_or}
+-- A tree of elements: each node has its run, the list before it and the list after it, and writes into its element how
+-- many are before it, how long the longest of all its runs is, and how many numbers these have.
+use Rattle.std.specs.Prelude.{◌≡◌, ℕ, zero, suc, ◌+◌, ◌-◌, ◌*◌, ◌/◌, ◌%◌, ◌^◌, max, Bool, true, false}
+use Rattle.std.specs.Prelude.{List, [], ◌∷◌, ◌++◌, length, Some, slice_index_or}
 use Rattle.vsm_elements.specs.declared.element.Element.{Element}
 use Rattle.vsm_elements.specs.Store.{Store, at, Distinct}
 use Rattle.vsm_elements.specs.Chain.{element}
@@ -51,7 +51,7 @@ abbrev pub total : List Run → ℕ
 total [] = 0
 total (r ∷ rs) = r.len + total rs
 
--- what stands in the element of a node: of the numbers what a word has of them
+-- what the element of a node contains: of the numbers, what a word holds of them
 abbrev pub written : Shape → Run → Shape → Element
 written l r q = record {
   next = top l;
@@ -63,7 +63,7 @@ abbrev pub Held : Store → Shape → Type 0
 Held s leaf = Unit {0}
 Held s (node l id r q) = Held s l × (at s id ≡ Some (written l r q)) × Held s q
 
--- what is read from an id on, at most so many levels deep
+-- what is read from an id on, at most this many levels deep
 abbrev pub grown : Store → ℕ → ℕ → Shape
 grown s zero id = leaf
 grown s (suc n) zero = leaf
@@ -74,7 +74,7 @@ grown s (suc n) (suc i) = node (grown s n ((element s (suc i)).next)) (suc i)
     })
     (grown s n (slice_index_or ((element s (suc i)).words) 0 0))
 
--- the tree of this head is just this one
+-- the tree of this head is exactly this one
 pub record IsTreeOf (s : Store) (h : RunTree) (t : Shape) : Type 0 where
   pub root : h.root ≡ top t
   pub count : h.count ≡ size t

@@ -6,13 +6,13 @@ use Rattle.run_tree.specs.declared.tree.RunTree.{RunTree}
 use Rattle.run_tree.specs.declared.shape.RunNode.{RunNode}
 use Rattle.run_tree.specs.Shape.{grown, runs_in, ids_in, IsTreeOf}
 
--- the first n of the runs; where there are fewer, empty ones behind them
+-- the first n of the runs; if there are fewer, followed by empty ones
 abbrev pub fitted : ℕ → List Run → List Run
 fitted zero rs = []
 fitted (suc n) [] = record { start = 0; len = 0 } ∷ fitted n []
 fitted (suc n) (r ∷ rs) = r ∷ fitted n rs
 
--- the runs, in order: in any elements as many as the head counts
+-- the runs, in order: in any elements, as many as the head counts
 unfoldable pub runs : Store → RunTree → List Run
 runs s h = fitted h.count (runs_in (grown s h.count h.root))
 
@@ -20,11 +20,11 @@ runs s h = fitted h.count (runs_in (grown s h.count h.root))
 unfoldable pub owned : Store → RunTree → List ℕ
 owned s h = ids_in (grown s h.count h.root)
 
--- the tree stands in these elements
+-- these elements hold the tree
 unfoldable pub IsTree : Store → RunTree → Type 0
 IsTree s h = IsTreeOf s h (grown s h.count h.root)
 
--- the head is that of a node, with what stands before and behind it
+-- the head is that of a node, with what is before and after it
 pub record Opens (s : Store) (h : RunTree) (n : RunNode) : Type 0 where
   pub left : IsTree s n.left
   pub right : IsTree s n.right
@@ -78,7 +78,7 @@ pub record Puts (s t : Store) (h : RunTree) (k id : ℕ) (run : Run) (r : RunTre
   pub spare : t.spare ≡ s.spare
   pub as_many : made t ≡ made s
 
--- the run at k is gone, and its element is no longer the tree's
+-- the run at k was removed, and its element is no longer the tree's
 pub record CutsOut (s t : Store) (h : RunTree) (k : ℕ) (r : RunTree) (id : ℕ) : Type 0 where
   pub tree : IsTree t r
   pub are : runs t r ≡ take k (runs s h) ++ drop (k + 1) (runs s h)
@@ -90,7 +90,7 @@ pub record CutsOut (s t : Store) (h : RunTree) (k : ℕ) (r : RunTree) (id : ℕ
   pub spare : t.spare ≡ s.spare
   pub as_many : made t ≡ made s
 
--- the run at k is another one, and the head stays
+-- the run at k was replaced, and the head stays
 pub record Writes (s t : Store) (h : RunTree) (k : ℕ) (run : Run) : Type 0 where
   pub tree : IsTree t h
   pub are : runs t h ≡ slice_set (runs s h) k run

@@ -1,4 +1,4 @@
-//! Runs of numbers as a list in a balanced search tree of elements: found, put in and taken out by their place.
+//! Runs of numbers as a list in a balanced search tree of elements: found, inserted and removed by their place.
 #![tactic(auto)]
 
 mod run;

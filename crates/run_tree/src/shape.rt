@@ -6,7 +6,7 @@ use crate::run::Run;
 use crate::tree::RunTree;
 use vsm_elements::{Element, Elements, Id};
 
-/// A node: its run, its element, and the trees before and behind it.
+/// A node: its run, its element, and the trees before and after it.
 #[derive(Clone, Copy)]
 pub(crate) struct RunNode {
     pub(crate) left: RunTree,
@@ -17,7 +17,7 @@ pub(crate) struct RunNode {
 }
 
 // How much room the longest run has, from its first number and from its first number on a page; and how many numbers
-// all runs have, as far as a word has it: without what goes beyond 2^32.
+// all runs have, as far as a word holds it: modulo 2^32.
 #[derive(Clone, Copy)]
 pub(crate) struct Rooms {
     pub(crate) plain: u32,
@@ -28,7 +28,7 @@ pub(crate) struct Rooms {
 // How many numbers a page has.
 const PAGE: u64 = 512;
 
-// What a run has from its first number on a page.
+// The room of a run from its first number on a page.
 pub(crate) fn paged_room(run: Run) -> u32
     ensures { result ≡ paged run }
 {
@@ -38,14 +38,14 @@ pub(crate) fn paged_room(run: Run) -> u32
     end.saturating_sub(page) as u32
 }
 
-// What a run has from its first number, or from its first number on a page.
+// The room of a run from its first number, or from its first number on a page.
 pub(crate) fn room(run: Run, paged: bool) -> u32
     ensures { result ≡ room_of paged run }
 {
     if paged { paged_room(run) } else { run.len }
 }
 
-// The most of some numbers, of which one gave way to another; `None` where it's that one, and the other is less.
+// The most of some numbers after one was replaced; `None` if the old one was the most and the new one is less.
 fn most_after(most: u32, was: u32, now: u32) -> Option<u32>
     ensures { IfSome result (λ next. (others : ℕ) → most ≡ max others was → next ≡ max others now) }
 {
@@ -59,7 +59,7 @@ fn most_after(most: u32, was: u32, now: u32) -> Option<u32>
 impl Rooms {
     ghost use Rattle.run_tree.specs.Nodes.{AreRooms, Adds, Changes};
 
-    // Those of no run.
+    // The rooms of no run.
     pub(crate) fn none() -> Rooms
         ensures { AreRooms result [] }
     {
@@ -70,7 +70,7 @@ impl Rooms {
         }
     }
 
-    // Those of one run.
+    // The rooms of one run.
     pub(crate) fn of(run: Run) -> Rooms
         ensures { AreRooms result (run ∷ []) }
     {
@@ -81,7 +81,7 @@ impl Rooms {
         }
     }
 
-    // Those of a list in which some runs come besides.
+    // The rooms of a list to which some runs are added.
     pub(crate) fn with(self, more: Rooms) -> Rooms
         ensures { Adds self more result }
     {
@@ -92,7 +92,7 @@ impl Rooms {
         }
     }
 
-    // Those of a list in which some runs give way to others; `None` where all its runs have to be asked.
+    // The rooms of a list in which other runs replace some; `None` if all its runs have to be looked at.
     pub(crate) fn changed(self, was: Rooms, now: Rooms) -> Option<Rooms>
         ensures { IfSome result (λ next. Changes self was now next) }
     {
@@ -176,7 +176,7 @@ impl RunTree {
         elements.get(self.root).words[1]
     }
 
-    // The node's element says already how many runs will be before it, and what room there will be.
+    // The node's element says in advance how many runs will be before it, and what room there will be.
     pub(crate) fn announce(self, elements: &mut Elements, node: RunNode, count: u32, rooms: Rooms)
         requires opens { Opens elements.old self node }
         requires linked { IsLinked elements.old node }
@@ -222,7 +222,7 @@ impl RunTree {
         }
     }
 
-    // The node's element says anew what it and the trees below it have, which have this each. Its run stays.
+    // Rewrites in the node's element what it and the trees below it have, given what each tree has. Its run stays.
     pub(crate) fn renew(
         elements: &mut Elements,
         node: RunNode,
@@ -250,7 +250,7 @@ impl RunTree {
         rooms
     }
 
-    // A live element says what a node over two trees does, and what it and they have.
+    // Writes a node over two trees into a live element, with the most room of all their runs, and their numbers.
     pub(crate) fn fill(
         elements: &mut Elements,
         left: RunTree,

@@ -1,5 +1,5 @@
-ghost use Rattle.std.specs.Prelude.{◌≡◌, ◌≢◌, ℕ, ◌+◌, ◌-◌, ◌%◌, ◌^◌, ◌<◌, ◌≤◌, ◌++◌, ◌∷◌, [], Some, IsSome, true, false};
-ghost use Rattle.std.specs.Prelude.{Bool, slice_get, slice_set, take, drop, length};
+ghost use Rattle.std.specs.Prelude.{◌≡◌, ◌≢◌, ℕ, ◌+◌, ◌-◌, ◌%◌, ◌^◌, ◌<◌, ◌≤◌, ◌++◌, ◌∷◌, []};
+ghost use Rattle.std.specs.Prelude.{Some, IsSome, true, false, Bool, slice_get, slice_set, take, drop, length};
 ghost use Rattle.vsm_elements.specs.Store.{Store, Distinct, at, among};
 ghost use Rattle.vsm_elements.specs.Ownership.{Leaves};
 ghost use Rattle.run_tree.specs.Shape.{longest, room_of, total};
@@ -15,7 +15,7 @@ pub struct RunTree {
     pub count: u32,
 }
 
-/// Where a search came to, with the run before the place and the one at it, where there are such.
+/// The place that a search found, with the run before the place and the one at it, if these exist.
 #[derive(Clone, Copy)]
 pub struct FoundRun {
     pub index: u32,
@@ -23,8 +23,8 @@ pub struct FoundRun {
     pub behind: Run,
 }
 
-// An element of a higher rank stands above one of a lower rank. The ranks are the ids, well mixed: so trees are as
-// flat as those of random ranks. Nothing is proved of that.
+// An element of a higher rank is above one of a lower rank. The ranks are the ids, well mixed, so trees are as flat as
+// those of random ranks. Nothing is proved about that.
 fn rank(id: Id) -> u32 {
     let a = (id ^ (id >> 16)).wrapping_mul(0x7feb_352d);
     let b = (a ^ (a >> 15)).wrapping_mul(0x846c_a68b);
@@ -36,7 +36,7 @@ impl RunTree {
     ghost use Rattle.run_tree.specs.Nodes.{AreRooms, top_place};
     ghost use Rattle.run_tree.specs.Searches.{SeeksTo, FindsRuns, RoomsTo, IsMost};
 
-    // The runs of both, those of the other tree behind.
+    // The runs of both, first those of this tree.
     pub(crate) fn merge(self, elements: &mut Elements, other: RunTree) -> RunTree
         requires first { IsTree elements.old self }
         requires second { IsTree elements.old other }
@@ -81,14 +81,14 @@ impl RunTree {
         }
     }
 
-    // Whether the top stays the top if this element comes into the tree.
+    // Whether the top stays the top if this element is added to the tree.
     fn stays(self, id: Id) -> bool
         ensures { result ≡ true → 0 < self.count }
     {
         self.count > 0 && rank(id) <= rank(self.root)
     }
 
-    // A live element becomes the run at `k`, and the top.
+    // Makes a live element the run at `k`, and the top.
     fn put_over(self, elements: &mut Elements, k: u32, id: Id, run: Run) -> RunTree
         requires tree { IsTree elements.old self }
         requires place { k ≤ self.count }
@@ -100,7 +100,7 @@ impl RunTree {
         RunTree::join(elements, before, id, run, behind)
     }
 
-    // A live element becomes the run at `k`, below the top, which stays. Each node on the way says at once what it will.
+    // Makes a live element the run at `k`, below the top, which stays. Each node on the way is updated in advance.
     fn put(self, elements: &mut Elements, k: u32, id: Id, run: Run)
         requires tree { IsTree elements.old self }
         requires some { 0 < self.count }
@@ -130,7 +130,7 @@ impl RunTree {
         }
     }
 
-    // A live element becomes the run at `k`.
+    // Makes a live element the run at `k`.
     fn put_in(self, elements: &mut Elements, k: u32, id: Id, run: Run) -> RunTree
         requires tree { IsTree elements.old self }
         requires place { k ≤ self.count }
@@ -174,8 +174,8 @@ impl RunTree {
         }
     }
 
-    // The run at `k`, which is this one, goes; it's below the top, which stays. Each node on the way says at once what it
-    // will, until one is reached at whose top it is, or in which no run had more room.
+    // Removes the run at `k`, which is this one, below the top, which stays. Each node on the way is updated in
+    // advance, until the run's node is reached, or one in which no run had more room.
     fn cut_below(self, elements: &mut Elements, k: u32, was: Run) -> Id
         requires tree { IsTree elements.old self }
         requires place { k < self.count }
@@ -219,7 +219,7 @@ impl RunTree {
         (rest, id)
     }
 
-    // The run at `k` is another one. It answers the most room of the tree's runs then, and their numbers.
+    // Replaces the run at `k`. Returns the most room of the tree's runs after that, and their numbers.
     fn rewrite(self, elements: &mut Elements, k: u32, run: Run) -> Rooms
         requires tree { IsTree elements.old self }
         requires place { k < self.count }
@@ -241,8 +241,8 @@ impl RunTree {
         }
     }
 
-    // The run at `k`, which is this one, gives way to another. Each node on the way says at once what it will, until one
-    // is reached at whose top it is, or in which no run had more room, and the new one has less.
+    // Replaces the run at `k`, which is this one. Each node on the way is updated in advance, until the run's node is
+    // reached, or one in which no run had more room, and the new one has less.
     #[inline(never)]
     fn exchange(self, elements: &mut Elements, k: u32, was: Run, run: Run)
         requires tree { IsTree elements.old self }
@@ -265,7 +265,7 @@ impl RunTree {
         let _rooms = self.rewrite(elements, k, run);
     }
 
-    // The run of a tree of one is another one: that needs no descent.
+    // Replaces the run of a tree of one: that needs no descent.
     fn rewrite_one(self, elements: &mut Elements, run: Run)
         requires tree { IsTree elements.old self }
         requires one { self.count ≡ 1 }
@@ -285,7 +285,7 @@ impl RunTree {
         RunTree::empty()
     }
 
-    /// Puts a run at `k`.
+    /// Inserts a run at `k`.
     pub fn insert(&mut self, elements: &mut Elements, k: u32, run: Run)
         requires tree { IsTree elements.old self.old }
         requires place { k ≤ self.old.count }
@@ -300,7 +300,7 @@ impl RunTree {
         *self = self.put_in(elements, k, id, run);
     }
 
-    /// Takes the run at `k` out, which is this one. Its element becomes a spare one.
+    /// Removes the run at `k`, which is this one. Its element becomes a spare one.
     pub fn remove(&mut self, elements: &mut Elements, k: u32, was: Run)
         requires tree { IsTree elements.old self.old }
         requires place { k < self.old.count }
@@ -317,7 +317,7 @@ impl RunTree {
         *self = rest;
     }
 
-    /// The run at `k`, which is this one, gives way to another. The head stays.
+    /// Replaces the run at `k`, which is this one. The head stays.
     pub fn set(self, elements: &mut Elements, k: u32, was: Run, run: Run)
         requires tree { IsTree elements.old self }
         requires place { k < self.count }
@@ -351,7 +351,7 @@ impl RunTree {
         }
     }
 
-    /// How many runs end at `n` or before, where the runs rise.
+    /// How many runs end at `n` or before, if the runs ascend.
     pub fn seek(self, elements: &Elements, n: u32) -> u32
         requires tree { IsTree elements.now self }
         ensures { SeeksTo n (runs elements.now self) result }
@@ -368,7 +368,7 @@ impl RunTree {
         }
     }
 
-    /// The same, with the run before the place and the one at it; `before` and `behind` where there is none.
+    /// The same, with the run before the place and the one at it; `before` and `behind` if there is none.
     pub fn find(self, elements: &Elements, n: u32, before: Run, behind: Run) -> FoundRun
         requires tree { IsTree elements.now self }
         ensures { FindsRuns n before behind (runs elements.now self) result }
@@ -402,7 +402,7 @@ impl RunTree {
         if paged { rooms.paged } else { rooms.plain }
     }
 
-    /// The first place from `from` on where a run has room for `len`; the count of the runs where there is none.
+    /// The first place from `from` on whose run has room for `len`; the count of the runs if there is none.
     pub fn first_room(self, elements: &Elements, from: u32, len: u32, paged: bool) -> u32
         requires tree { IsTree elements.now self }
         requires place { from ≤ self.count }
@@ -433,7 +433,7 @@ impl RunTree {
         middle + 1 + rest
     }
 
-    /// The most room of the runs from `from` to before `to`; 0 where there is none.
+    /// The most room of the runs from `from` to before `to`; 0 if there are none.
     pub fn most_room(self, elements: &Elements, from: u32, to: u32, paged: bool) -> u32
         requires tree { IsTree elements.now self }
         requires place { (from ≤ to) × (to ≤ self.count) }
@@ -460,7 +460,7 @@ impl RunTree {
         before.max(room(node.run, paged)).max(behind)
     }
 
-    /// How many numbers the first `k` runs have, without what goes beyond 2^32.
+    /// How many numbers the first `k` runs have, modulo 2^32.
     pub fn total_before(self, elements: &Elements, k: u32) -> u32
         requires tree { IsTree elements.now self }
         requires place { k ≤ self.count }

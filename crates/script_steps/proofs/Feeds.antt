@@ -15,7 +15,7 @@ each_append P (x ∷ xs) ys h k = (h.0, each_append P xs ys h.1 k)
 pub no_feed_more : (bytes : List ℕ) (i : ℕ) → i < length bytes → NoFeed (take i bytes) → get_or bytes i 0 ≢ 10 → NoFeed (take (i + 1) bytes)
 no_feed_more bytes i inside h ne = subst NoFeed (sym (take_more bytes i 0 inside)) (each_push (λ c. c ≢ 10) (take i bytes) (get_or bytes i 0) h ne)
 
--- the bytes up to a line feed, and that
+-- the bytes up to and with a line feed
 pub feed_behind : (given rest : List ℕ) (n : ℕ) → n < length rest → slice_index rest n ≡ 10 → (given ++ take n rest) ++ 10 ∷ [] ≡ given ++ take (n + 1) rest
 feed_behind given rest n inside is =
     append_assoc given (take n rest) (10 ∷ [])

@@ -1,3 +1,4 @@
+mod Asked
 pub mod Columns
 pub mod Feeds
 pub mod Standings

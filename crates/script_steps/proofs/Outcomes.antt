@@ -1,4 +1,4 @@
--- A run, one piece more.
+-- A run, after another piece.
 use Rattle.std.proofs.Common.{◌≡◌, ◌≢◌, ℕ, List, [], ◌∷◌, ◌++◌, length, take, Option, Result, Ok, Err, IsErr, IsErrAnd, true≢false, sym, ◌∙◌, ap, subst, refl, arith, append_assoc, inl, inr}
 use Rattle.std.proofs.lemmas.List.{append-nil}
 use Rattle.std.specs.Io.KnownBytes.{Appends, Consumes, IsAtEnd}
@@ -31,18 +31,18 @@ module _ (settings : Settings) where
   pub output_more : (answers more : List Marked) (text : List ℕ) → IsTold settings answers more text → output settings (answers ++ more) ≡ output settings answers ++ text
   output_more answers more text e = texts_push settings nothing_stands answers more ∙ ap (λ t. output settings answers ++ t) (sym e)
 
-  -- a bound that is passed whatever follows is passed where nothing follows
+  -- a bound that is passed whatever follows is passed if nothing follows
   pub bound_passed : (given : List ℕ) (answers : List Marked) → ((behind : List ℕ) → PassesBound settings (given ++ behind) answers) → PassesBound settings given answers
   bound_passed given answers h = subst (λ g. PassesBound settings g answers) (append-nil given) (h [])
 
   module _ (first : Option (List ℕ)) where
-    -- the text of further answers is put behind that of others
+    -- the text of further answers is put after that of others
     pub out_more : (old now : Option (List ℕ)) (before after : Gathered) (answers more : List Marked) (text : List ℕ) → IsTold settings answers more text →
         Puts old now before after text → Holds first old before (output settings answers) → Holds first now after (output settings (answers ++ more))
     out_more old now before after answers more text told puts h =
         subst (Holds first now after) (sym (output_more answers more text told)) (puts first (output settings answers) h)
 
-    -- a bound that is passed in a front of the bytes is passed in all of them
+    -- a bound that is passed in a prefix of the bytes is passed in all of them
     pub passes_behind : (now : Option (List ℕ)) (g : Gathered) (given front rest : List ℕ) → Passes settings first now g (given ++ front) →
         Passes settings first now g (given ++ (front ++ rest))
     passes_behind now g given front rest h = record {
@@ -54,7 +54,7 @@ module _ (settings : Settings) where
       out = h.out;
     }
 
-    -- what a read brought is handed out, or a front of it
+    -- the output of a read is written, or a prefix of it
     pub write_fault : (now new left : Option (List ℕ)) (g : Gathered) (given : List ℕ) (s : Session) (r : Result (Unit {0}) TooLong) →
         Takes settings first now g given s r → ((text : List ℕ) → Holds first now g text → AppendsFront first new text) →
         FaultAt settings left first new given fault.Write
@@ -73,12 +73,12 @@ module _ (settings : Settings) where
       out = empty_holds first new after (output settings h.answers) empty (w (output settings h.answers) h.out);
     }
 
-    -- a read fault, where nothing is gathered
+    -- a read fault, if nothing is gathered
     pub read_fault : (now left : Option (List ℕ)) (g : Gathered) (given : List ℕ) (s : Session) → Runs settings first now g given s → IsEmpty g →
         FaultAt settings left first now given fault.Read
     read_fault now left g given s h empty = (h.answers, unended given h.answers s h.took, empty_out first now g (output settings h.answers) empty h.out)
 
-    -- a bound that is passed is answered by an error
+    -- a bound that is passed gives an error
     pub line_past : (now : Option (List ℕ)) (g : Gathered) (given rest : List ℕ) (s : Session) (r : Result ℕ TooLong) → IsErr r →
         Passes settings first now g (given ++ rest) → TakesLine settings first now g given rest s r
     line_past now g given rest s (Ok n) is h = absurd (true≢false (sym is))

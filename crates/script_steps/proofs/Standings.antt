@@ -1,4 +1,4 @@
--- What stands after a list of answers, one answer more.
+-- What is in effect after a list of answers, and after another answer.
 use Rattle.std.proofs.Common.{◌≡◌, ℕ, ◌+◌, nat_le, Bool, true, false, List, [], ◌∷◌, ◌++◌, length, Option, Some, None, Result, Ok, Err, sym, ◌∙◌, ap, subst, refl, arith, append_assoc, if◌then◌else◌}
 use Rattle.std.proofs.lemmas.Bool.{cond-true, cond-false, le-leb, lt-leb}
 use Rattle.std.proofs.lemmas.List.{append-nil}
@@ -37,7 +37,7 @@ call_text (Back m) (TooFar n) kept bytes others = refl
 call_text (Forward m) (TooFar n) kept bytes others = refl
 call_text Look (TooFar n) kept bytes others = refl
 
--- that of a reading has its bytes
+-- that of a reading contains its bytes
 pub reading_text : (r : Result (List ℕ) Why) (bytes : List ℕ) → AreShown r bytes → response_text bytes (reading_response r) ≡ response_text (bytes_of r) (reading_response r)
 reading_text (Ok read) bytes h = ap (λ xs. response_text xs response.Shown) h
 reading_text (Err why) bytes h = refl
@@ -79,7 +79,7 @@ module _ (settings : Settings) where
       ap (heard_with settings l x.unmet x.answer.what) (heard_push (stands_after settings l x) xs ys)
       ∙ heard_with_push l x.unmet x.answer.what (heard_all settings (stands_after settings l x) xs) _
 
-  -- what stands is what the calls leave standing
+  -- what is in effect is what the calls leave in effect
   heard_with_stands : (l : Stood) (unmet : Bool) (what : Result Asked FaultKind) (hs : List (Heard Act Reply Why)) →
       stand_all settings.history l (heard_with settings l unmet what hs) ≡ stand_all settings.history (stands_with settings l unmet what) hs
   heard_with_stands l unmet (Err kind) hs = refl
@@ -99,7 +99,7 @@ module _ (settings : Settings) where
   leads_push b c d [] ks h k = subst (λ x. Leads (statement_step settings) settings.history x ks d) h k
   leads_push b c d (x ∷ hs) ks (mid, one, rest) k = (mid, one, leads_push mid c d hs ks rest k)
 
-  -- the state and the numbers of a bench for which these statements stand
+  -- the state and the numbers of a bench when these statements are in effect
   pub record StandsFor (l : Stood) (b : Bench NamedState) : Type 0 where
     pub present : b.present ≡ alone_now settings l
     pub kept : length b.past ≡ l.kept
@@ -210,7 +210,7 @@ module _ (settings : Settings) where
         response ∙ ap (λ a. response_to call a (length c.past)) (sym same) ∙ ap (response_to call (answer_to settings l unmet call)) kept,
       )
 
-  -- One answer more: how it is marked, that it leads on, and the response that is stated for it.
+  -- Another answer: how it is marked, that it leads on, and the response that is stated for it.
   pub led_one : (xs : List Marked) (b c : Bench NamedState) (line : ℕ) (what : Result Asked FaultKind) (told : Response) (bytes : List ℕ) → Led settings xs b →
       Responds settings b what told bytes c →
       (unmet : Bool) × Led settings (xs ++ marked line what unmet ∷ []) c × (told ≡ responded settings (stands_all settings nothing_stands xs) unmet what)
@@ -242,7 +242,7 @@ module _ (settings : Settings) where
   text_is xs b c (Ok (forward n)) told bytes led (answer, keeps, is) =
       ap (response_text bytes) is ∙ call_text (Forward n) answer (length c.past) bytes [] ∙ sym (ap (response_text []) is)
 
-  -- and what is shown is what a reading has
+  -- and what is shown is what a reading contains
   shows_is : (xs : List Marked) (b c : Bench NamedState) (what : Result Asked FaultKind) (told : Response) (bytes : List ℕ) → Led settings xs b →
       Responds settings b what told bytes c → ShowsRead settings (stands_all settings nothing_stands xs) what bytes
   shows_is xs b c (Err kind) told bytes led h = tt
@@ -253,14 +253,14 @@ module _ (settings : Settings) where
   shows_is xs b c (Ok (back n)) told bytes led h = tt
   shows_is xs b c (Ok (forward n)) told bytes led h = tt
 
-  -- the lines behind a response: those of the state and the number that the standing statements give
+  -- the lines after a response: those of the state and the number that the standing statements give
   behind_is : (xs : List Marked) (c : Bench NamedState) (m : Marked) (told : Response) → Led settings (xs ++ m ∷ []) c →
       lines_behind settings c.present (length c.past) told ≡ lines_with settings (stands_after settings (stands_all settings nothing_stands xs) m) told
   behind_is xs c m told led =
       let s = stands_for (xs ++ m ∷ []) c led in
       (λ i. lines_behind settings (s.present i) (s.kept i) told) ∙ ap (λ l. lines_with settings l told) (stands_push nothing_stands xs (m ∷ []))
 
-  -- What a line tells: the further answers, marked.
+  -- What a line adds: the further answers, marked.
   pub record TellsMore (xs : List Marked) (c : Bench NamedState) (told : List grammar.Answer) (shown : Option (ℕ × Response)) (bytes : List ℕ) : Type 0 where
     pub more : List Marked
     pub answers : answers_of more ≡ told
@@ -304,7 +304,7 @@ module _ (settings : Settings) where
   tells_more xs b c (a ∷ d ∷ others) None bytes led h = absurd h
   tells_more xs b c (a ∷ d ∷ others) (Some shown) bytes led h = absurd h
 
-  -- the text of further answers, behind the text of others
+  -- the text of further answers, after the text of others
   pub told_both : (xs ys zs : List Marked) (a b : List ℕ) → IsTold settings xs ys a → IsTold settings (xs ++ ys) zs b → IsTold settings xs (ys ++ zs) (a ++ b)
   told_both xs ys zs a b e f =
       let l = stands_all settings nothing_stands xs in

@@ -1,4 +1,4 @@
--- What a session took, some bytes or a line feed more.
+-- What a session took, with some further bytes or another line feed.
 use Rattle.std.proofs.Common.{◌≡◌, ◌≢◌, ℕ, zero, suc, ◌+◌, ◌-◌, ◌<◌, ◌≤◌, min, List, [], ◌∷◌, ◌++◌, length, take, drop, get_or, refl, arith, ap, ◌∙◌, sym, append_assoc, inl, inr}
 use Rattle.std.proofs.lemmas.Bool.{cases_lt}
 use Rattle.std.proofs.lemmas.List.{take_all, length-take-le, length-append, length_push, take-append-le, append-nil, flat_map_more}
@@ -21,7 +21,7 @@ take_min n xs = elim (cases_lt (length xs) n) [
       ap (λ k. take k xs) shorter
 ]
 
--- the first 80 bytes of a line, with more bytes behind it
+-- the first 80 bytes of a line, with more bytes after it
 pub kept_more : (line kept bytes : List ℕ) → kept ≡ take 80 line → kept ++ take (min (length bytes) (80 - length kept)) bytes ≡ take 80 (line ++ bytes)
 kept_more line kept bytes e = elim (cases_lt (length line) 80) [
   | inl less ↦
@@ -74,7 +74,7 @@ within_feed given lines rest h room = record {
 }
 
 module _ (settings : Settings) (given : List ℕ) (answers : List Marked) (s : Session) (h : Took settings given answers s) where
-  -- a byte where no line may follow
+  -- a byte at a place where no line may follow
   pub past_lines : (bytes behind : List ℕ) → 0 < length bytes → 1048576 ≤ s.lines → PassesBound settings ((given ++ bytes) ++ behind) answers
   past_lines [] behind some full = absurd (omega arith)
   past_lines (b ∷ bytes) behind some full = record {

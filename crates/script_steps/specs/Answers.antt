@@ -1,4 +1,4 @@
--- How a bench answers a request or a fault, and what a line tells.
+-- How a bench answers a request or a fault, and what is reported of a line.
 use Rattle.std.specs.Prelude.{◌≡◌, ℕ, List, [], ◌∷◌, ◌++◌, length, if◌then◌else◌, Option, Some, None, Result, Ok, Err}
 use Rattle.macro_operands.specs.declared.faults.FaultKind.{FaultKind}
 use Rattle.macro_statements.specs.Requests.{Act, Asked, act, peek, map_asked, back, forward}
@@ -24,7 +24,7 @@ abbrev pub AreShown : Result (List ℕ) Why → List ℕ → Type 0
 AreShown (Ok read) bytes = bytes ≡ read
 AreShown (Err why) bytes = Unit {0}
 
--- A reading of bytes is answered by those of the present state; that, a map and a fault leave the bench as it was.
+-- A reading of bytes shows those of the present state; it, a map and a fault leave the bench as it was.
 abbrev pub Responds : Settings → Bench NamedState → Result Asked FaultKind → Response → List ℕ → Bench NamedState
     → Type 0
 Responds settings b (Err kind) told bytes c = (told ≡ response.Fault kind) × (c ≡ b)
@@ -36,26 +36,26 @@ Responds settings b (Ok map_asked) told bytes c = (told ≡ response.Map) × (c 
 Responds settings b (Ok (back n)) told bytes c = RespondsTo settings b (Back n) told c
 Responds settings b (Ok (forward n)) told bytes c = RespondsTo settings b (Forward n) told c
 
--- A line has at most one answer, which is told with the number of the statement's first line.
+-- A line has at most one answer, which is reported with the number of the statement's first line.
 abbrev pub Tells : Settings → Bench NamedState → List grammar.Answer → Option (ℕ × Response) → List ℕ
     → Bench NamedState → Type 0
 Tells settings b [] None bytes c = c ≡ b
 Tells settings b (a ∷ []) (Some told) bytes c = (told.0 ≡ a.line) × Responds settings b a.what told.1 bytes c
 Tells settings b _ _ bytes c = ⊥
 
--- What it tells whatever the bench is, which stays as it was.
+-- What is reported whatever the bench is, which stays as it was.
 abbrev pub IsToldAlone : List grammar.Answer → Option (ℕ × Response) → Type 0
 IsToldAlone told shown =
     (settings : Settings) (b : Bench NamedState) (bytes : List ℕ) → Tells settings b told shown bytes b
 
--- The printed line of an answer, if there is one, where these bytes are shown; and the lines behind it: those of a map
--- show the bench as it is then.
+-- The printed line of an answer, if there is one, with these bytes if they are shown; and the lines after it: those of
+-- a map show the bench as it is then.
 abbrev pub told_text : Settings → Bench NamedState → List ℕ → Option (ℕ × Response) → List ℕ
 told_text settings b bytes None = []
 told_text settings b bytes (Some told) =
     numbered told.0 (response_text bytes told.1) ++ lines_behind settings b.present (length b.past) told.1
 
--- how many lines are told, and how many of them are refusals
+-- how many lines are reported, and how many of them are refusals
 abbrev pub told_count : Option (ℕ × Response) → ℕ
 told_count None = 0
 told_count (Some told) = 1

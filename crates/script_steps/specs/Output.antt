@@ -1,4 +1,4 @@
--- The output of a script: each response is that of the plain machine, run alone over the statements that stand there.
+-- The output of a script: each response is that of the plain machine, run over only the statements in effect then.
 use Rattle.std.specs.Prelude.{ℕ, ◌+◌, List, [], ◌∷◌, ◌++◌, length, map, Bool, true, false, nat_le, if◌then◌else◌}
 use Rattle.std.specs.Prelude.{Option, Some, None, Result, Ok, Err}
 use Rattle.macro_operands.specs.declared.faults.FaultKind.{FaultKind}
@@ -15,7 +15,7 @@ use Rattle.script_steps.specs.Responses.{is_refused, numbered}
 use Rattle.script_steps.specs.declared.responses.Response.{Response}
 use Rattle.script_steps.specs.declared.responses.Response.TheVariants as response
 
--- An answer of the grammar, and whether its statement was refused for want of memory.
+-- An answer of the grammar, and whether its statement was refused because memory ran out.
 pub record Marked : Type 0 where
   pub answer : grammar.Answer
   pub unmet : Bool
@@ -29,11 +29,11 @@ call_in (back n) = Some (Back n)
 call_in (forward n) = Some (Forward n)
 
 module _ (settings : Settings) where
-  -- The state of the plain machine after the standing statements alone.
+  -- The state of the plain machine after only the standing statements.
   abbrev pub alone_now : Standing Act Reply → NamedState
   alone_now l = alone first_named_state (statement_step settings) (map (λ x. x.statement) l.stood)
 
-  -- The answer to a call where these statements stand, which is refused for want of memory or isn't.
+  -- The answer to a call when these statements are in effect; it is refused because memory runs out, or isn't.
   abbrev pub answer_to : Standing Act Reply → Bool → Call Act → Answer Reply Why
   answer_to l true (Apply x) = NoMemory
   answer_to l false (Apply x) = outcome_answer (statement_step settings (alone_now l) x)
@@ -41,13 +41,13 @@ module _ (settings : Settings) where
   answer_to l unmet (Forward n) = if nat_le n (length l.undone) then Moved else TooFar (length l.undone)
   answer_to l unmet Look = Shown
 
-  -- Only a statement that the plain machine accepts is refused for want of memory.
+  -- Only a statement that the plain machine accepts is refused because memory runs out.
   abbrev pub IsMet : Standing Act Reply → Bool → Result Asked FaultKind → Type 0
   IsMet l false what = Unit {0}
   IsMet l true (Ok (act x)) = IsAccepted (statement_step settings (alone_now l) x)
   IsMet l true _ = ⊥
 
-  -- The statements that stand after a call,
+  -- The statements in effect after a call,
   abbrev pub stands_behind : Standing Act Reply → Bool → Option (Call Act) → Standing Act Reply
   stands_behind l unmet None = l
   stands_behind l unmet (Some call) = stand settings.history l call (answer_to l unmet call)
@@ -57,7 +57,7 @@ module _ (settings : Settings) where
   stands_with l unmet (Err kind) = l
   stands_with l unmet (Ok asked) = stands_behind l unmet (call_in asked)
 
-  -- and the response to it: to a call, or to a reading of bytes in the state of the standing statements alone.
+  -- and the response to it: to a call, or to a reading of bytes in the state of only the standing statements.
   abbrev pub responded_to : Standing Act Reply → Bool → Call Act → Response
   responded_to l unmet call =
       response_to call (answer_to l unmet call) (stands_behind l unmet (Some call)).kept
@@ -86,7 +86,8 @@ module _ (settings : Settings) where
   AllMet l [] = Unit {0}
   AllMet l (m ∷ ms) = IsMet l m.unmet m.answer.what × AllMet (stands_after l m) ms
 
-  -- The lines behind that of a response where these statements stand: a map is that of the standing statements alone.
+  -- The lines after that of a response when these statements are in effect: a map is that of only the standing
+  -- statements.
   abbrev pub lines_with : Standing Act Reply → Response → List ℕ
   lines_with l told = lines_behind settings (alone_now l) l.kept told
 
@@ -107,11 +108,11 @@ module _ (settings : Settings) where
   refusals l (m ∷ ms) =
       (if is_refused (responded l m.unmet m.answer.what) then 1 else 0) + refusals (stands_after l m) ms
 
-  -- The output of a script with these answers, none of whose statements stood at first.
+  -- The output of a script with these answers, at whose start no statement was in effect.
   abbrev pub output : List Marked → List ℕ
   output = texts nothing_stands
 
-  -- The calls that the answers stand for, each with its answer.
+  -- The calls that the answers represent, each with its answer.
   abbrev pub heard_call : Standing Act Reply → Bool → Option (Call Act) → List (Heard Act Reply Why)
       → List (Heard Act Reply Why)
   heard_call l unmet None hs = hs

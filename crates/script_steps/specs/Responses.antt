@@ -19,7 +19,7 @@ use Rattle.bench_core.specs.Refusal.TheVariants as refusal
 use Rattle.script_steps.specs.declared.responses.Response.{Response}
 use Rattle.script_steps.specs.declared.responses.Response.TheVariants as response
 
--- The response to a call, by its answer and by the number of changes that are kept behind it.
+-- The response to a call, by its answer and by the number of changes that are kept after it.
 abbrev pub response_to : Call Act → Answer Reply Why → ℕ → Response
 response_to call (Replied reply) kept = response.Replied reply
 response_to call (RefusedFor why) kept = response.Refused (refusal_for why)
@@ -60,7 +60,7 @@ refusal_text refusal.Name = codes "REFUSED NAME"
 refusal_text (refusal.Abend code) = codes "ABEND " ++ code_text code
 refusal_text refusal.NoMemory = codes "REFUSED MEMORY"
 
--- the text of a response, where these bytes are shown
+-- the text of a response, with these bytes if they are shown
 abbrev pub response_text : List ℕ → Response → List ℕ
 response_text bytes (response.Replied reply) = reply_text reply
 response_text bytes (response.Refused r) = refusal_text r
@@ -71,7 +71,7 @@ response_text bytes (response.TooFarAhead n) = codes "REFUSED UNDONE=" ++ decima
 response_text bytes (response.Fault k) = codes "FAULT " ++ fault_word k
 response_text bytes response.Map = codes "MAP"
 
--- the lines behind that of a response, in this state and with so many changes kept: those of the map
+-- the lines after that of a response, in this state and with this many changes kept: those of the map
 abbrev pub lines_behind : Settings → NamedState → ℕ → Response → List ℕ
 lines_behind settings m kept (response.Replied reply) = []
 lines_behind settings m kept (response.Refused r) = []

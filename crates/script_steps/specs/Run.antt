@@ -15,21 +15,21 @@ use Rattle.script_steps.specs.declared.session.Session.{Session}
 use Rattle.script_steps.specs.declared.session.TooLong.{TooLong}
 use Rattle.text_output.specs.declared.writing.Gathered.{Gathered}
 
--- The session took these bytes, and the lines of its answers stand behind what the writer held at first, but for what
--- is gathered.
+-- The session took these bytes, and the lines of its answers follow what the writer held at first, except what is
+-- gathered.
 pub record Runs (settings : Settings) (at_first now : Option (List ℕ)) (g : Gathered) (given : List ℕ) (s : Session) :
     Type 0 where
   pub answers : List Marked
   pub took : Took settings given answers s
   pub out : Holds at_first now g (output settings answers)
 
--- This holds behind a call, whatever the settings, what the writer held at first, and the bytes taken before.
+-- This holds after a call, whatever the settings, what the writer held at first, and the bytes taken before.
 abbrev pub GoesOn : Option (List ℕ) → Gathered → Session → (Settings → Option (List ℕ) → List ℕ → Type 0) → Type 0
 GoesOn now g s holds =
     (settings : Settings) (at_first : Option (List ℕ)) (given : List ℕ) → Runs settings at_first now g given s
     → holds settings at_first given
 
--- One of these bytes passes a bound, whatever stands behind them; the lines before it are told.
+-- One of these bytes passes a bound, whatever follows them; the output of the lines before it is put.
 pub record Passes (settings : Settings) (at_first now : Option (List ℕ)) (g : Gathered) (given : List ℕ) : Type 0 where
   pub answers : List Marked
   pub past : (behind : List ℕ) → PassesBound settings (given ++ behind) answers
@@ -40,7 +40,7 @@ abbrev pub Takes : Settings → Option (List ℕ) → Option (List ℕ) → Gath
 Takes settings at_first now g given s (Ok u) = Runs settings at_first now g given s
 Takes settings at_first now g given s (Err e) = Passes settings at_first now g given
 
--- So many bytes of the rest were taken; or one of them passes a bound.
+-- This many bytes of the rest were taken; or one of them passes a bound.
 abbrev pub TakesLine : Settings → Option (List ℕ) → Option (List ℕ) → Gathered → List ℕ → List ℕ → Session
     → Result ℕ TooLong → Type 0
 TakesLine settings at_first now g given rest s (Ok n) = Runs settings at_first now g (given ++ take n rest) s
@@ -50,16 +50,16 @@ abbrev pub IsNewFault : Settings → NewFault → Type 0
 IsNewFault settings new_fault.Setting = settings_valid settings ≡ false
 IsNewFault settings new_fault.NoMemory = settings_valid settings ≡ true
 
--- The answers to the complete lines of these bytes, up to a byte that passes a bound; or to the whole script that they
--- are, but only where the reader has met its end.
+-- The answers to the complete lines of these bytes, up to a byte that passes a bound; or to these bytes as the whole
+-- script, but only if the reader has met its end.
 abbrev pub Answered : Settings → Option (List ℕ) → List ℕ → List Marked → Type 0
 Answered settings left given answers =
     (Unended settings given answers ⊎ PassesBound settings given answers)
     ⊎ (IsAtEnd left × Ended settings given answers)
 
--- After a read fault the text is that of the complete lines of the bytes read. After a write fault what went out is a
--- front of that text; or of the text of the whole script, where the reader has met its end. Where a byte passes a bound
--- the text is that of the lines before it. Where no bench could be made nothing was read or written.
+-- After a read fault the text is that of the complete lines of the bytes read. After a write fault what was written is
+-- a prefix of that text, or of the text of the whole script if the reader has met its end. If a byte passes a bound the
+-- text is that of the lines before it. If no bench could be made nothing was read or written.
 abbrev pub FaultAt : Settings → Option (List ℕ) → Option (List ℕ) → Option (List ℕ) → List ℕ → RunFault → Type 0
 FaultAt settings left at_first now given fault.Read =
     (answers : List Marked) × Unended settings given answers × Appends at_first now (output settings answers)

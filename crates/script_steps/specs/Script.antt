@@ -13,12 +13,12 @@ NoFeed bytes = AllByRecursion (λ c. c ≢ 10) bytes
 abbrev pub with_feed : List ℕ → List ℕ
 with_feed line = line ++ 10 ∷ []
 
--- a line of 65,536 bytes at most, without its line feed
+-- a line of at most 65,536 bytes, without its line feed
 abbrev pub IsLine : List ℕ → Type 0
 IsLine line = NoFeed line × (length line ≤ 65536)
 
--- These bytes are these lines, each with its line feed, and a rest without one; and they pass no bound: there are
--- 1,048,576 lines at most, counting the rest where there is one.
+-- These bytes are these lines, each with its line feed, and a rest without one; and they pass no bound: there are at
+-- most 1,048,576 lines, counting the rest if there is one.
 pub record Within (given : List ℕ) (lines : List (List ℕ)) (rest : List ℕ) : Type 0 where
   pub cut : given ≡ flat_map with_feed lines ++ rest
   pub each : AllByRecursion IsLine lines
@@ -30,7 +30,7 @@ pub record Within (given : List ℕ) (lines : List (List ℕ)) (rest : List ℕ)
 abbrev pub IsPast : List (List ℕ) → List ℕ → ℕ → Type 0
 IsPast lines rest byte = (length lines ≡ 1048576) ⊎ ((byte ≢ 10) × (length rest ≡ 65536))
 
--- What stands behind the last line feed is a line where there is anything.
+-- What follows the last line feed is a line if there is anything.
 abbrev pub last_line : List ℕ → List (List ℕ)
 last_line [] = []
 last_line (c ∷ cs) = take 80 (c ∷ cs) ∷ []

@@ -1,12 +1,13 @@
 -- The bytes of a script that a run has taken, and the answers that it gave to them.
 use Rattle.std.specs.Prelude.{◌≡◌, ℕ, List, [], ◌∷◌, ◌++◌, length, take, map, Option, Some, None, Result, Ok, Err}
+use Rattle.std.specs.List.{AllByRecursion}
 use Rattle.macro_reader.specs.Scripts as grammar
 use Rattle.vsm_model.specs.declared.limits.Settings.{Settings}
 use Rattle.vsm_model.specs.Names.{NamedState, first_named_state}
 use Rattle.vsm_model.specs.Standing.{Bench, Leads, Standing, new_bench, nothing_stands}
 use Rattle.bench_core.specs.Machine.{Why, statement_step, shown_at}
 use Rattle.macro_operands.specs.declared.faults.FaultKind.{FaultKind}
-use Rattle.macro_statements.specs.Requests.{Act, Asked, peek}
+use Rattle.macro_statements.specs.Requests.{Act, Asked, IsValidAsked, peek}
 use Rattle.vsm_model.specs.declared.replies.Reply.{Reply}
 use Rattle.script_steps.specs.Answers.{AreShown}
 use Rattle.script_steps.specs.Output.{Marked, AllMet, alone_now, heard_all, refusals, responded, stands_all, texts}
@@ -25,8 +26,8 @@ answers_of = map (λ m. m.answer)
 abbrev pub Told : List (List ℕ) → List grammar.Answer → Type 0
 Told lines answers = (kept : grammar.Kept) × grammar.IsBehind lines answers kept
 
--- A bench is led by the answers so far, of which only statements that would have been accepted were refused for want of
--- memory.
+-- A bench is led by the answers up to now, in which only statements that would have been accepted were refused because
+-- memory ran out.
 pub record Led (settings : Settings) (answers : List Marked) (b : Bench NamedState) : Type 0 where
   pub leads : Leads (statement_step settings) settings.history (new_bench first_named_state)
       (heard_all settings nothing_stands answers) b
@@ -40,7 +41,7 @@ pub record Ended (settings : Settings) (given : List ℕ) (answers : List Marked
   pub told : grammar.Answers (map columns lines ++ last_line rest) (answers_of answers)
   pub met : AllMet settings nothing_stands answers
 
--- of one that has not ended, where an incomplete last line and an open statement are left out,
+-- of one that has not ended, without an incomplete last line and an open statement,
 pub record Unended (settings : Settings) (given : List ℕ) (answers : List Marked) : Type 0 where
   pub lines : List (List ℕ)
   pub rest : List ℕ
@@ -75,16 +76,16 @@ pub record Took (settings : Settings) (given : List ℕ) (answers : List Marked)
   pub statements : s.statements ≡ length answers
   pub refused : s.refused ≡ refusals settings nothing_stands answers
 
--- Bytes of a line were taken; or one of them passes a bound, whatever stands behind them.
+-- Bytes of a line were taken; or one of them passes a bound, whatever follows them.
 abbrev pub TakesBytes : Settings → List ℕ → List Marked → Session → Result (Unit {0}) TooLong → Type 0
 TakesBytes settings given answers s (Ok u) = Took settings given answers s
 TakesBytes settings given answers s (Err e) = (behind : List ℕ) → PassesBound settings (given ++ behind) answers
 
--- These further answers are told by this text.
+-- This text is the output of these further answers.
 abbrev pub IsTold : Settings → List Marked → List Marked → List ℕ → Type 0
 IsTold settings answers more text = text ≡ texts settings (stands_all settings nothing_stands answers) more
 
--- These further answers are what is told: none, or one, with its number and its response.
+-- These further answers are what is reported: none, or one, with its number and its response.
 abbrev pub Brings : Settings → List Marked → List Marked → Option (ℕ × Response) → Type 0
 Brings settings answers [] None = Unit {0}
 Brings settings answers (m ∷ []) (Some told) =
@@ -92,7 +93,7 @@ Brings settings answers (m ∷ []) (Some told) =
     × (told.1 ≡ responded settings (stands_all settings nothing_stands answers) m.unmet m.answer.what)
 Brings settings answers _ _ = ⊥
 
--- A reading's bytes are shown: those of the state of the standing statements alone.
+-- A reading's bytes are shown: those of the state of only the standing statements.
 abbrev pub ShowsRead : Settings → Standing Act Reply → Result Asked FaultKind → List ℕ → Type 0
 ShowsRead settings l (Ok (peek address count)) bytes = AreShown (shown_at (alone_now settings l) address count) bytes
 ShowsRead settings l _ bytes = Unit {0}
@@ -103,12 +104,21 @@ Shows settings answers (m ∷ []) bytes =
     ShowsRead settings (stands_all settings nothing_stands answers) m.answer.what bytes
 Shows settings answers _ bytes = Unit {0}
 
+-- This is what a statement asked for, and can be written, unless it's wrong,
+abbrev pub IsAskedBy : Asked → Result Asked FaultKind → Type 0
+IsAskedBy asked (Ok x) = (asked ≡ x) × IsValidAsked x
+IsAskedBy asked (Err kind) = Unit {0}
+
+-- and so did that of each of these answers: of none, or of one.
+abbrev pub AreAsked : Asked → List grammar.Answer → Type 0
+AreAsked asked = AllByRecursion (λ a. IsAskedBy asked a.what)
+
 -- The totals of a script with these answers.
 abbrev pub Counts : Settings → List Marked → RunTotals → Type 0
 Counts settings answers totals =
     (totals.statements ≡ length answers) × (totals.refused ≡ refusals settings nothing_stands answers)
 
--- What the end of a script brings: the answers to a last line without a line feed, and then to an open statement, which
+-- What the end of a script gives: the answers to a last line without a line feed, and then to an open statement, which
 -- leaves the bench as it was.
 pub record EndBrings (settings : Settings) (given : List ℕ) (answers : List Marked) (e : Ending) : Type 0 where
   pub more : List Marked
@@ -121,3 +131,9 @@ pub record EndBrings (settings : Settings) (given : List ℕ) (answers : List Ma
   pub led_on : Led settings ((answers ++ more) ++ also) (bench_of e.bench)
   pub ended : Ended settings given ((answers ++ more) ++ also)
   pub counts : Counts settings ((answers ++ more) ++ also) e.totals
+
+-- And what their statements asked for.
+pub record EndAsks (settings : Settings) (given : List ℕ) (answers : List Marked) (e : Ending) (asked : Asked) : Type 0 where
+  pub brings : EndBrings settings given answers e
+  pub last : AreAsked asked (answers_of brings.more)
+  pub unended : AreAsked asked (answers_of brings.also)

@@ -1,4 +1,4 @@
-//! A bench answers what a line asks for.
+//! The answers of a bench to what a line asks for.
 ghost use Rattle.std.specs.Prelude.{◌≡◌, ◌≤◌, Ok, length};
 ghost use Rattle.vsm_model.specs.Standing.{Apply, Back, Forward};
 ghost use Rattle.macro_statements.specs.Requests.{peek, act_in, asked_in, written_in, IsValidAct};
@@ -16,7 +16,7 @@ use arrayvec::ArrayVec;
 use bench_core::Bench;
 use macro_reader::{Fault, Request, Statement, Value};
 
-/// Puts bytes into room for as many as a PEEK may show, which is 256, in the place of what it has.
+/// Puts bytes into room for the most that a PEEK may show, which is 256, in place of its contents.
 fn keep_shown(shown: &mut ArrayVec<u8, 256>, bytes: &[u8])
     requires { length bytes.now ≤ 256 }
     ensures { shown.new.items ≡ bytes.now }
@@ -38,7 +38,7 @@ fn carry_out(bench: &mut Bench, statement: &Statement) -> Response
     }
 }
 
-/// Shows the bytes at an address, as many as are asked for, in the room that is lent.
+/// Shows the bytes at an address, the number that is asked for, in the room that is lent.
 fn show(bench: &Bench, address: Value, count: u16, shown: &mut ArrayVec<u8, 256>) -> Response
     requires { IsValidAsked (peek (written_in address) count) }
     ensures response { result
@@ -56,7 +56,7 @@ fn show(bench: &Bench, address: Value, count: u16, shown: &mut ArrayVec<u8, 256>
     }
 }
 
-/// Undoes the last `n` changes, or none where fewer are kept.
+/// Undoes the last `n` changes, or none if fewer are kept.
 fn step_back(bench: &mut Bench, n: u32) -> Response
     ensures responds { RespondsTo (settings_in bench.old) (bench_of bench.old) (Back n) result (bench_of bench.new) }
     ensures settings { settings_in bench.new ≡ settings_in bench.old }
@@ -67,7 +67,7 @@ fn step_back(bench: &mut Bench, n: u32) -> Response
     }
 }
 
-/// Makes the first `n` undone changes again, or none where fewer are undone.
+/// Makes the first `n` undone changes again, or none if fewer are undone.
 fn step_forward(bench: &mut Bench, n: u32) -> Response
     ensures responds { RespondsTo (settings_in bench.old) (bench_of bench.old) (Forward n) result
         (bench_of bench.new) }
@@ -95,8 +95,8 @@ fn respond(bench: &mut Bench, request: &Request, shown: &mut ArrayVec<u8, 256>) 
     }
 }
 
-/// The response to what a line brought: a request, which is in a room, with the number of the statement's first line.
-/// The bytes of a reading go into another room.
+/// The response to what a line gave: a request, which is in a room, with the number of the statement's first line. The
+/// bytes of a reading go into another room.
 pub(crate) fn tell(
     bench: &mut Bench,
     fed: Result<Option<u32>, Fault>,
@@ -125,7 +125,7 @@ pub(crate) fn tell_end(ended: Result<(), Fault>) -> NumberedResponse
     }
 }
 
-/// How many lines of output are told: one or none.
+/// How many lines of output are reported: one or none.
 pub(crate) fn told_count(told: &NumberedResponse) -> u32
     ensures count { result ≡ told_count told.now }
     ensures most { result ≤ 1 }

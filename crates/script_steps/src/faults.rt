@@ -5,7 +5,7 @@ use bench_core::NewFault;
 use text_output::WriteFault;
 use thiserror::Error;
 
-/// Why a run ended before the end of its script. What went out stands for the statements that were complete.
+/// Why a run ended before the end of its script. The output is that of the statements that were complete.
 #[derive(Clone, Copy, Debug, PartialEq, Eq, Error)]
 pub enum RunFault {
     /// A read failed.

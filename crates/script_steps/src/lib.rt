@@ -1,4 +1,4 @@
-//! Scripts on a bench: line by line, where each line is carried out, answered, and told by its line of output; or
+//! Scripts on a bench: line by line, where each line is carried out, answered, and reported by its line of output; or
 //! whole, from a reader to a writer.
 #![tactic(auto)]
 

@@ -2,6 +2,7 @@
 ghost use Rattle.std.specs.Prelude.{◌≡◌, ◌<◌, [], ◌∷◌, ◌++◌, List, ℕ, take, length, Ok};
 ghost use Rattle.std.specs.Str.Lines.{strip_carriage_return};
 ghost use Rattle.vsm_model.specs.declared.limits.Settings.{Settings};
+ghost use Rattle.macro_statements.specs.Requests.{asked_in};
 ghost use Rattle.macro_reader.specs.Columns.{Line};
 ghost use Rattle.macro_reader.specs.Scripts.{Answer, IsBehind};
 ghost use Rattle.script_steps.specs.Answers.{Tells, told_text};
@@ -9,6 +10,7 @@ ghost use Rattle.script_steps.specs.Output.{Marked};
 ghost use Rattle.script_steps.specs.Script.{NoFeed, columns, last_line};
 ghost use Rattle.bench_core.specs.Stands.{IsNew, bench_of, settings_in};
 ghost use Rattle.script_steps.specs.Taken.{Took, TakesBytes, Brings, IsTold, Shows, Ended, EndBrings, Counts};
+ghost use Rattle.script_steps.specs.Taken.{AreAsked, EndAsks, answers_of};
 
 use crate::answers::{tell, tell_end, told_count, told_refused};
 use crate::responses::NumberedResponse;
@@ -18,19 +20,19 @@ use arrayvec::ArrayVec;
 use bench_core::Bench;
 use macro_reader::{Reader, Request};
 
-/// What the end of a script brings: the totals, the bench as it is then, and the responses to a last line without a
-/// line feed and to a statement that is still open.
+/// What the end of a script gives: the totals, the bench as it is then, and the responses to a last line without a line
+/// feed and to a statement that is still open.
 #[derive(Drop)]
 pub struct Ending {
     /// What the whole script counted.
     pub totals: RunTotals,
     /// The bench as the script left it.
     pub bench: Bench,
-    /// The answer that a last line without a line feed brought.
+    /// The response to a last line without a line feed.
     pub last: NumberedResponse,
     /// The fault of a statement that is open at the end.
     pub open_statement: NumberedResponse,
-    /// The bytes of the last reading that was answered by its bytes.
+    /// The bytes of the last reading that showed its bytes.
     pub shown: ArrayVec<u8, 256>,
 }
 
@@ -54,33 +56,35 @@ fn strip(line: &[u8]) -> &[u8]
     }
 }
 
-/// Columns 1 to 80 of a line of so many bytes, of which the first 80 are kept.
+/// Columns 1 to 80 of a line of this many bytes, of which the first 80 are kept.
 fn columns(kept: &[u8], size: u32) -> &[u8]
     ensures { (line : List ℕ) → size ≡ length line → kept.now ≡ take 80 line → result.now ≡ columns line }
 {
     if size <= 80 { strip(kept) } else { kept }
 }
 
-/// The response to a last line of so many bytes, of which the first 80 are kept: to none where there are no bytes.
+/// The response to a last line of this many bytes, of which the first 80 are kept; none if there are no bytes. What its
+/// statement asks for goes into the room that is lent.
 fn take_last(
     reader: &mut Reader,
     bench: &mut Bench,
     kept: &[u8],
     size: u32,
     shown: &mut ArrayVec<u8, 256>,
+    request: &mut Request,
 ) -> NumberedResponse
     ensures tells { (lines : List Line) (answers : List Answer) (rest : List ℕ) → IsBehind lines answers reader.old
         → size ≡ length rest → kept.now ≡ take 80 rest
         → (more : List Answer) × IsBehind (lines ++ last_line rest) (answers ++ more) reader.new
-        × Tells (settings_in bench.old) (bench_of bench.old) more result shown.new.items (bench_of bench.new) }
+        × Tells (settings_in bench.old) (bench_of bench.old) more result shown.new.items (bench_of bench.new)
+        × AreAsked (asked_in request.new) more }
     ensures settings { settings_in bench.new ≡ settings_in bench.old }
 {
     if size == 0 {
         return None;
     }
-    let mut request = Request::Map;
-    let fed = reader.next_into(kept, &mut request);
-    tell(bench, fed, &request, shown)
+    let fed = reader.next_into(kept, request);
+    tell(bench, fed, request, shown)
 }
 
 impl Session {
@@ -100,7 +104,7 @@ impl Session {
         }
     }
 
-    /// Takes bytes of a line, none of them a line feed. `TooLong` where one of them passes a bound.
+    /// Takes bytes of a line, none of them a line feed. `TooLong` if one of them passes a bound.
     pub fn take_bytes(&mut self, bytes: &[u8]) -> Result<(), TooLong>
         requires plain { NoFeed bytes.now }
         ensures { (settings : Settings) (given : List ℕ) (answers : List Marked) → Took settings given answers self.old
@@ -132,10 +136,23 @@ impl Session {
             × Brings settings answers more result × Took settings (given ++ 10 ∷ []) (answers ++ more) self.new
             × Shows settings answers more self.new.shown.items }
     {
-        let line = columns(self.kept.as_slice(), self.length);
         let mut request = Request::Map;
-        let fed = self.reader.next_into(line, &mut request);
-        let told = tell(&mut self.bench, fed, &request, &mut self.shown);
+        self.end_line_into(&mut request)
+    }
+
+    /// Does the same, and puts what a statement that isn't wrong asked for into a room, if there is a response.
+    pub fn end_line_into(&mut self, request: &mut Request) -> NumberedResponse
+        requires { self.old.lines < 1048576 }
+        ensures { (settings : Settings) (given : List ℕ) (answers : List Marked) → Took settings given answers self.old
+            → (more : List Marked) × IsTold settings answers more
+            (told_text settings (bench_of self.new.bench) self.new.shown.items result)
+            × Brings settings answers more result × Took settings (given ++ 10 ∷ []) (answers ++ more) self.new
+            × Shows settings answers more self.new.shown.items
+            × AreAsked (asked_in request.new) (answers_of more) }
+    {
+        let line = columns(self.kept.as_slice(), self.length);
+        let fed = self.reader.next_into(line, request);
+        let told = tell(&mut self.bench, fed, request, &mut self.shown);
         self.kept.clear();
         self.length = 0;
         self.lines += 1;
@@ -144,7 +161,7 @@ impl Session {
         told
     }
 
-    /// Takes the end of the script: what stands behind the last line feed is a line where there is anything.
+    /// Takes the end of the script: what follows the last line feed is a line if there is anything.
     pub fn end(self) -> Ending
         ensures told { (settings : Settings) (given : List ℕ) (answers : List Marked) → Took settings given answers self
             → (more : List Marked) × IsTold settings answers more
@@ -153,6 +170,21 @@ impl Session {
             × Ended settings given (answers ++ more) × Counts settings (answers ++ more) result.totals }
         ensures brings { (settings : Settings) (given : List ℕ) (answers : List Marked)
             → Took settings given answers self → EndBrings settings given answers result }
+        ensures settings { settings_in result.bench ≡ settings_in self.bench }
+    {
+        let mut request = Request::Map;
+        self.end_into(&mut request)
+    }
+
+    /// Does the same, and puts what the statement of a last line without a line feed asked for into a room.
+    pub fn end_into(self, request: &mut Request) -> Ending
+        ensures told { (settings : Settings) (given : List ℕ) (answers : List Marked) → Took settings given answers self
+            → (more : List Marked) × IsTold settings answers more
+            (told_text settings (bench_of result.bench) result.shown.items result.last
+            ++ told_text settings (bench_of result.bench) result.shown.items result.open_statement)
+            × Ended settings given (answers ++ more) × Counts settings (answers ++ more) result.totals }
+        ensures asks { (settings : Settings) (given : List ℕ) (answers : List Marked)
+            → Took settings given answers self → EndAsks settings given answers result (asked_in request.new) }
         ensures settings { settings_in result.bench ≡ settings_in self.bench }
     {
         let Session {
@@ -165,7 +197,14 @@ impl Session {
             mut shown,
             ..
         } = self;
-        let last = take_last(&mut reader, &mut bench, kept.as_slice(), length, &mut shown);
+        let last = take_last(
+            &mut reader,
+            &mut bench,
+            kept.as_slice(),
+            length,
+            &mut shown,
+            request,
+        );
         let open_statement = tell_end(reader.finish());
         let totals = RunTotals {
             statements: statements + told_count(&last) + told_count(&open_statement),

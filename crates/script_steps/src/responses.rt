@@ -13,7 +13,7 @@ pub enum Response {
     Replied(Reply),
     /// Why a service or a reading is refused.
     Refused(Refusal),
-    /// A step was made; so many changes are kept now.
+    /// A step was made; this many changes are kept now.
     Kept(u32),
     /// BACK past what is kept, with that number.
     TooFar(u32),
@@ -21,13 +21,13 @@ pub enum Response {
     TooFarAhead(u32),
     /// The bytes of a reading, which the session shows.
     Shown,
-    /// The map, whose lines come behind.
+    /// The map, whose lines follow.
     Map,
     /// The statement is wrong.
     Fault(FaultKind),
 }
 
-/// A response, with the number of the statement's first line; `None` where a line brings none.
+/// A response, with the number of the statement's first line; `None` if a line has none.
 pub type NumberedResponse = Option<(u32, Response)>;
 
 impl Response {

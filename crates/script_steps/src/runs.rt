@@ -33,7 +33,7 @@ fn take_feed<W: Write>(
     Ok(())
 }
 
-/// Takes the bytes up to the first line feed, and that; or all bytes where there is none. Gives how many these are.
+/// Takes the bytes up to and with the first line feed, or all bytes if there is none. Gives how many these are.
 fn take_line<W: Write>(
     session: &mut Session,
     gathered: &mut Gathered,
@@ -73,7 +73,7 @@ fn take_piece<W: Write>(
     Ok(())
 }
 
-/// Takes the bytes of one read, and hands out what they bring, also up to a byte that passes a bound.
+/// Takes the bytes of one read, and writes their output, also up to a byte that passes a bound.
 fn take_read<W: Write>(
     session: &mut Session,
     gathered: &mut Gathered,
@@ -114,14 +114,14 @@ fn finish<W: Write>(
     Ok(ending.totals)
 }
 
-/// Reads a script to its end, carries its statements out on a new bench under these settings, and writes a line for
-/// each statement that is complete or faulty, with the lines of the map behind that of a MAP.
+/// Reads a script to its end, carries its statements out on a new bench with these settings, and writes a line for each
+/// statement that is complete or faulty, and after that of a MAP the lines of the map.
 ///
 /// A line ends at a line feed, which isn't part of it, nor is a carriage return before it; bytes after the last line
-/// feed are a line where there are any. Output is gathered, and handed out when there is no room for more and before
-/// each read. After `Read` the output is that of the complete lines, after `TooLong` that of the lines before the byte
-/// that passes a bound, and after `Write` a front of one of these, or of all output where the reader has met its end;
-/// after `New` nothing was read or written.
+/// feed are a line if there are any. Output is gathered, and written when there is no room for more and before each
+/// read. After `Read` the output is that of the complete lines, after `TooLong` that of the lines before the byte that
+/// passes a bound, and after `Write` a prefix of one of these, or of all output if the reader has met its end; after
+/// `New` nothing was read or written.
 #[tactic(auto, using(crate::proofs::Outcomes::read_fault))]
 pub fn run<R: Read, W: Write>(
     alloc: Global,

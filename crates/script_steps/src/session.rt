@@ -16,8 +16,8 @@ pub(crate) const LINE_BYTES: u32 = 65_536;
 #[derive(Clone, Copy)]
 pub struct TooLong;
 
-/// What is kept of a script between two pieces of it: its bench, its reader, and what stands of the line that has not
-/// ended.
+/// What is kept of a script between two pieces of it: its bench, its reader, and what has been read of the line that
+/// has not ended.
 #[derive(Drop)]
 pub struct Session {
     pub(crate) reader: Reader,
@@ -30,7 +30,7 @@ pub struct Session {
     pub(crate) kept: ArrayVec<u8, 80>,
     pub(crate) statements: u32,
     pub(crate) refused: u32,
-    /// The bytes of the last reading that was answered by its bytes.
+    /// The bytes of the last reading that showed its bytes.
     pub(crate) shown: ArrayVec<u8, 256>,
     ghost short: { length ≤ 65536 },
     ghost few: { statements ≤ lines },
@@ -39,36 +39,35 @@ pub struct Session {
 }
 
 impl Session {
-    /// The bench, behind the lines that have ended.
+    /// The bench, after the lines that have ended.
     pub fn bench(&self) -> &Bench
         ensures { result.now ≡ self.now.bench }
     {
         &self.bench
     }
 
-    /// The bytes of the last reading that was answered by its bytes: those of a response `Shown`, until the next line
-    /// is taken.
+    /// The bytes of the last reading that showed its bytes: those of a response `Shown`, until the next line is taken.
     pub fn shown(&self) -> &[u8]
         ensures { result.now ≡ self.now.shown.items }
     {
         self.shown.as_slice()
     }
 
-    /// The room of these bytes.
+    /// The room that these bytes are in.
     pub fn shown_room(&self) -> &ArrayVec<u8, 256>
         ensures { result.now ≡ self.now.shown }
     {
         &self.shown
     }
 
-    /// How many lines have ended: 1,048,576 at most.
+    /// How many lines have ended: at most 1,048,576.
     pub fn lines(&self) -> u32
         ensures { result ≡ self.now.lines }
     {
         self.lines
     }
 
-    /// Where the reader stands: what the next line is to it, by whether that is skipped, or breaks a rule.
+    /// The state of the reader: what the next line is to it, by whether that is skipped, or breaks a rule.
     pub fn stand(&self) -> ReaderState
         ensures { IsStand self.now.reader.mode result }
     {

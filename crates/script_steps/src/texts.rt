@@ -100,7 +100,7 @@ fn put_shown<W: Write>(gathered: &mut Gathered, writer: &mut W, bytes: &[u8])
     put_bytes(gathered, writer, bytes);
 }
 
-/// Puts a word and a number behind it.
+/// Puts a word, followed by a number.
 #[tactic(auto, using(text_output::proofs::Gathering::puts_both))]
 fn put_count<W: Write>(gathered: &mut Gathered, writer: &mut W, word: &[u8], n: u32)
     ensures { Puts (W.contents writer.old) (W.contents writer.new) gathered.old gathered.new (word.now ++ decimal n) }
@@ -109,7 +109,7 @@ fn put_count<W: Write>(gathered: &mut Gathered, writer: &mut W, word: &[u8], n: 
     put_decimal(gathered, writer, u64::from(n));
 }
 
-/// Puts the text of a response, as it stands behind the number of its line, where these bytes are shown.
+/// Puts the text of a response, as it follows the number of its line, with these bytes if they are shown.
 #[tactic(auto, using(text_output::proofs::Gathering::puts_both))]
 pub fn put_response<W: Write>(
     gathered: &mut Gathered,
@@ -135,8 +135,8 @@ pub fn put_response<W: Write>(
     }
 }
 
-/// Puts the line of a response, where these bytes are shown: the number of the statement's first line, a blank, the
-/// text, a line feed.
+/// Puts the line of a response, with these bytes if they are shown: the number of the statement's first line, a blank,
+/// the text, a line feed.
 #[tactic(auto, using(text_output::proofs::Gathering::puts_both))]
 pub fn put_numbered<W: Write>(
     gathered: &mut Gathered,
@@ -153,7 +153,7 @@ pub fn put_numbered<W: Write>(
     gathered.put(writer, b"\n");
 }
 
-/// Puts the lines behind that of a response: the map of the bench behind that of a map, and none behind another.
+/// Puts the lines after that of a response: for a map the map of the bench, for any other none.
 pub fn put_behind<W: Write>(
     gathered: &mut Gathered,
     writer: &mut W,
@@ -169,7 +169,7 @@ pub fn put_behind<W: Write>(
     }
 }
 
-/// Puts the line of a response, if there is one, where these bytes are shown, and the lines behind it.
+/// Puts the line of a response, if there is one, with these bytes if they are shown, and the lines after it.
 #[tactic(auto, using(text_output::proofs::Gathering::puts_both))]
 pub fn put_told<W: Write>(
     gathered: &mut Gathered,

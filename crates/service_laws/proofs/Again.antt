@@ -1,4 +1,4 @@
--- The cell that was given back last is handed out first.
+-- The cell that was freed last is handed out first.
 use Rattle.std.proofs.Common.{◌≡◌, ℕ, suc, false, List, [], ◌∷◌, length, sym, ◌∙◌, ap, arith, inl, inr}
 use Rattle.std.specs.Prelude.{unwrap_or}
 use Rattle.std.proofs.lemmas.Bool.{ne_eqb, cond-false}

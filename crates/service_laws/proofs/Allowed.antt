@@ -1,4 +1,4 @@
--- What holds where a service has no cause, and what it leaves then.
+-- What holds if a service has no cause, and what it then leaves.
 use Rattle.std.proofs.Common.{◌≡◌, ℕ, suc, ◌-◌, ◌*◌, ◌/◌, ◌%◌, ◌<◌, ◌≤◌, Bool, true, false, not, ◌||◌, nat_lt, ◌==◌, Option, Some, None, length, List, [], ◌∷◌, refl, sym, ◌∙◌, ap, subst, arith, true≢false}
 use Rattle.std.specs.Prelude.{is_none, unwrap_or}
 use Rattle.std.proofs.lemmas.Bool.{or_parts, not-false, not-true, eqb-true, eqb-false, ltb-false}

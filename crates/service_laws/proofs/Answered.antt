@@ -37,7 +37,7 @@ pub named_words : (register : Option ℕ) (word : ℕ) → ((r : ℕ) → regist
 named_words None word low small = tt
 named_words (Some r) word low small = (low r refl, small, tt)
 
--- an address that isn't in a list is none of it
+-- an address that isn't in a list is none of its addresses
 pub none_of : (xs : List ℕ) (c : ℕ) → is_in xs c ≡ false → All (λ d. c ≢ d) xs
 none_of [] c e = All-nil (λ d. c ≢ d)
 none_of (x ∷ xs) c e =

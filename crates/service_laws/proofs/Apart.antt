@@ -115,7 +115,7 @@ cell_is_taken s pool cell p e =
     its.is_taken (cell / 8)
     (in-among (x.address / 8) (extent_doublewords pool x.cells) (cell / 8) (omega (arith, begin)) (omega (arith, end, size, on)))
 
--- an address stands once in a list of distinct ones
+-- an address appears once in a list of distinct ones
 once : (cell : ℕ) (rest : List ℕ) → AllPairs (λ c d. c ≢ d) (cell ∷ rest) → is_in rest cell ≡ false
 once cell rest distinct =
     false_from_ne_true (is_in rest cell) (λ e. all_at (λ d. cell ≢ d) rest cell (pairs_head (λ c d. c ≢ d) cell rest distinct) e refl)
@@ -174,7 +174,7 @@ module _ (settings : Settings) (s t : State) (w : IsWellFormed settings s) (name
                 ]
           ]
 
-  -- one of a further extent
+  -- one of another extent
   of_further : IsFirstOfFurther settings s t name pool cell → ((other : List ℕ) → IsInUse s.cell_pools other cell → ⊥) × IsInUse t.cell_pools name cell
   of_further h = (
     λ other used. both_ways (s.taken (cell / 8)) not_taken

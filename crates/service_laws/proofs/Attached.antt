@@ -18,7 +18,7 @@ use Rattle.vsm_model.proofs.Least.{least_among}
 use Rattle.service_laws.proofs.Depth.{climbs_63}
 
 module _ (s : State) (w : TasksAreSound s) (new : ℕ) (low : 1 ≤ new) (high : new ≤ 64) (free : is_task s new ≡ false) where
-  -- a task that is there isn't the new one
+  -- a task that exists isn't the new one
   other : (t : ℕ) → is_task s t ≡ true → (t == new) ≡ false
   other t there =
       elim (cases_Bool (t == new)) [

@@ -47,7 +47,7 @@ module _ (settings : Settings) (s : State) (w : IsWellFormed settings s) (new : 
     seen_is_there = w.sight.seen_is_there;
   }
 
-  -- who sees a subpool 0 sees it still
+  -- a task that sees a subpool 0 still sees it
   seen_zero : (task : ℕ) → (task == new) ≡ false → is_task more task ≡ true →
       (owner : ℕ) × (s.sight task 0 ≡ Some owner) × (climbs more.parents 64 owner task ≡ true)
   seen_zero task other there =

@@ -1,4 +1,4 @@
--- The subtree of a task has just the tasks below it.
+-- The subtree of a task has exactly the tasks below it.
 use Rattle.std.proofs.Common.{◌≡◌, ℕ, zero, suc, true, ◌==◌, is_some, sym, ◌∙◌, ap, subst, inl, inr}
 use Rattle.std.proofs.lemmas.Bool.{or_cases, or_right, eqb-true, eq-eqb}
 use Rattle.vsm_model.specs.Search.{holds}

@@ -28,7 +28,7 @@ use Rattle.service_laws.proofs.Placed.{IsOpenIn, place_from, in_regions, area_ta
 use Rattle.service_laws.proofs.Pools.{added_kept, have_cells}
 use Rattle.service_laws.proofs.Answered.{left_well_formed}
 
--- Subpools and sight alone change where a task gets a subpool of its own.
+-- Only subpools and sight change if a task gets a subpool of its own.
 pub own_alone : (s : State) (n : ℕ) → with_own s n ≡ record s { subpools = (with_own s n).subpools; sight = (with_own s n).sight }
 own_alone s n =
     elim (sees_one s n) as (λ b. (if b then s else with_subpool s n s.current)
@@ -120,7 +120,7 @@ module _ (settings : Settings) (s : State) (w : IsWellFormed settings s) (n : �
     };
   }
 
-  -- the task sees a subpool at the number then, and it's there
+  -- the task then sees a subpool at the number, and it exists
   pub own_kept : n ≤ 127 → IsWellFormed settings (with_own s n) × ((with_own s n).subpools n (seen_or_own s n).owner ≡ true)
   own_kept private =
       elim (none_or_some (s.sight s.current n)) [
@@ -143,7 +143,7 @@ module _ (settings : Settings) (s : State) (w : IsWellFormed settings s) (n : �
             )
       ]
 
--- a place that is open still is
+-- a place that is open is still open
 pub open_still : (s t : State) (p : Subpool) (count : ℕ) (r : Region) (goes : Place) → t.pages ≡ s.pages → t.taken ≡ s.taken →
     IsOpenIn s p count r goes → IsOpenIn t p count r goes
 open_still s t p count r (Inside d) same still h =

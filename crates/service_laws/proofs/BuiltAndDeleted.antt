@@ -34,7 +34,7 @@ use Rattle.service_laws.proofs.Answered.{state_is, reply_is}
 use Rattle.service_laws.proofs.Named.{code_is_set, code_from, not_both}
 use Rattle.service_laws.proofs.Promised.{seen_pool}
 
--- the subpool that the task sees then
+-- the subpool that the task then sees
 module _ (settings : Settings) (s : State) (w : IsWellFormed settings s) (n : ℕ) where
   new_there : s.sight s.current n ≡ None → SubpoolIsThere s (with_subpool s n s.current) n s.current
   new_there none = record {

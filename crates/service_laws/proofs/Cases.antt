@@ -49,7 +49,7 @@ among_in a n k e = let parts = and_parts (nat_le a k) (nat_lt k (a + n)) e in (l
 pub in_among : (a n k : ℕ) → a ≤ k → k < a + n → among a n k ≡ true
 in_among a n k low high = and_from (nat_le a k) (nat_lt k (a + n)) (le-leb a k low) (lt-ltb k (a + n) high)
 
--- what holds where a test chooses the first value, and where it chooses the second
+-- what holds if a test chooses the first value, and if it chooses the second
 pub chosen : {A : Type 0} (b : Bool) (x y z : A) (P : Type 0) → (if b then x else y) ≡ z → (b ≡ true → x ≡ z → P) → (b ≡ false → y ≡ z → P) → P
 chosen true x y z P e f g = f refl e
 chosen false x y z P e f g = g refl e
@@ -73,7 +73,7 @@ all_pass_witness f a (suc n) e =
       | inr here ↦ (a, omega arith, omega arith, here)
     ]
 
--- where none of a run passes, each doesn't
+-- if none of a run passes, each doesn't
 pub none_pass_at : (f : ℕ → Bool) (a n k : ℕ) → some_pass f a n ≡ false → among a n k ≡ true → f k ≡ false
 none_pass_at f a n k e is =
     let place = among_in a n k is in

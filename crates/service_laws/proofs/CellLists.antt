@@ -52,7 +52,7 @@ cell_bounds size count e =
     let d = and_parts ((size % 4) == 0) (nat_le 4 size) c.0 in
     (leb-true 4 size d.1, leb-true size 4096 c.1, leb-true 1 count b.1, leb-true count 4096 a.1)
 
--- the cells of an extent stand a size apart
+-- the cells of an extent are a size apart
 pub cell_at : (size first count c : ℕ) → is_in (cells_from size first count) c ≡ true → (i : ℕ) × (i < count) × (c ≡ first + i * size)
 cell_at size first zero c e = absurd (true≢false (sym e))
 cell_at size first (suc count) c e =

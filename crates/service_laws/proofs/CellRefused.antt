@@ -35,7 +35,7 @@ same_cause c d e = cc
 none_is_not : (c : Cause) → ◌≡◌ {A = Option Cause} None (Some c) → ⊥
 none_is_not c e = cc
 
--- the first cause is this one, or one behind it
+-- the first cause is this one, or one after it
 at_cause : (b : Bool) (first cause : Cause) (rows : Causes) (P : Type 0) → first_cause ((b, first) ∷ rows) ≡ Some cause →
     (b ≡ true → first ≡ cause → P) → (b ≡ false → first_cause rows ≡ Some cause → P) → P
 at_cause true first cause rows P e here rest = here refl (same_cause first cause e)

@@ -1,4 +1,4 @@
--- A cell that is in busy stays in busy until it's given back or its cell pool is gone.
+-- A cell that is in use stays in use until it's freed or its cell pool is gone.
 use Rattle.std.proofs.Common.{◌≡◌, ◌≢◌, ◌⊎◌, ℕ, ◌/◌, Ordering, Less, Equal, Greater, Bool, true, false, not, ◌||◌, ◌==◌, if◌then◌else◌, Option, Some, None, List, [], ◌∷◌, ◌++◌, map, filter, refl, sym, ◌∙◌, ap, subst, arith, inl, inr, true≢false}
 use Rattle.std.specs.Prelude.{unwrap_or}
 use Rattle.std.specs.Option.{option_map}
@@ -189,7 +189,7 @@ module _ (name : List ℕ) (cell : ℕ) where
   others_use : (s t : State) (other : List ℕ) → OthersStay s t other → name ≢ other → IsInUse s.cell_pools name cell → IsInUse t.cell_pools name cell
   others_use s t other stay apart (pool, found, used) = (pool, stay name apart ∙ found, used)
 
-  -- the first free cell isn't the one in busy
+  -- the first free cell isn't the one in use
   after_first : (s t : State) (pool : CellPool) (handed : ℕ) → cell_pool_in s.cell_pools name ≡ Some pool → IsFirstFree s t name pool handed →
       IsInUse s.cell_pools name cell → IsInUse t.cell_pools name cell
   after_first s t pool handed at h (q, found, used) =
@@ -201,7 +201,7 @@ module _ (name : List ℕ) (cell : ℕ) where
         and_from (is_in (cells_of pool) cell) (not (is_in h.rest cell)) parts.0 (ap not (or_parts (handed == cell) (is_in h.rest cell) not_free).1),
       )
 
-  -- nor is a cell of a further extent
+  -- nor is a cell of another extent
   after_further : (settings : Settings) (s t : State) (w : IsWellFormed settings s) (pool : CellPool) (handed : ℕ) → cell_pool_in s.cell_pools name ≡ Some pool →
       IsFirstOfFurther settings s t name pool handed → IsInUse s.cell_pools name cell → IsInUse t.cell_pools name cell
   after_further settings s t w pool handed at h (q, found, used) =

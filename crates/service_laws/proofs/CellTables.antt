@@ -45,7 +45,7 @@ none_removed first (row ∷ table) below =
     ap (λ o. cond (not (is_eq o)) (row ∷ without_cell_pool table first) (without_cell_pool table first)) (less _ parts.0)
     ∙ ap (λ rest. row ∷ rest) (none_removed first table parts.1)
 
--- The rows before and behind that of the name.
+-- The rows before and after that of the name.
 pub record Row (table : CellPools) (name : List ℕ) (pool : CellPool) : Type 0 where
   pub before : CellPools
   pub after : CellPools
@@ -89,7 +89,7 @@ row_of (row ∷ table) name pool up found =
           }
     ] refl
 
--- The rows before and behind the place of a name that has none.
+-- The rows before and after the place of a name that has none.
 pub record Gap (table : CellPools) (name : List ℕ) : Type 0 where
   pub before : CellPools
   pub after : CellPools
@@ -120,7 +120,7 @@ gap_of (row ∷ table) name none =
           }
     ] refl
 
--- the name has the new cell pool then
+-- the name then has the new cell pool
 pub put_found : (table : CellPools) (name : List ℕ) (pool : CellPool) → cell_pool_in (with_cell_pool table name pool) name ≡ Some pool
 put_found table name pool =
     find-put order nat_list_cmp_total name name pool table

@@ -20,7 +20,7 @@ use Rattle.service_laws.proofs.Cases.{same_some, none_some, belongs_is, among_in
 use Rattle.service_laws.proofs.StorageTables.{pairs_of_part, all_passing, ascending_part, fewer}
 use Rattle.service_laws.proofs.Places.{IsOf, Goes}
 
--- sight and tasks stay where nothing of them changes
+-- sight and tasks stay if nothing of them changes
 same_sight : (s t : State) → t.parents ≡ s.parents → t.subpools ≡ s.subpools → t.sight ≡ s.sight → SightIsSound s → SightIsSound t
 same_sight s t parents subpools sight w =
     subst (λ f. SightIsSound (record t { parents = f })) (sym parents)
@@ -39,7 +39,7 @@ module _ (settings : Settings) (s : State) (w : IsWellFormed settings s) where
   task_at : (t : ℕ) → t ≡ s.current → is_task s t ≡ true
   task_at t is = subst (λ k. is_task s k ≡ true) (sym is) w.tasks.current_is_task
 
-  -- a subpool more
+  -- another subpool
   subpool_sight : (n : ℕ) → n ≤ 127 → SightIsSound (with_subpool s n s.current)
   subpool_sight n private = record {
     owner_is_task = λ m t there.
@@ -224,7 +224,7 @@ module _ (settings : Settings) (s : State) (w : IsWellFormed settings s) where
   area_kept p there count boundary (Fresh page) (r, its, run) = fresh_kept r its p there page count run
   area_kept p there count boundary Nowhere goes = w
 
-  -- an area in use is given back
+  -- an area in use is released
   module _ (p : Subpool) (d count : ℕ) (used : some_pass (is_not_taken s p) d count ≡ false) where
     left : ℕ → Bool
     left k = not (among d count k) && s.taken k

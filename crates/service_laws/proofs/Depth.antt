@@ -25,7 +25,7 @@ apart_from x (y ∷ ys) e =
       later false is = is
 
 module _ (s : State) (w : TasksAreSound s) where
-  -- the task is just so many steps below task 1
+  -- the task is exactly that many steps below task 1
   Depth : ℕ → ℕ → Type 0
   Depth zero t = t ≡ 1
   Depth (suc n) t = ((t == 1) ≡ false) × (p : ℕ) × (s.parents t ≡ Some p) × Depth n p
@@ -129,7 +129,7 @@ module _ (s : State) (w : TasksAreSound s) where
   climbs_by (suc n) (suc k) t below d =
       or_right (t == 1) _ (subst (λ o. holds (climbs s.parents n 1) o ≡ true) (sym d.2) (climbs_by n k d.1 (omega (arith, below)) d.3))
 
--- 63 steps up the tree come from any task to task 1
+-- 63 steps up the tree lead from any task to task 1
 pub climbs_63 : (s : State) → TasksAreSound s → (steps task : ℕ) → climbs s.parents steps 1 task ≡ true → climbs s.parents 63 1 task ≡ true
 climbs_63 s w steps task e =
     let (k, deep) = depth_of s w steps task e in
@@ -155,6 +155,6 @@ depth_at s w (suc n) t (p, at, below) = (
 pub none_is_deeper : NoneIsDeeper
 none_is_deeper s w steps task below = at_most s w steps task (depth_at s w steps task below)
 
--- and it's below task 1 by one number of steps alone
+-- and it's below task 1 by only one number of steps
 pub only_steps : (s : State) → TasksAreSound s → (a b task : ℕ) → IsStepsBelow s a 1 task → IsStepsBelow s b 1 task → a ≡ b
 only_steps s w a b task d e = only_depth s w a b task (depth_at s w a task d) (depth_at s w b task e)

@@ -1,4 +1,4 @@
--- What is left when doublewords of a subpool are given back.
+-- What is left when doublewords of a subpool are released.
 use Rattle.std.proofs.Common.{◌≡◌, ℕ, zero, suc, ◌+◌, ◌*◌, ◌/◌, ◌<◌, ◌≤◌, Bool, true, false, not, ◌&&◌, ◌||◌, ◌==◌, if◌then◌else◌, Option, Some, None, is_some, List, [], ◌∷◌, refl, sym, ◌∙◌, ap, subst, arith, inl, inr, true≢false}
 use Rattle.std.specs.List.{list_any}
 use Rattle.std.proofs.lemmas.Bool.{cases_Bool, and_parts, and_from, and_cases, and_right, cond-true, cond-false, not-true, not-false, both_ways, false_from_ne_true, eq-eqb}
@@ -46,7 +46,7 @@ module _ (taken : ℕ → Bool) (page : ℕ) where
       let (d, low, high, at) = witness (λ k. not (taken k)) (page * 512) 512 e in
       (d, omega (arith, low, high), not-false (taken d) at)
 
--- The doublewords of the test are given back, and then each page of the subpool that no doubleword keeps.
+-- The doublewords of the test are released, and then each page of the subpool that no doubleword keeps.
 abbrev pub emptied : State → Subpool → (ℕ → Bool) → State
 emptied s p gone =
     record s {
@@ -118,7 +118,7 @@ module _ (s : State) (p : Subpool) (f g : ℕ → Bool) where
         bytes = λ a. if holds (same_subpool p) (s.pages (a / 4096)) && is_idle (left_is i) (a / 4096) then None else s.bytes a;
       })
 
--- in one of these extents, or else given back before
+-- in one of these extents, or else released before
 regrouped : (a b c : Bool) → (b || (a || c)) ≡ ((a || b) || c)
 regrouped true true c = refl
 regrouped true false c = refl
@@ -169,7 +169,7 @@ module _ (settings : Settings) (s : State) (w : PagesAreSound settings s) (p : S
       absurd (both_ways (is_idle s.taken (a / 4096)) (never_idle (a / 4096) there) parts.1)
   byte_stays a false stays = cond-false (holds (same_subpool p) (s.pages (a / 4096)) && is_idle s.taken (a / 4096)) None (s.bytes a) stays
 
-  -- where nothing is given back nothing leaves
+  -- if nothing is released nothing leaves
   nothing_gone : emptied s p (λ k. false) ≡ s
   nothing_gone = λ i. record s {
     taken = s.taken;
@@ -195,7 +195,7 @@ module _ (settings : Settings) (s : State) (w : PagesAreSound settings s) where
     abbrev leaves : ℕ → Bool
     leaves k = holds (same_subpool p) (s.pages k) && is_idle left k
 
-    -- given back are doublewords of the subpool's pages
+    -- what is released are doublewords of the subpool's pages
     pub pages_left : ((d : ℕ) → gone d ≡ true → s.pages (d / 512) ≡ Some p) → PagesAreSound settings (emptied s p gone)
     pages_left used = record {
       in_region = λ k q e. picked (leaves k) None (s.pages k) (Some q) _ e (λ _ is. absurd (none_some q is)) (λ _ old. w.in_region k q old);
@@ -221,7 +221,7 @@ module _ (settings : Settings) (s : State) (w : PagesAreSound settings s) where
       are_bytes = λ a byte e. picked (leaves (a / 4096)) None (s.bytes a) (Some byte) _ e (λ _ is. absurd (none_some byte is)) (λ _ old. w.are_bytes a byte old);
     }
 
-    -- an extent stays where none of its doublewords is given back
+    -- an extent stays if none of its doublewords is released
     pub extent_left : (q : CellPool) (y : CellExtent) → IsInSubpool s q y →
         ((d : ℕ) → among (y.address / 8) (extent_doublewords q y.cells) d ≡ true → gone d ≡ false) → IsInSubpool (emptied s p gone) q y
     extent_left q y h apart = record {

@@ -62,7 +62,7 @@ module _ (s : State) (these : ℕ → Bool) (closed : (task parent : ℕ) → s.
   owns_still : (number owner : ℕ) → s.subpools number owner ≡ true → these owner ≡ false → (without_tasks s these).subpools number owner ≡ true
   owns_still number owner there stays = and_from (not (these owner)) (s.subpools number owner) (ap not stays) there
 
-  -- what is seen then was seen, by one who stays, of one who stays
+  -- what is then seen was seen, by a task that stays, of a task that stays
   saw : (task number owner : ℕ) → (without_tasks s these).sight task number ≡ Some owner →
       (s.sight task number ≡ Some owner) × (these task ≡ false) × (these owner ≡ false)
   saw task number owner e =
@@ -115,7 +115,7 @@ module _ (s : State) (these : ℕ → Bool) (closed : (task parent : ℕ) → s.
     gone true o word e h = refl
     gone false o word e h = h e
 
-  -- the pages of those who stay
+  -- the pages of the tasks that stay
   these_pools : Subpool → Bool
   these_pools p = these p.owner
 

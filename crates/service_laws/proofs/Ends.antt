@@ -21,7 +21,7 @@ use Rattle.service_laws.proofs.Turned.{turned, turned_is_well_formed}
 same_parent : {m n : ℕ} → ◌≡◌ {A = Option ℕ} (Some m) (Some n) → m ≡ n
 same_parent e = cc
 
--- who comes to task 1 is a task
+-- what leads to task 1 is a task
 pub comes : (s : State) → TasksAreSound s → (n task : ℕ) → climbs s.parents n 1 task ≡ true → is_task s task ≡ true
 comes s w zero task e = ap (λ t. is_some (s.parents t)) (eqb-true task 1 e) ∙ ap is_some w.root
 comes s w (suc n) task e =
@@ -57,7 +57,7 @@ module _ (s : State) (w : TasksAreSound s) (task : ℕ) (there : is_task s task 
         | inr is ↦ is
       ]
 
--- without a cause the task is there, and the current one is its parent
+-- without a cause the task exists, and the current one is its parent
 pub detach_passes : (s : State) (task : ℕ) → first_cause (detach_causes s task) ≡ None → (is_task s task ≡ true) × (is_child s s.current task ≡ true)
 detach_passes s task none =
     let first = past (not (is_task s task)) NoTask ((not (is_child s s.current task), NotParent) ∷ []) none in

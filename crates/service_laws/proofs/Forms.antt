@@ -1,4 +1,4 @@
--- A conditional form differs from an unconditional one by return code 4 alone.
+-- A conditional form differs from an unconditional one only by return code 4.
 use Rattle.std.proofs.Common.{◌≡◌, Bool, true, false, if◌then◌else◌, Option, Some, None, refl, inl, inr}
 use Rattle.vsm_model.specs.declared.causes.Cause.{Cause}
 use Rattle.vsm_model.specs.declared.limits.Settings.{Settings}

@@ -80,7 +80,7 @@ module _ (settings : Settings) (s : State) (valid : settings_valid settings ≡ 
   abbrev new : CellExtent
   new = extent_at goes its.secondary
 
-  -- one of a further extent
+  -- one of another extent
   further_out : has_no_cell its ≡ true → is_nowhere goes ≡ false →
       IsGood settings (handed_out (with_extent_area s its its.secondary goes) name (with_extent its new))
   further_out none there =
@@ -138,7 +138,7 @@ module _ (settings : Settings) (s : State) (valid : settings_valid settings ≡ 
         | false ↦ λ some room. free_out some
       ] refl room
 
--- without a cause the cell pool is there, and has a cell or a place for some
+-- without a cause the cell pool exists, and has a cell or a place for some
 pub get_may : (settings : Settings) (names_full : Bool) (s : State) (name : List ℕ) (g : Get) →
     first_cause (get_causes settings names_full s name g) ≡ None → (sees_pool s name ≡ true)
     × ((has_no_cell (pool_of s name) && (g.conditional || is_nowhere (extent_place settings s (pool_of s name) (pool_of s name).secondary))) ≡ false)

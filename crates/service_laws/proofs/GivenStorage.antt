@@ -28,7 +28,7 @@ module _ (s : State) (old new number : ℕ) where
   abbrev handed : Subpool → Subpool
   handed = handed_on number old new
 
-  -- a subpool that is there is there then, as the new owner's where it was given
+  -- a subpool that exists still exists, as the new owner's if it was given
   there_still : (p : Subpool) → s.subpools p.number p.owner ≡ true → after.subpools (handed p).number (handed p).owner ≡ true
   there_still p there =
       elim (cases_Bool (same_subpool p olds)) [

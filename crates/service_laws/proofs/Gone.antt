@@ -66,7 +66,7 @@ module _ (s : State) (these : ℕ → Bool) where
     no_new_cell_pool = λ name none. none_still stays s.cell_pools name none;
   }
 
--- which task is current, and which words there are, is no part of it
+-- which task is current, and which words exist, is no part of it
 elsewhere : (s t : State) (these : ℕ → Bool) (current : ℕ) (words : ℕ → ℕ → ℕ) → HaveEnded (turned s current) t these →
     HaveEnded s (record t { words = words }) these
 elsewhere s t these current words h = record {

@@ -6,7 +6,7 @@ use Rattle.vsm_model.specs.State.{State}
 use Rattle.vsm_model.specs.WellFormed.{PagesAreSound, SightIsSound, IsInSubpool, CellPoolsAreSound}
 use Rattle.vsm_model.proofs.Registered.{pool_still}
 
--- All of a well-formed state but its tasks.
+-- All of a well-formed state except its tasks.
 pub record StorageIsSound (settings : Settings) (s : State) : Type 0 where
   pub pages : PagesAreSound settings s
   pub sight : SightIsSound s

@@ -25,7 +25,7 @@ module _ (s t : State) (new number : ℕ) (sight : (task : ℕ) → t.sight task
       (λ none. or_left (its == s.current) (s.subpools number its)
       (eq-eqb its s.current (owner_own s number (none_there (s.sight s.current number) none))))
 
-  -- whoever isn't the new task
+  -- any task except the new one
   others : (task : ℕ) → task ≢ new → t.sight task number ≡ own_row (row_at s number) s.current task
   others task other = sight task ∙ cond-false (task == new) (Some its) (own_row (row_at s number) s.current task) (ne_eqb task new other)
 

@@ -47,7 +47,7 @@ area_words o address given is small short = (
   (omega arith, small, both_words (length_register o.lengths given) (named_register o.register address) (length_words o.lengths given short) (named_words o.register address is small)),
 )
 
--- a place of the state is one of that in which the subpool is there
+-- a place of the state is one of that in which the subpool exists
 goes_on : (settings : Settings) (s : State) (n count boundary : ℕ) (goes : Place) → Goes (IsOf settings) s (seen_or_own s n) count boundary goes →
     Goes (IsOf settings) (with_own s n) (seen_or_own s n) count boundary goes
 goes_on settings s n count boundary goes h = either (sees_one s n) goes h where
@@ -75,7 +75,7 @@ obtain_leaves_well_formed settings names_full s t o reply valid is w e =
       | inr four ↦ subst (IsWellFormed settings) (sym four.2) (register_leaves_well_formed s 15 4 settings (omega arith) (omega arith) w)
     ]
 
--- where none of a list passes, each doesn't
+-- if none of a list passes, each doesn't
 pub none_of : {X : Type 0} (f : X → Bool) (xs : List X) (k : ℕ) (d : X) → list_any f xs ≡ false → k < length xs → f (slice_index_or xs k d) ≡ false
 none_of f [] k d e below = absurd (omega (arith, below))
 none_of f (x ∷ xs) zero d e below = (or_parts (f x) (list_any f xs) e).0

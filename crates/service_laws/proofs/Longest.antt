@@ -26,7 +26,7 @@ use Rattle.service_laws.proofs.Registers.{kept_there}
 use Rattle.service_laws.proofs.Allowed.{ObtainIsAllowed, obtain_allowed, obtain_leaves}
 use Rattle.service_laws.proofs.Grants.{is_left, address_is, length_is, other_reply}
 
--- a length that is given besides sets register 0 alone
+-- a length that is also given sets only register 0
 zero_alone : (v : State) (lengths : Lengths) (named : Option ℕ) (address given length : ℕ) →
     (with_registers v ((15, 0) ∷ (1, address) ∷ length_register lengths given ++ named_register named address)
     ≡ record (with_registers v ((15, 0) ∷ (1, address) ∷ length_register (Fixed length) given ++ named_register named address)) {
@@ -74,7 +74,7 @@ not_number number rows o private rest =
     (not_here (nat_lt 127 number) SubpoolNotAllowed rows o
     (false_from_ne_true (nat_lt 127 number) (λ e. let is = ltb-true 127 number e in omega (arith, is, private))) rest)
 
--- a fixed length that isn't zero, in private storage and with room for a name, has want of storage as its only cause
+-- a fixed length that isn't zero, in private storage and with room for a name, is refused only for lack of storage
 fixed_cause : (settings : Settings) (s : State) (o : Obtain) (length : ℕ) (conditional : Bool) (cause : Option Cause) → o.number ≤ 127 → 0 < length →
     first_cause ((is_none (longest settings s (record o { lengths = Fixed length; conditional = conditional })), NoStorage) ∷ []) ≡ cause →
     first_cause (obtain_causes settings false s (record o { lengths = Fixed length; conditional = conditional })) ≡ cause

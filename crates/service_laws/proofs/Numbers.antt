@@ -13,7 +13,7 @@ use Rattle.service_laws.proofs.Options.{none_some, same_some}
 abbrev pub IsPrivate : ℕ → Type 0
 IsPrivate n = (1 ≤ n) × (n ≤ 127)
 
--- no number stands in the list behind it again
+-- no number appears again in the list after it
 abbrev pub AreApart : List ℕ → Type 0
 AreApart [] = Unit {0}
 AreApart (x ∷ xs) = (is_in xs x ≡ false) × AreApart xs
@@ -88,7 +88,7 @@ in_all P (x ∷ xs) h n e =
 pub other_way : (a b : ℕ) → (a == b) ≡ false → (b == a) ≡ false
 other_way a b e = false_from_ne_true (b == a) (λ is. both_ways (a == b) e (eq-eqb a b (sym (eqb-true b a is))))
 
--- A number at a place is in the list, and where no number stands behind again it's at no other place.
+-- A number at a place is in the list, and if no number appears again later it's at no other place.
 pub at_is_in : (xs : List ℕ) (i n : ℕ) → slice_get xs i ≡ Some n → is_in xs n ≡ true
 at_is_in [] i n e = absurd (none_some n e)
 at_is_in (x ∷ xs) zero n e = or_left (x == n) (is_in xs n) (eq-eqb x n (same_some x n e))

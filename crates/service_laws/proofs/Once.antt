@@ -1,4 +1,4 @@
--- Behind a GET no other one hands out the same cell.
+-- After a GET no other one hands out the same cell.
 use Rattle.std.proofs.Common.{◌≡◌, ◌≢◌, ℕ, Bool, Option, Some, None, List, [], ◌∷◌, sym, ◌∙◌, subst, inl, inr}
 use Rattle.std.specs.Prelude.{All}
 use Rattle.std.proofs.lemmas.List.Elements.{All-head, All-tail}
@@ -14,7 +14,7 @@ use Rattle.service_laws.proofs.CellStays.{stays_in_use}
 none_is_not : (p : CellPool) → ◌≡◌ {A = Option CellPool} None (Some p) → ⊥
 none_is_not p e = cc
 
--- a cell in use is in use behind services that neither give it back nor end its cell pool
+-- a cell in use is in use after services that neither free it nor end its cell pool
 still_in_use : (settings : Settings) (name : List ℕ) (cell : ℕ) (xs : List (Bool × Service)) (s t : State) → IsWellFormed settings s →
     IsInUse s.cell_pools name cell → Follow settings (HasPool settings name) s xs t → All (λ x. x.1 ≢ free name cell) xs →
     IsWellFormed settings t × IsInUse t.cell_pools name cell

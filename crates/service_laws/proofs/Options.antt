@@ -1,4 +1,4 @@
--- Optional values: what is there, and what comes of a change or a test.
+-- Optional values: what they have, and what a change or a test makes of them.
 use Rattle.std.proofs.Common.{◌≡◌, Bool, true, false, Option, Some, None, is_some, refl, sym, true≢false}
 use Rattle.std.specs.Option.{option_map}
 use Rattle.vsm_model.specs.Search.{holds}
@@ -26,7 +26,7 @@ pub held : {A : Type 0} (f : A → Bool) (o : Option A) → holds f o ≡ true �
 held f None e = absurd (true≢false (sym e))
 held f (Some x) e = (x, refl, e)
 
--- a value that comes of a change was another before it
+-- a value that a change leads to was another before it
 pub mapped : {A B : Type 0} (f : A → B) (o : Option A) (x : B) → option_map f o ≡ Some x → (y : A) × (o ≡ Some y) × (f y ≡ x)
 mapped f None x e = absurd (none_some x e)
 mapped f (Some y) x e = (y, refl, same_some (f y) x e)

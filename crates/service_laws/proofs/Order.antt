@@ -1,4 +1,4 @@
--- DELETE gives the extents back in any order.
+-- DELETE releases the extents in any order.
 use Rattle.std.proofs.Common.{sym, ◌∙◌, ap}
 use Rattle.service_laws.specs.Promises.{OrderIsWithoutMeaning}
 use Rattle.service_laws.proofs.Emptied.{emptied, extents_given_back}

@@ -1,4 +1,4 @@
--- What each subpool number comes to, by gifts and shares.
+-- What becomes of each subpool number by gifts and shares.
 use Rattle.std.proofs.Common.{◌≡◌, ◌≢◌, ℕ, Bool, true, false, not, ◌&&◌, ◌||◌, ◌==◌, if◌then◌else◌, Option, Some, None, List, [], ◌∷◌, is_some, refl, sym, ◌∙◌, ap, inl, inr, true≢false}
 use Rattle.std.specs.Prelude.{unwrap_or}
 use Rattle.std.specs.Option.{option_map}
@@ -18,7 +18,7 @@ and_true : (a b : Bool) → b ≡ true → (a && b) ≡ a
 and_true true b e = e
 and_true false b e = refl
 
--- Who sees whose subpool of one number, and whose there are, after a gift,
+-- Which task sees whose subpool of one number, and which owners have one, after a gift,
 abbrev pub gift_row : (ℕ → Option ℕ) → ℕ → ℕ → ℕ → Option ℕ
 gift_row row old new task =
     if task == new then Some new else if task == old then None else option_map (λ owner. if owner == old then new else owner) (row task)
@@ -180,7 +180,7 @@ shares_subpools (x ∷ xs) s task n owner apart e =
       ]
     ]
 
--- Shares leave storage alone.
+-- Shares don't change storage.
 pub record SameStorage (s t : State) : Type 0 where
   pub pages : t.pages ≡ s.pages
   pub taken : t.taken ≡ s.taken

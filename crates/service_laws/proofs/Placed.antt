@@ -33,7 +33,7 @@ pub some_from : {A : Type 0} (o : Option A) → is_some o ≡ true → (x : A) �
 some_from None e = absurd (true≢false (sym e))
 some_from (Some x) e = (x, refl)
 
--- a test for a subpool holds of that one alone
+-- a test for a subpool holds only of that one
 pub owned_by : (p : Subpool) (o : Option Subpool) → holds (same_subpool p) o ≡ true → o ≡ Some p
 owned_by p None e = absurd (true≢false (sym e))
 owned_by p (Some q) e =
@@ -165,7 +165,7 @@ module _ (s : State) (in_page : (d : ℕ) → s.taken d ≡ true → is_some (s.
   area_taken (Fresh page) h = fresh page h
   area_taken Nowhere h = absurd h
 
--- Pages, doublewords and bytes alone change.
+-- Only pages, doublewords and bytes change.
 pub area_table : (s : State) (p : Subpool) (count : ℕ) (goes : Place) → (with_area s p count goes).cell_pools ≡ s.cell_pools
 area_table s p count (Inside d) = refl
 area_table s p count (Fresh page) = refl

@@ -1,4 +1,5 @@
--- A cell pool that takes the place of another of its name leaves a well-formed state well-formed, with an extent more too.
+-- A cell pool that takes the place of another of its name, also with another extent, leaves a well-formed state
+-- well-formed.
 use Rattle.std.proofs.Common.{◌≡◌, ◌≢◌, ℕ, ◌<◌, ◌≤◌, Less, Equal, Greater, Bool, true, not, Option, Some, None, List, [], ◌∷◌, ◌++◌, map, length, refl, sym, ◌∙◌, ap, subst, true≢false}
 use Rattle.std.specs.Prelude.{All, AllPairs, unwrap_or}
 use Rattle.std.specs.Ordering.{nat_cmp, eq_by_cmp}
@@ -24,7 +25,7 @@ use Rattle.service_laws.proofs.CellLists.{cell_bounds, some_doublewords}
 use Rattle.service_laws.proofs.Spans.{Apart, turned, span, spans, others, all_spans, parts_of, put_sound, added_sound, EachIsSound, apart_areas}
 use Rattle.service_laws.proofs.Placed.{pages_taken, extent_stays, extent_taken}
 
--- Pages, doublewords, bytes and cell pools alone differ.
+-- Only pages, doublewords, bytes and cell pools differ.
 abbrev pub StorageAlone : State → State → Type 0
 StorageAlone s t = t ≡ record s { pages = t.pages; taken = t.taken; bytes = t.bytes; cell_pools = t.cell_pools }
 
@@ -105,7 +106,7 @@ pub held : {A : Type 0} (f : A → Bool) (o : Option A) → holds f o ≡ true �
 held f None e = absurd (true≢false (sym e))
 held f (Some x) e = (x, refl, e)
 
--- a cell pool that is seen is there
+-- a cell pool that is seen exists
 pub pool_is : (s : State) (name : List ℕ) → sees_pool s name ≡ true → (cell_pool_in s.cell_pools name ≡ Some (pool_of s name)) × (sees s (pool_of s name).subpool ≡ true)
 pool_is s name e =
     let (pool, found, seen) = held (λ pool. sees s pool.subpool) (cell_pool_in s.cell_pools name) e in
@@ -140,7 +141,7 @@ module _ (settings : Settings) (s : State) (w : IsWellFormed settings s) (name :
             parts.0 parts.2;
       }
 
--- With an extent more, in an area that was free.
+-- With another extent, in an area that was free.
 module _ (settings : Settings) (s u : State) (w : IsWellFormed settings s) (positive : ExtentsHaveCells s) (alone : StorageAlone s u) (same : u.cell_pools ≡ s.cell_pools)
     (pool : CellPool) (p : PoolIsSound s pool) (whole : All (λ x. 1 ≤ x.cells) pool.extents) (r : Region) (region : (k : ℕ) → within r k ≡ true → in_a_region settings k ≡ true)
     (address cells : ℕ) (some : 1 ≤ cells) (a : AreaIsTaken r s u pool.subpool address (extent_doublewords pool cells)) where
@@ -233,7 +234,7 @@ module _ (settings : Settings) (s u : State) (w : IsWellFormed settings s) (posi
       cell_pools = c;
     }
 
-    -- of a cell pool that is there,
+    -- of a cell pool that exists,
     pub extended_kept : cell_pool_in s.cell_pools name ≡ Some pool → IsWellFormed settings extended
     extended_kept found =
         let row = row_of s.cell_pools name pool w.cell_pools.ascending found in

@@ -37,7 +37,7 @@ use Rattle.service_laws.proofs.Answered.{state_is, reply_is}
 use Rattle.service_laws.proofs.Named.{code_is_set, code_is_all, address_in, code_from, address_from}
 use Rattle.service_laws.proofs.Getting.{empty_list, get_may}
 
--- who sees a subpool sees it at its number
+-- a task that sees a subpool sees it at its number
 pub seen_at : (s : State) (p : Subpool) → sees s p ≡ true → s.sight s.current p.number ≡ Some p.owner
 seen_at s p e =
     let (owner, is, same) = held (λ owner. owner == p.owner) (s.sight s.current p.number) e in
@@ -85,7 +85,7 @@ pub cells_front : (size first count : ℕ) → 1 ≤ count → (rest : List ℕ)
 cells_front size first zero some = absurd (omega (arith, some))
 cells_front size first (suc count) some = (cells_from size (first + size) count, refl)
 
--- the words alone of a state
+-- a state of which only the words change
 abbrev worded : State → List (ℕ × ℕ) → State
 worded v rows = record v { words = (with_registers v rows).words }
 
@@ -222,7 +222,7 @@ some_cause c e = cc
 same_cause : (c d : Cause) → ◌≡◌ {A = Option Cause} (Some c) (Some d) → c ≡ d
 same_cause c d e = cc
 
--- one that is accepted has no cause, or one that is answered 4
+-- one that is accepted has no cause, or one for which 4 is returned
 pub answered_four : (settings : Settings) (s : State) (x : Service) (o : Option Cause) (t : State) (r : Reply) → answered settings s x o ≡ Accepted t r →
     (o ≡ None) ⊎ ((c : Cause) × (o ≡ Some c) × (answers_four c ≡ true))
 answered_four settings s x None t r e = inl refl
@@ -232,7 +232,7 @@ answered_four settings s x (Some c) t r e = inr (c, refl, four (is_conditional x
   four true false e = absurd (refused_is_not c t r e)
   four false b e = absurd (refused_is_not c t r e)
 
--- of the causes of GET want of storage alone is answered 4
+-- of the causes of GET only lack of storage returns 4
 want_of_storage : (a b c : Bool) (k : Cause) → first_cause ((a, NoCellPool) ∷ (b, TooManyNames) ∷ (c, NoStorage) ∷ []) ≡ Some k → answers_four k ≡ true →
     (a ≡ false) × (b ≡ false) × (c ≡ true)
 want_of_storage true b c k e four = absurd (true≢false (sym four ∙ sym (ap answers_four (same_cause NoCellPool k e))))

@@ -49,7 +49,7 @@ plain s address given length =
       other_tasks = λ task r other. kept_there v 1 address task r (inl other) ∙ kept_there s 15 0 task r (inl other);
     }
 
--- the length besides
+-- the length too
 with_length : (s : State) (address given most least : ℕ) →
     AddressIsSet s (with_registers s ((15, 0) ∷ (1, address) ∷ (0, given) ∷ [])) (Variable most least) None address given
 with_length s address given most least =
@@ -67,7 +67,7 @@ with_length s address given most least =
       other_tasks = λ task r other. kept_there v 0 given task r (inl other) ∙ before.other_tasks task r other;
     }
 
--- the register that is named comes last
+-- the register that is named is set last
 with_named : (s v : State) (lengths : Lengths) (q address given : ℕ) → v.current ≡ s.current → AddressIsSet s v lengths None address given →
     AddressIsSet s (with_register v q address) lengths (Some q) address given
 with_named s v lengths q address given same before =
@@ -95,7 +95,7 @@ address_in s (Fixed length) (Some q) address given =
 address_in s (Variable most least) (Some q) address given =
     with_named s (with_registers s ((15, 0) ∷ (1, address) ∷ (0, given) ∷ [])) (Variable most least) q address given refl (with_length s address given most least)
 
--- the words after registers are set rest on the words and the current task alone
+-- the words after registers are set depend only on the words and the current task
 pub same_words : (rows : List (ℕ × ℕ)) (s u : State) → u.words ≡ s.words → u.current ≡ s.current → (with_registers u rows).words ≡ (with_registers s rows).words
 same_words [] s u words current = words
 same_words (row ∷ rows) s u words current =

@@ -1,4 +1,4 @@
--- An accepted release gives taken storage back.
+-- An accepted release releases taken storage.
 use Rattle.std.proofs.Common.{◌≡◌, ℕ, ◌+◌, ◌*◌, ◌/◌, ◌≤◌, ◌⊎◌, Bool, true, false, not, ◌&&◌, nat_lt, if◌then◌else◌, Some, None, slice_index_or, arith, refl, sym, ◌∙◌, ap, subst, inl, inr}
 use Rattle.std.specs.Prelude.{unwrap_or}
 use Rattle.std.specs.List.{list_any}
@@ -28,7 +28,7 @@ use Rattle.service_laws.proofs.Allowed.{ReleaseIsAllowed, release_allowed}
 pub seen_is : (s : State) (number owner : ℕ) → s.sight s.current number ≡ Some owner → seen_or_own s number ≡ record { number = number; owner = owner }
 seen_is s number owner e = λ i. record { number = number; owner = unwrap_or (e i) s.current }
 
--- an extent that has no byte of an area lies before or behind it
+-- an extent that has no byte of an area lies before or after it
 extent_apart : (address size : ℕ) (pool : CellPool) (x : CellExtent) → overlaps_extent address size pool x ≡ false →
     (address + size ≤ x.address) ⊎ (x.address + 8 * extent_doublewords pool x.cells ≤ address)
 extent_apart address size pool x e =

@@ -1,4 +1,4 @@
--- A subpool more, and a share, leave sight sound.
+-- Another subpool, and a share, leave sight sound.
 use Rattle.std.proofs.Common.{◌≡◌, ◌≢◌, ℕ, ◌≤◌, Bool, true, false, ◌&&◌, ◌||◌, ◌==◌, if◌then◌else◌, Option, Some, None, is_some, refl, sym, ◌∙◌, ap, subst, arith, inl, inr}
 use Rattle.std.specs.Prelude.{unwrap_or}
 use Rattle.std.proofs.lemmas.Bool.{cond-true, cond-false, cond_both, and_from, and_parts, and_left, and_right, or_cases, or_left, or_right, or_from, eqb-true, eq-eqb, ne_eqb, cases_Bool, both_ways}
@@ -13,7 +13,7 @@ pub chosen : {A : Type 0} (b : Bool) (x y z : A) (P : Type 0) → (if b then x e
 chosen true x y z P e f g = f refl e
 chosen false x y z P e f g = g refl e
 
--- Sight but for subpool 0, which a new task doesn't see at once.
+-- Sight except for subpool 0, which a new task doesn't see at once.
 pub record RowsAreSound (s : State) : Type 0 where
   pub owner_is_task : (number owner : ℕ) → s.subpools number owner ≡ true → is_task s owner ≡ true
   pub owner_sees : (number owner : ℕ) → s.subpools number owner ≡ true → s.sight owner number ≡ Some owner
@@ -56,7 +56,7 @@ module _ (s : State) (w : RowsAreSound s) where
         (λ _ old. or_right ((n == number) && (o == owner)) (s.subpools n o) (w.seen_is_there t n o old));
   }
 
-  -- the task may not own a subpool of the number: it would not see it any more
+  -- the task may not own a subpool of the number: it would no longer see it
   pub sight_rows : (task number owner : ℕ) → is_task s task ≡ true → s.subpools number owner ≡ true → s.subpools number task ≡ false →
       RowsAreSound (with_sight s task number owner)
   sight_rows task number owner there at none = record {
@@ -88,7 +88,7 @@ owner_seen s number owner at = ap (λ o. unwrap_or o s.current) at
 pub owner_own : (s : State) (number : ℕ) → s.sight s.current number ≡ None → owner_at s number ≡ s.current
 owner_own s number none = ap (λ o. unwrap_or o s.current) none
 
--- what holds where the task sees one, and where a new one is its own
+-- what holds if the task sees one, and if a new one is its own
 pub own_by : (s : State) (number : ℕ) (P : State → Type 0) → (sees_one s number ≡ true → P s) → (sees_one s number ≡ false → P (with_subpool s number s.current)) →
     P (with_own s number)
 own_by s number P sees none = cond_both (sees_one s number) s (with_subpool s number s.current) P sees none
@@ -106,7 +106,7 @@ own_is_there s number w =
     (and_from (number == number) (owner_at s number == s.current) (eq-eqb number number refl)
     (eq-eqb (owner_at s number) s.current (owner_own s number (none_there (s.sight s.current number) none)))))
 
--- of another task's subpools there is none more
+-- another task gets no further subpool
 pub own_of_others : (s : State) (number n task : ℕ) → task ≢ s.current → s.subpools n task ≡ false → (with_own s number).subpools n task ≡ false
 own_of_others s number n task other none =
     own_by s number (λ (u : State). u.subpools n task ≡ false) (λ _. none)
@@ -134,7 +134,7 @@ own_other_subpools s number n owner other =
     own_by s number (λ (u : State). u.subpools n owner ≡ s.subpools n owner) (λ _. refl)
     (λ _. ap (λ b. b || s.subpools n owner) (and_left (n == number) (owner == s.current) other))
 
--- A share changes subpools and sight alone.
+-- A share changes only subpools and sight.
 pub share_alone : (s : State) (task number : ℕ) →
     with_share s task number ≡ record s { subpools = (with_share s task number).subpools; sight = (with_share s task number).sight }
 share_alone s task number =

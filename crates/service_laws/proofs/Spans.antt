@@ -18,7 +18,7 @@ pub turned : (x y : ℕ × ℕ) → Apart x y → Apart y x
 turned x y (inl e) = inr e
 turned x y (inr e) = inl e
 
--- an extent's address, and the one behind its last byte
+-- an extent's address, and the one after its last byte
 abbrev pub span : CellPool → CellExtent → ℕ × ℕ
 span pool x = (x.address, x.address + 8 * extent_doublewords pool x.cells)
 
@@ -114,7 +114,7 @@ module _ (s t : State) (name : List ℕ) (w : CellPoolsAreSound s) where
             (apart_with s.cell_pools name pool new row h (parts_of s.cell_pools name pool row w.apart).1 c);
       }
 
-  -- so is the one with a cell pool more,
+  -- so is the one with another cell pool,
   pub added_sound : (new : CellPool) → cell_pool_in s.cell_pools name ≡ None → length s.cell_pools < 256 →
       t.cell_pools ≡ with_cell_pool s.cell_pools name new → PoolIsSound t new → EachIsSound t s.cell_pools →
       AllPairs Apart (spans new) → Across Apart (spans new) (all_extents s.cell_pools) → CellPoolsAreSound t

@@ -156,7 +156,7 @@ none_in f [] h = refl
 none_in f (x ∷ xs) h =
     or_from (f x) (list_any f xs) (All-head (λ x. f x ≡ false) x xs h) (none_in f xs (All-tail (λ x. f x ≡ false) x xs h))
 
--- an extent before or behind an area has no byte of it
+-- an extent before or after an area has no byte of it
 no_overlap : (address size : ℕ) (pool : CellPool) (x : CellExtent) → (address + size ≤ x.address) ⊎ (x.address + 8 * extent_doublewords pool x.cells ≤ address) →
     overlaps_extent address size pool x ≡ false
 no_overlap address size pool x apart =

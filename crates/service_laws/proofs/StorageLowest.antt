@@ -90,7 +90,7 @@ module _ (s : State) (p : Subpool) (count boundary : ℕ) (some : 0 < count) whe
   some_pages : 0 < pages_for count
   some_pages = omega (arith, some)
 
-  -- what a place in a region says, and what it says that there is none
+  -- what a place in a region says, and what its absence says
   abbrev Says : Region → Place → Type 0
   Says r (Inside d) = IsLowestIn r s p count boundary (8 * d)
   Says r (Fresh page) = IsLowestIn r s p count boundary (4096 * page)

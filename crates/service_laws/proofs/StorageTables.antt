@@ -29,7 +29,7 @@ module _ {X : Type 0} (R : X → X → Type 0) where
   pairs_right [] ys h = h
   pairs_right (x ∷ xs) ys h = pairs_right xs ys (pairs_tail x (xs ++ ys) h)
 
-  -- the second list may be exchanged for one of which all holds that held of it
+  -- the second list may be replaced by one of which all that held of it holds
   pairs_with : (xs ys zs : List X) → ((P : X → Type 0) → All P ys → All P zs) → AllPairs R zs → AllPairs R (xs ++ ys) → AllPairs R (xs ++ zs)
   pairs_with [] ys zs fewer g h = g
   pairs_with (x ∷ xs) ys zs fewer g h =
@@ -39,7 +39,7 @@ module _ {X : Type 0} (R : X → X → Type 0) where
       (pairs_with xs ys zs fewer g (pairs_tail x (xs ++ ys) h))
 
 module _ {X Y : Type 0} (f : X → List Y) (passes : X → Bool) where
-  -- what holds of all that comes of a list holds of what comes of a part of it
+  -- what holds of all that a list yields holds of what a part of it yields
   all_of_part : (P : Y → Type 0) (xs : List X) → All P (flat_map f xs) → All P (flat_map f (filter passes xs))
   all_of_part P [] h = h
   all_of_part P (x ∷ xs) h =
@@ -72,7 +72,7 @@ module _ (passes : List ℕ × CellPool → Bool) where
         | false ↦ below_part name table parts.1
       ]
 
-  -- names in order stay so
+  -- names in order stay in order
   pub ascending_part : (table : CellPools) → are_ascending table ≡ true → are_ascending (filter passes table) ≡ true
   ascending_part [] h = h
   ascending_part (row ∷ table) h =
@@ -91,7 +91,7 @@ module _ (passes : List ℕ × CellPool → Bool) where
         | false ↦ omega (arith, rest)
       ]
 
--- the cell pool, where it passes
+-- the cell pool, if it passes
 abbrev pub kept_of : (CellPool → Bool) → Option CellPool → Option CellPool
 kept_of f None = None
 kept_of f (Some pool) = if f pool then Some pool else None
@@ -125,7 +125,7 @@ found_in_part f (row ∷ table) name up =
             rest ∙ ap (kept_of f) (ap (cell_pool_in table) same ∙ below_none row.0 table parts.0)
       ]
     ] refl where
-      -- where the name isn't that of the row, the row is of no matter
+      -- if the name isn't that of the row, the row doesn't matter
       other : (o : Ordering) → slice_cmp nat_cmp name row.0 ≡ o → is_eq o ≡ false →
           cell_pool_in (filter (λ row. f row.1) (row ∷ table)) name ≡ cell_pool_in (filter (λ row. f row.1) table) name
       other o e apart =

@@ -30,13 +30,13 @@ cause_is c cause e = cc
 no_cause_is : (cause : Cause) → ◌≡◌ {A = Option Cause} None (Some cause) → ⊥
 no_cause_is cause e = cc
 
--- The first cause is that of the first condition, or comes behind it.
+-- The first cause is that of the first condition, or comes after it.
 pub at_cause : (b : Bool) (first cause : Cause) (rows : Causes) (P : Type 0) → first_cause ((b, first) ∷ rows) ≡ Some cause →
     (b ≡ true → first ≡ cause → P) → (b ≡ false → first_cause rows ≡ Some cause → P) → P
 at_cause true first cause rows P e here rest = here refl (cause_is first cause e)
 at_cause false first cause rows P e here rest = rest refl e
 
--- Behind the last one there is none.
+-- After the last one there is none.
 pub past_all : (cause : Cause) (P : Type 0) → first_cause [] ≡ Some cause → P
 past_all cause P e = absurd (no_cause_is cause e)
 
@@ -93,7 +93,7 @@ end_task_is_refused_for_the_first settings names_full s cause w e =
     ))
     (λ _ e. past_all cause (IsFirstOfEndTask s cause) e))
 
--- a list that can't be read isn't all there
+-- of a list that can't be read something is missing
 not_read : (s : State) (p : Passed) → is_none (numbers_in s p) ≡ true → IsNotAssigned s p
 not_read s Nothing e = absurd (true≢false (sym e))
 not_read s (Number number) e = absurd (true≢false (sym e))

@@ -103,7 +103,7 @@ found_first row rows name is = cond-true (eq_by_cmp by_name name row.0) (Some ro
 pub found_later : (row : List ℕ × CellPool) (rows : CellPools) (name : List ℕ) → eq_by_cmp by_name name row.0 ≡ false → cell_pool_in (row ∷ rows) name ≡ cell_pool_in rows name
 found_later row rows name other = cond-false (eq_by_cmp by_name name row.0) (Some row.1) (cell_pool_in rows name) other
 
--- a name that is below all names isn't there
+-- a name that is below all names isn't among them
 none_below : (name : List ℕ) (rows : CellPools) → below_all by_name name rows ≡ true → cell_pool_in rows name ≡ None
 none_below name [] e = refl
 none_below name (row ∷ rows) e =
@@ -171,7 +171,7 @@ module _ (keeps : CellPool → Bool) where
             ]
       ]
 
-  -- a name that isn't there isn't there then,
+  -- a name without a cell pool still has none,
   pub none_still : (table : CellPools) (name : List ℕ) → cell_pool_in table name ≡ None → cell_pool_in (filter (λ row. keeps row.1) table) name ≡ None
   unfolding left
   none_still [] name e = refl

@@ -18,8 +18,8 @@ use Rattle.vsm_model.specs.Passing.{numbers_in}
 use Rattle.vsm_model.specs.Step.{step}
 use Rattle.vsm_model.specs.WellFormed.{IsWellFormed}
 
--- From s to t, the current task gave the subpool of the number to the task: the one that it owned, or a new one where
--- it saw none.
+-- From s to t, the current task gave the subpool of the number to the task: the one that it owned, or a new one if it
+-- saw none.
 pub record IsGiven (s t : State) (task number : ℕ) : Type 0 where
   -- it saw no other task's
   pub was_its_own : (owner : ℕ) → s.sight s.current number ≡ Some owner → owner ≡ s.current
@@ -28,8 +28,8 @@ pub record IsGiven (s t : State) (task number : ℕ) : Type 0 where
   pub seen : t.sight task number ≡ Some task
   pub not_owned : t.subpools number s.current ≡ false
   pub not_seen : t.sight s.current number ≡ None
-  -- who shared it with the giver sees it as the new owner's; what else was seen of the number is seen still, and
-  -- subpools of other owners stay
+  -- a task that shared it with the giver sees it as the new owner's; what else was seen of the number is still seen,
+  -- and subpools of other owners stay
   pub sharers :
       (other : ℕ) → other ≢ s.current → s.sight other number ≡ Some s.current → t.sight other number ≡ Some task
   pub other_sight :
@@ -37,7 +37,7 @@ pub record IsGiven (s t : State) (task number : ℕ) : Type 0 where
       t.sight other number ≡ s.sight other number
   pub other_owners :
       (owner : ℕ) → owner ≢ s.current → owner ≢ task → t.subpools number owner ≡ s.subpools number owner
-  -- its pages go with it, and they are all that the new owner has; none is left to the giver
+  -- its pages go with it, and they are all that the new owner has; the giver has none left
   pub pages :
       (k : ℕ) → s.pages k ≡ Some (record { number = number; owner = s.current }) →
       t.pages k ≡ Some (record { number = number; owner = task })
@@ -50,7 +50,7 @@ pub record IsGiven (s t : State) (task number : ℕ) : Type 0 where
       (name : List ℕ) (pool : CellPool) → cell_pool_in s.cell_pools name ≡ Some pool →
       pool.subpool ≡ record { number = number; owner = s.current } →
       cell_pool_in t.cell_pools name ≡ Some (record pool { subpool = record { number = number; owner = task } })
-  -- storage of the number that the giver asks for then is a subpool's of its own again
+  -- storage of the number that the giver then asks for is again a subpool's of its own
   pub asked_again : seen_or_own t number ≡ record { number = number; owner = s.current }
 
 -- From s to t, the current task shares the subpool of the number with the task: the one that it saw, or a new one of
@@ -75,7 +75,7 @@ pub record HasItsOwn (s t : State) (task number : ℕ) : Type 0 where
   pub other_sight : (other : ℕ) → other ≢ task → t.sight other number ≡ s.sight other number
   pub other_owners : (owner : ℕ) → owner ≢ task → t.subpools number owner ≡ s.subpools number owner
 
--- Each number is from 1 to 127, and none stands twice.
+-- Each number is from 1 to 127, and none appears twice.
 pub record AreNumbers (numbers : List ℕ) : Type 0 where
   pub private : (n : ℕ) → is_in numbers n ≡ true → (1 ≤ n) × (n ≤ 127)
   pub once : (i j n : ℕ) → i < j → slice_get numbers i ≡ Some n → slice_get numbers j ≢ Some n
@@ -115,7 +115,7 @@ pub record IsAttached (s t : State) (a : Attach) (task : ℕ) : Type 0 where
   pub other_subpools :
       (number owner : ℕ) → number ≢ 0 → is_in given number ≡ false → is_in shared number ≡ false →
       t.subpools number owner ≡ s.subpools number owner
-  -- storage stays where it is: doublewords and bytes, and whose it is, but for what is given
+  -- storage stays where it is: doublewords and bytes, and whose it is, except what is given
   pub doublewords : t.taken ≡ s.taken
   pub bytes : t.bytes ≡ s.bytes
   pub other_pages :
@@ -136,8 +136,8 @@ AttachMakesATask =
     step settings names_full s (attach a) ≡ Accepted t reply →
     (task : ℕ) × IsAttached s t a task × (reply ≡ replies.Attached task)
 
--- From t to u, a giver that obtained storage of the number again has a new subpool of its own, of which each page is
--- that was assigned; the task keeps what it was given.
+-- From t to u, a giver that obtained storage of the number again has a new subpool of its own, which has each page that
+-- was assigned; the task keeps what it was given.
 pub record HasANewOne (t u : State) (giver task number : ℕ) : Type 0 where
   pub owned : u.subpools number giver ≡ true
   pub seen : u.sight giver number ≡ Some giver

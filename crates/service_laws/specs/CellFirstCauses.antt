@@ -32,7 +32,7 @@ pub record AreCells (size count : ℕ) : Type 0 where
   pub some : 1 ≤ count
   pub few : count ≤ 4096
 
--- In no region on this side of the line there's room for so many doublewords, neither in the free storage of the
+-- In no region on this side of the line is there room for that many doublewords, neither in the free storage of the
 -- subpool nor in unassigned pages.
 abbrev pub HasNoRoom : Settings → Residence → State → Subpool → ℕ → Type 0
 HasNoRoom settings location s p count =
@@ -43,7 +43,7 @@ HasNoRoom settings location s p count =
 abbrev pub HasItsNumbers : Build → Type 0
 HasItsNumbers b = AreCells b.size b.primary × AreCells b.size (secondary_count b)
 
--- Why a BUILD is refused: each cause with its condition, behind which those of the causes before it don't hold.
+-- Why a BUILD is refused: each cause with its condition, and that those of the causes before it don't hold.
 abbrev pub IsFirstOfBuild : Settings → State → List ℕ → Build → Cause → Type 0
 IsFirstOfBuild settings s name b UnsupportedSubpool = (b.number ≡ 131) ⊎ (b.number ≡ 132)
 IsFirstOfBuild settings s name b SubpoolNotAllowed = (127 < b.number) × (b.number ≢ 131) × (b.number ≢ 132)
@@ -61,7 +61,7 @@ IsFirstOfBuild settings s name b _ = ⊥
 abbrev pub SeesNone : State → List ℕ → Type 0
 SeesNone s name = (pool : CellPool) → IsSeen s name pool → ⊥
 
--- Why a GET is refused, likewise; want of a free cell in the conditional form is answered 4.
+-- Why a GET is refused, likewise; if no cell is free, the conditional form returns 4.
 abbrev pub IsFirstOfGet : Settings → Bool → State → List ℕ → Get → Cause → Type 0
 IsFirstOfGet settings names_full s name g NoCellPool = SeesNone s name
 IsFirstOfGet settings names_full s name g TooManyNames = ((pool : CellPool) × IsSeen s name pool) × (names_full ≡ true)

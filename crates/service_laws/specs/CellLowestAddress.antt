@@ -1,4 +1,4 @@
--- Where an extent of a cell pool is, and when there is no room for it, by the state before, with no search.
+-- The place of an extent of a cell pool, and when there is no room for it, by the state before, without a search.
 -- Assembler Services Guide, "Virtual storage management", "Explicit requests for virtual storage".
 use Rattle.std.specs.Prelude.{◌≡◌, ◌⊎◌, ℕ, ◌+◌, ◌/◌, ◌%◌, ◌<◌, ◌≤◌, true, false, Some, None, List, [], ◌∷◌}
 use Rattle.vsm_model.specs.declared.Subpool.{Subpool}
@@ -16,7 +16,7 @@ abbrev pub AreUnassigned : Region → State → ℕ → ℕ → Type 0
 AreUnassigned r s count page =
     (k : ℕ) → page ≤ k → k < page + count → (within r k ≡ true) × (s.pages k ≡ None)
 
--- Neither the free storage of the subpool nor the unassigned pages of the region have room for so many doublewords.
+-- Neither the free storage of the subpool nor the unassigned pages of the region have room for that many doublewords.
 abbrev pub HasNoRoomIn : Region → State → Subpool → ℕ → Type 0
 HasNoRoomIn r s p count =
     ((d : ℕ) → AreFree r s p count d → ⊥) × ((page : ℕ) → AreUnassigned r s (pages_for count) page → ⊥)
@@ -25,7 +25,7 @@ HasNoRoomIn r s p count =
 abbrev pub IsLowest : (ℕ → Type 0) → ℕ → Type 0
 IsLowest has n = has n × ((k : ℕ) → has k → n ≤ k)
 
--- In a region the free storage of the subpool, if it has room, comes first, at the lowest address; else come unassigned
+-- In a region the free storage of the subpool, if it has room, is taken first, at the lowest address; else unassigned
 -- pages, enough of them and the lowest, from their first byte on.
 abbrev pub IsLowestIn : Region → State → Subpool → ℕ → ℕ → Type 0
 IsLowestIn r s p count address =

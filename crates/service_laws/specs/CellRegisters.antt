@@ -9,7 +9,7 @@ pub record ReturnCodeIsSet (s t : State) (code : ℕ) : Type 0 where
   pub other_registers : (task r : ℕ) → (task ≢ s.current) ⊎ (r ≢ 15) → t.words task r ≡ s.words task r
 
 -- From s to t, register 1 of the current task and the register that is named have the address of a cell, register 15 is
--- 0, where it isn't the one that is named, and no other register changes.
+-- 0, unless it is the one that is named, and no other register changes.
 pub record AddressIsSet (s t : State) (named : Option ℕ) (address : ℕ) : Type 0 where
   pub register_1 : t.words s.current 1 ≡ address
   pub register_named : (r : ℕ) → named ≡ Some r → t.words s.current r ≡ address

@@ -15,7 +15,7 @@ use Rattle.vsm_model.specs.Step.{step}
 use Rattle.vsm_model.specs.WellFormed.{IsWellFormed}
 use Rattle.service_laws.specs.Trees.{IsInSubtree}
 
--- Tasks that have ended own no page and see no subpool, nobody sees one of theirs, and none of them is a task.
+-- Tasks that have ended own no page and see no subpool, no task sees one of theirs, and none of them is a task.
 abbrev pub TheEndedLeaveNothing : Type 0
 TheEndedLeaveNothing =
     (s : State) (these : ℕ → Bool) →
@@ -30,8 +30,8 @@ TheOthersKeepTheirPages =
     (s : State) (these : ℕ → Bool) (k : ℕ) (p : Subpool) → s.pages k ≡ Some p → these p.owner ≡ false →
     (without_tasks s these).pages k ≡ Some p
 
--- From s to t, these tasks have ended, and of subpools and storage just what they owned is gone: what they only shared
--- stays, with its bytes. (Of the current task and of registers nothing is said.)
+-- From s to t, these tasks have ended, and of subpools and storage exactly what they owned is gone: what they only
+-- shared stays, with its bytes. (Nothing is said of the current task and of registers.)
 pub record HaveEnded (s t : State) (these : ℕ → Bool) : Type 0 where
   -- they are no tasks, and all others have their parents
   pub no_task : (task : ℕ) → these task ≡ true → t.parents task ≡ None
@@ -39,8 +39,8 @@ pub record HaveEnded (s t : State) (these : ℕ → Bool) : Type 0 where
   -- their subpools are gone, and all others stay
   pub no_subpool : (number owner : ℕ) → these owner ≡ true → t.subpools number owner ≡ false
   pub other_subpools : (number owner : ℕ) → these owner ≡ false → t.subpools number owner ≡ s.subpools number owner
-  -- they see nothing, and whoever saw a subpool of theirs sees none; the others see what they saw, and nothing new is
-  -- seen
+  -- they see nothing, and a task that saw a subpool of theirs sees none; the others see what they saw, and nothing new
+  -- is seen
   pub no_sight : (task number : ℕ) → these task ≡ true → t.sight task number ≡ None
   pub no_sight_of_theirs :
       (task number owner : ℕ) → s.sight task number ≡ Some owner → these owner ≡ true → t.sight task number ≡ None
@@ -105,7 +105,7 @@ pub record HasEnded (s t : State) : Type 0 where
   pub no_words : (register : ℕ) → t.words s.current register ≡ 0
   pub other_registers : (task register : ℕ) → task ≢ s.current → t.words task register ≡ s.words task register
 
--- An accepted ENDTASK ends the current task, and it's its parent's turn.
+-- An accepted ENDTASK ends the current task, and then it is its parent's turn.
 abbrev pub EndTaskEndsTheCurrentTask : Type 0
 EndTaskEndsTheCurrentTask =
     (settings : Settings) (names_full : Bool) (s t : State) (reply : Reply) → IsWellFormed settings s →

@@ -14,7 +14,7 @@ ExtentsHaveCells s = All (λ row. All (λ x. 1 ≤ x.cells) row.1.extents) s.cel
 abbrev pub lies_in : CellPool → ℕ → CellExtent → Bool
 lies_in pool d x = among (x.address / 8) (extent_doublewords pool x.cells) d
 
--- From s to t, so many doublewords from the address on, which were free, are taken in pages of the subpool.
+-- From s to t, that many doublewords from the address on, which were free, are taken in pages of the subpool.
 pub record AreaIsTaken (region : Region) (s t : State) (subpool : Subpool) (address count : ℕ) : Type 0 where
   pub on_doubleword : address % 8 ≡ 0
   -- each doubleword of the area lies in the region and wasn't taken before

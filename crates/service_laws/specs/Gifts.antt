@@ -1,4 +1,4 @@
--- What a gift leaves to the old owner of a subpool.
+-- What a gift leaves the old owner of a subpool.
 -- Assembler Services Guide, "Virtual storage management", "Subpool handling"; Assembler Services Reference, ATTACH.
 use Rattle.std.specs.Prelude.{◌≡◌, ◌≢◌, ℕ, ◌≤◌, true, Some, None}
 use Rattle.vsm_model.specs.State.{State, is_task}

@@ -60,7 +60,7 @@ pub record IsGivenBack (settings : Settings) (s t : State) (r : Release) : Type 
   -- the bytes of a page that leaves are gone, and every other page keeps its bytes
   pub no_bytes : (a : ℕ) (p : Subpool) → s.pages (a / 4096) ≡ Some p → t.pages (a / 4096) ≡ None → t.bytes a ≡ None
   pub same_bytes : (a : ℕ) → t.pages (a / 4096) ≡ s.pages (a / 4096) → t.bytes a ≡ s.bytes a
-  -- tasks, sight, cell pools and subpools stay, of an emptied subpool too, and the return code is 0
+  -- tasks, sight, cell pools and subpools stay, even an emptied subpool, and the return code is 0
   pub current : t.current ≡ s.current
   pub parents : t.parents ≡ s.parents
   pub same_subpools : t.subpools ≡ s.subpools
@@ -103,7 +103,7 @@ pub record IsEmptied (s t : State) (number : ℕ) : Type 0 where
       pool.subpool ≢ record { number = number; owner = s.current } → cell_pool_in t.cell_pools name ≡ Some pool
   pub no_new_cell_pool :
       (name : List ℕ) → cell_pool_in s.cell_pools name ≡ None → cell_pool_in t.cell_pools name ≡ None
-  -- tasks, sight and subpools stay, the emptied one too, and the return code is 0
+  -- tasks, sight and subpools stay, even the emptied one, and the return code is 0
   pub current : t.current ≡ s.current
   pub parents : t.parents ≡ s.parents
   pub same_subpools : t.subpools ≡ s.subpools
@@ -115,7 +115,7 @@ WholeReleaseEmptiesTheSubpool =
     (settings : Settings) (names_full : Bool) (s t : State) (number : ℕ) (reply : Reply) → IsWellFormed settings s →
     step settings names_full s (whole number) ≡ Accepted t reply → IsEmptied s t number × (reply ≡ Returned 0)
 
--- The outcome of a conditional form, by that of the form without it: return code 4 stands for some causes, and all else
+-- The outcome of a conditional form, by that of the form without it: return code 4 replaces some causes, and all else
 -- is the same. Assembler Services Reference, STORAGE, COND; GETMAIN and FREEMAIN, EC, VC and RC.
 abbrev pub IsConditionalForm : State → Outcome State Reply Cause → Outcome State Reply Cause → Type 0
 IsConditionalForm s (Accepted t reply) with_condition = with_condition ≡ Accepted t reply
@@ -124,7 +124,7 @@ IsConditionalForm s (Refused cause) with_condition =
     ⊎ ((answers_four cause ≡ true)
     × ((t : State) × (with_condition ≡ Accepted t (Returned 4)) × ReturnCodeIsAll s t 4))
 
--- A conditional obtain differs from an unconditional one by return code 4 alone, and so does a conditional release.
+-- A conditional obtain differs from an unconditional one only by return code 4, and so does a conditional release.
 abbrev pub ConditionalFormsDifferByFour : Type 0
 ConditionalFormsDifferByFour =
     (settings : Settings) (names_full : Bool) (s : State) →

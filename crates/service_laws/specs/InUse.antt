@@ -14,7 +14,7 @@ use Rattle.vsm_model.specs.Standing.{Accepted}
 use Rattle.vsm_model.specs.Step.{step}
 use Rattle.vsm_model.specs.WellFormed.{IsWellFormed}
 
--- the address is that of a cell which was handed out from the cell pool of the name, and not given back
+-- the address is that of a cell which was handed out from the cell pool of the name, and not freed
 abbrev pub IsInUse : CellPools → List ℕ → ℕ → Type 0
 IsInUse table name cell = (pool : CellPool) × (cell_pool_in table name ≡ Some pool) × (is_in_use pool cell ≡ true)
 
@@ -46,8 +46,8 @@ HandedOutWasNotInUse =
     step settings names_full s (get name g) ≡ Accepted t (Cell cell) →
     ((other : List ℕ) → IsInUse s.cell_pools other cell → ⊥) × IsInUse t.cell_pools name cell
 
--- the services by which a cell pool of the name can be gone: a DELETE of it, the release of a whole subpool, and the
--- end of tasks
+-- the services by which a cell pool of the name can be gone: its DELETE, the release of a whole subpool, and the end of
+-- tasks
 abbrev pub CanEnd : Service → List ℕ → Type 0
 CanEnd (delete other) name = other ≡ name
 CanEnd (whole number) name = Unit {0}
@@ -55,7 +55,7 @@ CanEnd (detach task) name = Unit {0}
 CanEnd end_task name = Unit {0}
 CanEnd _ name = ⊥
 
--- A cell that is in use stays in use, whatever is asked, until it's given back or its cell pool is gone.
+-- A cell that is in use stays in use, whatever is asked, until it's freed or its cell pool is gone.
 abbrev pub StaysInUse : Type 0
 StaysInUse =
     (settings : Settings) (names_full : Bool) (s t : State) (x : Service) (reply : Reply) (name : List ℕ) (cell : ℕ) →
@@ -63,7 +63,7 @@ StaysInUse =
     IsInUse t.cell_pools name cell ⊎ (x ≡ free name cell) ⊎ (CanEnd x name × (cell_pool_in t.cell_pools name ≡ None))
 
 -- Services that are accepted one after the other, from s to t, each with whether the name of its statement is one too
--- many; behind each the state has a property.
+-- many; after each the state has a property.
 abbrev pub Follow : Settings → (State → Type 0) → State → List (Bool × Service) → State → Type 0
 Follow settings has s [] t = t ≡ s
 Follow settings has s (x ∷ xs) t =
@@ -75,8 +75,8 @@ abbrev pub HasPool : Settings → List ℕ → State → Type 0
 HasPool settings name s =
     IsWellFormed settings s × ((pool : CellPool) × (cell_pool_in s.cell_pools name ≡ Some pool))
 
--- Behind a GET no GET, of whatever cell pool, hands out the same cell, as long as the cell pool is there and no FREE
--- gives the cell back.
+-- After a GET no GET, of any cell pool, hands out the same cell, as long as the cell pool exists and no FREE frees the
+-- cell.
 abbrev pub NoCellIsHandedOutTwice : Type 0
 NoCellIsHandedOutTwice =
     (settings : Settings) (names_full names_full_2 : Bool) (s t u v : State) (name other : List ℕ) (g h : Get)
@@ -85,7 +85,7 @@ NoCellIsHandedOutTwice =
     Follow settings (HasPool settings name) t between u → All (λ x. x.1 ≢ free name cell) between →
     step settings names_full_2 u (get other h) ≡ Accepted v (Cell cell) → ⊥
 
--- The cell that was given back last is handed out first, and then the cell pool is as it was before.
+-- The cell that was freed last is handed out first, and then the cell pool is as it was before.
 abbrev pub LastFreedIsFirst : Type 0
 LastFreedIsFirst =
     (settings : Settings) (names_full names_full_2 : Bool) (s t u : State) (name : List ℕ) (cell : ℕ) (g : Get)

@@ -38,10 +38,10 @@ pub record IsFreed (s t : State) (name : List ℕ) (cell : ℕ) : Type 0 where
   pub before : IsSeen s name pool
   pub was_cell : is_in (cells_of pool) cell ≡ true
   pub was_in_use : is_in pool.free cell ≡ false
-  -- it stands before the other free cells, and nothing else of the cell pool changes
+  -- it is before the other free cells, and nothing else of the cell pool changes
   pub after : cell_pool_in t.cell_pools name ≡ Some (record pool { free = cell ∷ pool.free })
   pub others : OthersStay s t name
-  -- neither storage, nor subpools, nor tasks change, but for the return code
+  -- neither storage, nor subpools, nor tasks change, except for the return code
   pub same : t ≡ record s { words = t.words; cell_pools = t.cell_pools }
   pub registers : ReturnCodeIsSet s t 0
 
@@ -57,8 +57,8 @@ pub record IsFirstFree (s t : State) (name : List ℕ) (pool : CellPool) (cell :
   pub after : cell_pool_in t.cell_pools name ≡ Some (record pool { free = rest })
   pub same : t ≡ record s { words = t.words; cell_pools = t.cell_pools }
 
--- No cell was free: the cell is the first of a further extent of the secondary number of cells, in storage that was
--- free on the cell pool's side of the line, at the lowest address; the cells behind it are free, in ascending order.
+-- No cell was free: the cell is the first of another extent of the secondary number of cells, in storage that was free
+-- on the cell pool's side of the line, at the lowest address; the cells after it are free, in ascending order.
 pub record IsFirstOfFurther (settings : Settings) (s t : State) (name : List ℕ) (pool : CellPool) (cell : ℕ) : Type 0
   where
     pub none_free : pool.free ≡ []
@@ -91,7 +91,7 @@ pub record IsHandedOut (settings : Settings) (s t : State) (name : List ℕ) (g 
 abbrev pub HasNoFreeCell : State → List ℕ → Type 0
 HasNoFreeCell s name = (pool : CellPool) × IsSeen s name pool × (pool.free ≡ [])
 
--- The conditional form hands out no cell of a further extent, and is answered 4 where none is free.
+-- The conditional form hands out no cell of another extent, and returns 4 if none is free.
 abbrev pub GetHandsOutACell : Type 0
 GetHandsOutACell =
     (settings : Settings) (names_full : Bool) (s t : State) (name : List ℕ) (g : Get) (reply : Reply) →
@@ -100,9 +100,9 @@ GetHandsOutACell =
     ((cell : ℕ) × (reply ≡ Cell cell) × IsHandedOut settings s t name g cell × (names_full ≡ false))
     ⊎ ((g.conditional ≡ true) × (reply ≡ Returned 4) × HasNoFreeCell s name × ReturnCodeIsAll s t 4)
 
--- From s to t, the current task sees this owner's subpool at the number: the one that it saw, and where it saw none a
--- new one of its own. All other subpools are as they were, and so is what each task sees at each other number.
--- Assembler Services Guide, "Virtual storage management", "Subpool handling".
+-- From s to t, the current task sees this owner's subpool at the number: the one that it saw, or a new one of its own
+-- if it saw none. All other subpools are as they were, and so is what each task sees at each other number. Assembler
+-- Services Guide, "Virtual storage management", "Subpool handling".
 pub record SubpoolIsThere (s t : State) (number owner : ℕ) : Type 0 where
   pub seen : t.sight s.current number ≡ Some owner
   pub there : t.subpools number owner ≡ true
@@ -114,12 +114,12 @@ pub record SubpoolIsThere (s t : State) (number owner : ℕ) : Type 0 where
 -- From s to t, a cell pool was built whose first extent is at the address.
 pub record IsBuilt (settings : Settings) (s t : State) (name : List ℕ) (header : Option (List ℕ)) (b : Build)
     (address : ℕ) : Type 0 where
-  -- the numbers are within their bounds, the name had no cell pool, and there were less than 256
+  -- the numbers are within their bounds, the name had no cell pool, and there were fewer than 256
   pub private : b.number ≤ 127
   pub valid : (are_cells b.size b.primary ≡ true) × (are_cells b.size (secondary_count b) ≡ true)
   pub was_new : cell_pool_in s.cell_pools name ≡ None
   pub room : length s.cell_pools < 256
-  -- the extent is in free storage of the subpool that the task sees at the number then, or in unassigned pages, at the
+  -- the extent is in free storage of the subpool that the task then sees at the number, or in unassigned pages, at the
   -- lowest address on the side of the line that is asked for
   pub owner : ℕ
   pub subpool : SubpoolIsThere s t b.number owner
@@ -157,7 +157,7 @@ BuildMakesACellPool =
     (address : ℕ) × (reply ≡ Obtained address (8 * doublewords (b.primary * b.size)))
     × IsBuilt settings s t name header b address
 
--- From s to t, the cell pool of the name is gone, and its extents were given back, with cells in use.
+-- From s to t, the cell pool of the name is gone, and its extents were released, with cells in use.
 pub record IsDeleted (s t : State) (name : List ℕ) : Type 0 where
   pub pool : CellPool
   pub before : IsSeen s name pool
@@ -179,7 +179,7 @@ pub record IsDeleted (s t : State) (name : List ℕ) : Type 0 where
   -- the bytes of a page that leaves are gone, and every other page keeps its bytes
   pub no_bytes : (a : ℕ) (p : Subpool) → s.pages (a / 4096) ≡ Some p → t.pages (a / 4096) ≡ None → t.bytes a ≡ None
   pub same_bytes : (a : ℕ) → t.pages (a / 4096) ≡ s.pages (a / 4096) → t.bytes a ≡ s.bytes a
-  -- the tasks, the subpools and who sees them stay, and the return code is 0
+  -- the tasks, the subpools and which tasks see them stay, and the return code is 0
   pub same :
       t ≡ record s { words = t.words; pages = t.pages; taken = t.taken; bytes = t.bytes; cell_pools = t.cell_pools }
   pub registers : ReturnCodeIsSet s t 0
@@ -189,8 +189,8 @@ DeleteGivesItsExtentsBack =
     (settings : Settings) (names_full : Bool) (s t : State) (name : List ℕ) (reply : Reply) → IsWellFormed settings s →
     step settings names_full s (delete name) ≡ Accepted t reply → IsDeleted s t name × (reply ≡ Returned 0)
 
--- Two lists of extents with the same doublewords are given back alike: in the order in which a DELETE goes through them
--- there's no meaning.
+-- Two lists of extents with the same doublewords are released alike: the order in which a DELETE goes through them has
+-- no meaning.
 abbrev pub OrderIsWithoutMeaning : Type 0
 OrderIsWithoutMeaning =
     (settings : Settings) (s : State) (pool : CellPool) (extents other : List CellExtent) → IsWellFormed settings s →

@@ -14,14 +14,14 @@ use Rattle.vsm_model.specs.WellFormed.{IsWellFormed, IsWellFormedNamed}
 abbrev pub IsRegister : Option ℕ → Type 0
 IsRegister named = (register : ℕ) → named ≡ Some register → register < 16
 
--- The values of a service are registers and bytes, as those of each statement that can be written are.
+-- The values of a service are registers and bytes, as are those of each statement that can be written.
 abbrev pub HasItsValues : Service → Type 0
 HasItsValues (obtain o) = IsRegister o.register
 HasItsValues (get name g) = IsRegister g.register
 HasItsValues (store address bytes) = All (λ byte. byte < 256) bytes
 HasItsValues _ = ⊤
 
--- The making of a cell pool gives its address to no name: the statement has no operand for one.
+-- Making a cell pool gives its address to no name: the statement has no operand for one.
 abbrev pub NamesNothing : Service → Option (List ℕ) → Type 0
 NamesNothing (build name header b) named = named ≡ None
 NamesNothing _ named = ⊤
@@ -44,7 +44,7 @@ StatementLeavesWellFormed =
     settings_valid settings ≡ true → IsStatement x → IsWellFormedNamed settings m →
     named_step settings m x ≡ Accepted n reply → IsWellFormedNamed settings n
 
--- So the state after any list of statements alone is well-formed.
+-- So the state after any list of statements run alone is well-formed.
 abbrev pub ReachedIsWellFormed : Type 0
 ReachedIsWellFormed =
     (settings : Settings) (xs : List NamedService) → settings_valid settings ≡ true → All IsStatement xs →

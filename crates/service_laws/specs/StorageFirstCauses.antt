@@ -21,7 +21,7 @@ use Rattle.vsm_model.specs.Step.{step}
 use Rattle.service_laws.specs.GivenBack.{HasNoCells}
 use Rattle.service_laws.specs.StorageLowestAddress.{HasNoRoom}
 
--- Why an obtain is refused: each cause with its condition, behind which those of the causes before it don't hold.
+-- Why an obtain is refused: each cause with its condition, and that those of the causes before it don't hold.
 abbrev pub IsFirstOfObtain : Settings → Bool → State → Obtain → Cause → Type 0
 IsFirstOfObtain settings names_full s o UnsupportedSubpool = (o.number ≡ 131) ⊎ (o.number ≡ 132)
 IsFirstOfObtain settings names_full s o SubpoolNotAllowed = (127 < o.number) × (o.number ≢ 131) × (o.number ≢ 132)

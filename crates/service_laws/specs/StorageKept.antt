@@ -1,4 +1,4 @@
--- What holds of each state that is reached still holds behind an accepted service on storage.
+-- What holds of each state that is reached still holds after an accepted service on storage.
 use Rattle.std.specs.Prelude.{◌≡◌, ℕ, ◌<◌, Bool, true, Option, Some, List, All}
 use Rattle.vsm_model.specs.declared.limits.Settings.{Settings}
 use Rattle.vsm_model.specs.declared.replies.Reply.{Reply}
@@ -39,7 +39,7 @@ StoreLeavesWellFormed =
     All (λ byte. byte < 256) bytes → IsWellFormed settings s →
     step settings names_full s (store address bytes) ≡ Accepted t reply → IsWellFormed settings t
 
--- Where a statement's name would be one too many, none of these services gives it an address.
+-- If a statement's name would be one too many, none of these services gives it an address.
 abbrev pub OneNameTooManyIsGivenNoAddress : Type 0
 OneNameTooManyIsGivenNoAddress =
     (settings : Settings) (s t : State) (reply : Reply) (address : ℕ) → GivesAddress reply address →

@@ -1,4 +1,4 @@
--- Where the area of an accepted obtain is, and when there is no room for it, by the storage before, with no search.
+-- The place of an accepted obtain's area, and when there is no room for it, by the storage before, without a search.
 -- Assembler Services Guide, "Virtual storage management", "Explicit requests for virtual storage".
 use Rattle.std.specs.Prelude.{◌≡◌, ℕ, ◌+◌, ◌/◌, ◌%◌, ◌<◌, ◌≤◌, ◌⊎◌, Bool, true, false, Some, None, List, [], ◌∷◌}
 use Rattle.vsm_model.specs.declared.Subpool.{Subpool}
@@ -29,15 +29,15 @@ AreUnassigned r s count page =
 abbrev pub IsLowest : (ℕ → Type 0) → ℕ → Type 0
 IsLowest has n = has n × ((k : ℕ) → has k → n ≤ k)
 
--- In a region the free storage of the subpool, if it has room for so many doublewords, comes first, at the lowest
--- address; else come unassigned pages, enough of them and the lowest, from their first byte on.
+-- In a region the free storage of the subpool, if it has room for that many doublewords, is taken first, at the lowest
+-- address; else unassigned pages, enough of them and the lowest, from their first byte on.
 abbrev pub IsLowestIn : Region → State → Subpool → ℕ → ℕ → ℕ → Type 0
 IsLowestIn r s p count boundary address =
     ((address % 8 ≡ 0) × IsLowest (AreFree r s p count boundary) (address / 8))
     ⊎ (((d : ℕ) → AreFree r s p count boundary d → ⊥)
     × (address % 4096 ≡ 0) × IsLowest (AreUnassigned r s (pages_for count)) (address / 4096))
 
--- Neither the free storage of the subpool nor the unassigned pages of the region have room for so many doublewords.
+-- Neither the free storage of the subpool nor the unassigned pages of the region have room for that many doublewords.
 abbrev pub HasNoRoom : Region → State → Subpool → ℕ → ℕ → Type 0
 HasNoRoom r s p count boundary =
     ((d : ℕ) → AreFree r s p count boundary d → ⊥) × ((page : ℕ) → AreUnassigned r s (pages_for count) page → ⊥)
@@ -50,8 +50,8 @@ IsLowestAddress (r ∷ rs) s p count boundary address =
     ⊎ (HasNoRoom r s p count boundary × IsLowestAddress rs s p count boundary address)
 
 -- An accepted obtain takes the lowest address for the length that it's given, in the subpool that the task sees at the
--- number or is to have there: on either side of the line in the region above it, and only where that has no room in the
--- one below.
+-- number or is to have there: on either side of the line in the region above it, and in the one below only if that has
+-- no room.
 abbrev pub ObtainTakesTheLowestAddress : Type 0
 ObtainTakesTheLowestAddress =
     (settings : Settings) (names_full : Bool) (s t : State) (o : Obtain) (address given : ℕ) →

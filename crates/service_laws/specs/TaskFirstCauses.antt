@@ -18,7 +18,7 @@ use Rattle.vsm_model.specs.Step.{step}
 use Rattle.vsm_model.specs.WellFormed.{TasksAreSound}
 use Rattle.service_laws.specs.Attached.{AreNumbers}
 
--- A list isn't all there: the byte that counts its numbers, or that of one of them, doesn't lie in an assigned page.
+-- Part of a list is missing: the byte that counts its numbers, or that of one of them, isn't in an assigned page.
 abbrev pub IsNotAssigned : State → Passed → Type 0
 IsNotAssigned s Nothing = ⊥
 IsNotAssigned s (Number number) = ⊥
@@ -27,23 +27,23 @@ IsNotAssigned s (Listed address) =
     ⊎ ((count : ℕ) × (a : ℕ) × (s.bytes address ≡ Some count) × (among (suc address) count a ≡ true)
     × (s.bytes a ≡ None))
 
--- A number is 0 or above 127, or stands twice.
+-- A number is 0 or above 127, or appears twice.
 abbrev pub HasBadNumber : List ℕ → Type 0
 HasBadNumber numbers =
     ((n : ℕ) × (is_in numbers n ≡ true) × ((n ≡ 0) ⊎ (127 < n)))
     ⊎ ((i : ℕ) × (j : ℕ) × (n : ℕ) × (i < j) × (slice_get numbers i ≡ Some n) × (slice_get numbers j ≡ Some n))
 
--- What an ATTACH names is there: these numbers are given, and these are shared.
+-- What an ATTACH names is present: these numbers are given, and these are shared.
 pub record AreNamed (s : State) (a : Attach) (given shared : List ℕ) : Type 0 where
   pub are_given : numbers_in s a.given ≡ Some given
   pub are_shared : numbers_in s a.shared ≡ Some shared
 
--- Besides, they are subpool numbers, each named once.
+-- They are also subpool numbers, each named once.
 pub record AreNamedWell (s : State) (a : Attach) (given shared : List ℕ) : Type 0 where
   pub named : AreNamed s a given shared
   pub are_numbers : AreNumbers (given ++ shared)
 
--- Why an ATTACH is refused: a list isn't all there; or they are, and the numbers are bad; or they are good, and the
+-- Why an ATTACH is refused: part of a list is missing; or none is, and the numbers are bad; or they aren't, and the
 -- current task sees another's subpool at one that it gives; or at none of them, and each number from 1 to 64 has a
 -- task.
 abbrev pub IsFirstOfAttach : State → Attach → Cause → Type 0

@@ -5,7 +5,7 @@ use Rattle.vsm_model.specs.State.{State, is_task}
 use Rattle.vsm_model.specs.Ending.{is_in_subtree}
 use Rattle.vsm_model.specs.WellFormed.{TasksAreSound}
 
--- The task is so many steps below another: each step goes from a task to its parent.
+-- The task is that many steps below another: each step goes from a task to its parent.
 abbrev pub IsStepsBelow : State → ℕ → ℕ → ℕ → Type 0
 IsStepsBelow s zero top task = task ≡ top
 IsStepsBelow s (suc steps) top task = (parent : ℕ) × (s.parents task ≡ Some parent) × IsStepsBelow s steps top parent
@@ -14,8 +14,8 @@ IsStepsBelow s (suc steps) top task = (parent : ℕ) × (s.parents task ≡ Some
 abbrev pub IsInSubtree : State → ℕ → ℕ → Type 0
 IsInSubtree s top task = (steps : ℕ) × IsStepsBelow s steps top task
 
--- In a well-formed state the subtree of a task, which is looked for by 64 steps, has just the tasks that are below it
--- by any number of steps, and the task itself.
+-- In a well-formed state the subtree of a task, which is looked for by 64 steps, has exactly the tasks that are below
+-- it by any number of steps, and the task itself.
 abbrev pub SubtreeIsWhole : Type 0
 SubtreeIsWhole =
     (s : State) → TasksAreSound s → (top task : ℕ) → is_task s top ≡ true →

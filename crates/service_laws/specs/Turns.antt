@@ -13,7 +13,7 @@ pub record HasItsTurn (s t : State) (task : ℕ) : Type 0 where
   pub was_task : is_task s task ≡ true
   pub current_alone : t ≡ record s { current = task }
 
--- An accepted RUN changes the current task alone.
+-- An accepted RUN changes only the current task.
 abbrev pub RunTurnsToTheTask : Type 0
 RunTurnsToTheTask =
     (settings : Settings) (names_full : Bool) (s t : State) (task : ℕ) (reply : Reply) →

@@ -16,20 +16,20 @@ pub fn cell_pools_stay_well_formed()
     ensures delete { DeleteLeavesWellFormed }
 {}
 
-/// A GET hands out the first free cell, or, where none is free, the first cell of a further extent of the secondary
-/// number of cells, in storage that was free, at the lowest address; the conditional form is answered 4 there. A FREE
-/// makes just this cell free, and the next to be handed out. Other cell pools, the tasks, the subpools and who sees
-/// them stay, and of the registers those change that the macro sets.
+/// A GET hands out the first free cell, or, if none is free, the first cell of another extent of the secondary number
+/// of cells, in storage that was free, at the lowest address; the conditional form then returns 4. A FREE makes exactly
+/// this cell free, and the next to be handed out. Other cell pools, the tasks, the subpools and which tasks see them
+/// stay, and only the registers that the macro sets change.
 pub fn cells_are_handed_out()
     ensures get { GetHandsOutACell }
     ensures free { FreeMakesACellFree }
 {}
 
 /// A BUILD makes a cell pool of a new name with one extent, in storage that was free, at the lowest address, of the
-/// subpool that the task sees at the number or of a new one; all its cells are free, in ascending order. A DELETE takes
-/// the cell pool away and gives exactly its extents back, with cells in use: each page of the subpool that has nothing
-/// taken is unassigned then, with its bytes. Other cell pools, the tasks and all other storage stay, and register 15
-/// alone is set. The order in which a DELETE goes through its extents is without meaning.
+/// subpool that the task sees at the number or of a new one; all its cells are free, in ascending order. A DELETE
+/// removes the cell pool and releases exactly its extents, with cells in use: each page of the subpool that then has
+/// nothing taken is unassigned, with its bytes. Other cell pools, the tasks and all other storage stay, and only
+/// register 15 is set. The order in which a DELETE goes through its extents has no meaning.
 pub fn cell_pools_come_and_go()
     ensures build { BuildMakesACellPool }
     ensures delete { DeleteGivesItsExtentsBack }
@@ -37,10 +37,9 @@ pub fn cell_pools_come_and_go()
 {}
 
 /// No cell is handed out twice: one that a GET hands out was in use in no cell pool, and from then on it's in use,
-/// whatever is asked, until a FREE gives it back or its cell pool is gone; so till then no GET of any cell pool hands
-/// it out, behind whatever list of services. A cell pool goes by a DELETE of it, the release of a whole subpool or the
-/// end of tasks alone. Cells lie apart, those of one cell pool and those of two. The cell that was given back last is
-/// handed out first.
+/// whatever is asked, until a FREE frees it or its cell pool is gone; until then no GET of any cell pool hands it out,
+/// after any list of services. Only its DELETE, the release of a whole subpool and the end of tasks remove a cell pool.
+/// Cells lie apart, those of one cell pool and those of two. The cell that was freed last is handed out first.
 pub fn no_cell_is_handed_out_twice()
     ensures handed_out { HandedOutWasNotInUse }
     ensures stays { StaysInUse }
@@ -50,8 +49,8 @@ pub fn no_cell_is_handed_out_twice()
     ensures last_first { LastFreedIsFirst }
 {}
 
-/// A service on a cell pool is refused only for a cause whose condition holds, and only where none of the causes before
-/// it holds; for want of storage only where no region on the cell pool's side of the line has room, neither in the free
+/// A service on a cell pool is refused only for a cause whose condition holds, and only if none of the causes before it
+/// holds; for lack of storage only if no region on the cell pool's side of the line has room, neither in the free
 /// storage of the subpool nor in unassigned pages.
 pub fn refused_for_the_first_cause()
     ensures build { BuildIsRefusedForTheFirst }

@@ -24,9 +24,9 @@ ghost use Rattle.service_laws.specs.WellFormedStays.{
 
 /// An accepted ATTACH makes a task below the current one, of the least number from 1 to 64 that is free, with zero
 /// registers, and touches no other task. A subpool that is given goes to it with pages, doublewords, bytes and cell
-/// pools: the giver sees none then and would be made a new one, and whoever shared it sees it as the new owner's. A
-/// subpool that is shared stays its owner's, and is made for the current task where it saw none. Subpool 0 is shared,
-/// or the new task's own. All else stays (*Assembler Services Guide*, "Virtual storage management", "Subpool handling";
+/// pools: the giver then sees none and would be made a new one, and any task that shared it sees it as the new owner's.
+/// A subpool that is shared stays its owner's, and is made for the current task if it saw none. Subpool 0 is shared, or
+/// the new task's own. All else stays (*Assembler Services Guide*, "Virtual storage management", "Subpool handling";
 /// *Assembler Services Reference*, ATTACH).
 pub fn attached()
     ensures { AttachMakesATask }
@@ -42,10 +42,10 @@ pub fn given()
 {}
 
 /// An accepted DETACH ends the task and all tasks below it, and an accepted ENDTASK the current task, whose parent is
-/// current then. What the ended tasks owned is gone: subpools, their pages with doublewords and bytes, their cell
-/// pools, and who saw them sees none. All else stays: what they only shared with its bytes, what others own and see,
-/// and the registers of all other tasks but register 15 of the one that detached, which is 0 (*Assembler Services
-/// Guide*, "Virtual storage management", "Subpool handling"; *Assembler Services Reference*, DETACH).
+/// then current. What the ended tasks owned is gone: subpools, their pages with doublewords and bytes, their cell
+/// pools, and a task that saw them sees none. All else stays: what they only shared with its bytes, what others own and
+/// see, and the registers of all other tasks except register 15 of the one that detached, which is 0 (*Assembler
+/// Services Guide*, "Virtual storage management", "Subpool handling"; *Assembler Services Reference*, DETACH).
 pub fn ended()
     ensures detach { DetachEndsTheSubtree }
     ensures end_task { EndTaskEndsTheCurrentTask }
@@ -53,7 +53,7 @@ pub fn ended()
     ensures others { TheOthersKeepTheirPages }
 {}
 
-/// An accepted RUN changes the current task alone.
+/// An accepted RUN changes only the current task.
 pub fn turned()
     ensures { RunTurnsToTheTask }
 {}
@@ -68,8 +68,8 @@ pub fn depth()
     ensures { NoneIsDeeper }
 {}
 
-/// A service on tasks is refused only for a cause whose condition holds, and only where none of the causes before it
-/// holds (*Assembler Services Reference*, ATTACH and DETACH).
+/// A service on tasks is refused only for a cause whose condition holds, and only if none of the causes before it holds
+/// (*Assembler Services Reference*, ATTACH and DETACH).
 pub fn refused_for_the_first_cause()
     ensures attach { AttachIsRefusedForTheFirst }
     ensures detach { DetachIsRefusedForTheFirst }

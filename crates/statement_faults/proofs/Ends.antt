@@ -1,4 +1,4 @@
--- Where operands end, as a text is gone over.
+-- The end of operands, as a text is gone over.
 use Rattle.std.proofs.Common.{◌≡◌, ℕ, ◌+◌, ◌<◌, ◌≤◌, max, Bool, true, false, ◌||◌, not, ◌==◌, List, [], ◌∷◌, ◌++◌, length, take, get_or, refl, sym, ap, ◌∙◌, subst, inl, inr, arith, if◌then◌else◌}
 use Rattle.std.proofs.lemmas.Bool.{cases_lt}
 use Rattle.std.proofs.lemmas.Bool.Decides.{nat_tests}
@@ -11,7 +11,7 @@ nesting_push : (n : Nesting) (xs : List ℕ) (c : ℕ) → nesting_behind n (xs 
 nesting_push n [] c = refl
 nesting_push n (x ∷ xs) c = nesting_push (past n x) xs c
 
--- one byte more
+-- one more byte
 pub nesting_more : (xs : List ℕ) (i : ℕ) (at next : Nesting) → i < length xs → at ≡ nesting_behind outside (take i xs) → next ≡ past at (get_or xs i 0) →
     next ≡ nesting_behind outside (take (i + 1) xs)
 nesting_more xs i at next more e f =
@@ -20,7 +20,7 @@ nesting_more xs i at next more e f =
 not_length : (i n : ℕ) → i < n → (i == n) ≡ false
 not_length i n h = grind (arith, nat_tests)
 
--- in front of a byte of a text an operand ends just where that separates
+-- before a byte of a text an operand ends exactly if that separates
 pub end_is : (xs : List ℕ) (i : ℕ) (at : Nesting) → i < length xs → at ≡ nesting_behind outside (take i xs) → is_end xs i ≡ separates at (get_or xs i 0)
 end_is xs i at more e =
     ap (λ (b : Bool). b || separates (nesting_behind outside (take i xs)) (get_or xs i 0)) (not_length i (length xs) more)
@@ -55,7 +55,7 @@ below_more P i h at j below =
       | inr from ↦ subst P (sym (the_same j i from below)) at
     ]
 
--- the start of the operand behind one byte more, by whether an operand ends there
+-- the start of the operand after one more byte, by whether an operand ends there
 starts_by : (text : List ℕ) (i start : ℕ) (b : Bool) → is_end text i ≡ b → Starts text i start → Starts text (i + 1) (if b then i + 1 else start)
 starts_by text i start true e h = record {
   within = omega arith;

@@ -76,7 +76,7 @@ lines_read all front (card ∷ cards) line j k split at h =
     ∙ sym (append_assoc j.text (f (added line 16 j m)) (f (added_by (line + 1) m cards)))
     ∙ ap (λ t. t ++ f (added_by (line + 1) m cards)) mine ∙ others
 
--- what stands behind the operation ends a first line
+-- what follows the operation ends a first line
 in_suffix : (b : Behind) (card t : List ℕ) (m : ℕ) → t ≡ drop m card → (k : ℕ) × (operands_in b t ≡ drop k card)
 in_suffix behind.Operands card t m e = (m, e)
 in_suffix behind.Remarks card t m e = (length card, sym (drop_all (length card) card (omega arith)))

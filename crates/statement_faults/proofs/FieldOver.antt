@@ -13,12 +13,12 @@ use Rattle.statement_faults.specs.declared.gathered.TextPlace.{TextPlace}
 use Rattle.statement_faults.specs.declared.lines.SourceLine.{SourceLine}
 use Rattle.statement_faults.proofs.FieldPlaces.{joins_push, places_push, joins_broken}
 
--- the first line alone
+-- only the first line
 pub over_first : (card : List ℕ) (f : Field) → joined_of f ≡ begun card → f.places.items ≡ added 0 (72 - length (from_operands card)) no_field (begun card)
     → IsFieldOver card [] f
 over_first card f e h = record { joined = ap (λ (j : Joined). Some j) (sym e); places = h ∙ sym (append-nil _) }
 
--- one line more
+-- one more line
 pub over_more : (script card : List ℕ) (lines : List SourceLine) (i : ℕ) (d : SourceLine) (mine : List ℕ) (f g : Field) → i < length lines
     → mine ≡ card_in script (get_or lines i d) → f.lines ≡ i → IsFieldOver card (map (card_in script) (take i lines)) f
     → with_line (joined_of f) mine ≡ Some (joined_of g) → g.places.items ≡ f.places.items ++ added (f.lines + 1) 16 (joined_of f) (joined_of g)

@@ -1,4 +1,4 @@
--- Where the bytes of a field stand, as its lines come one after another.
+-- The places of the bytes of a field, line after line.
 use Rattle.std.proofs.Common.{◌≡◌, ℕ, zero, suc, ◌+◌, Bool, true, false, not, ◌&&◌, ◌==◌, if◌then◌else◌, get_or, take, drop, List, [], ◌∷◌, ◌++◌, length, Option, Some, None, sym, ap, ◌∙◌, append_assoc, arith, add-zero, ◌-◌}
 use Rattle.std.proofs.lemmas.List.{append-nil}
 use Rattle.macro_reader.specs.Columns.{is_blank}
@@ -7,7 +7,7 @@ use Rattle.macro_statements.specs.Statements.{from_operands}
 use Rattle.statement_faults.specs.Places.{in_row, added, added_by, places_of}
 use Rattle.statement_faults.specs.declared.gathered.TextPlace.{TextPlace}
 
--- one place more
+-- one more place
 abbrev pub spot : ℕ → ℕ → TextPlace
 spot line column = record { line = line; column = column }
 
@@ -42,7 +42,7 @@ goes_on j k card blank goes stays e =
     ∙ ap (λ s. by_tests j card true true s) stays
     ∙ ap (λ (m : Joined). Some m) (sym e)
 
--- one line more
+-- one more line
 pub joins_push : (j k l : Joined) (cards : List (List ℕ)) (card : List ℕ) → with_lines j cards ≡ Some k → with_line k card ≡ Some l
     → with_lines j (cards ++ card ∷ []) ≡ Some l
 joins_push j k l [] card h e =

@@ -1,4 +1,4 @@
--- No statement has the fault CONTINUATION by what it says: that is told of its lines alone.
+-- No statement has the fault CONTINUATION by what it says: only its lines can have it.
 use Rattle.std.proofs.Common.{◌≡◌, ℕ, ◌+◌, Bool, true, false, if◌then◌else◌, List, [], ◌∷◌, Option, Some, None, Result, Ok, Err, option_and_then, refl, is_some}
 use Rattle.std.specs.List.{list_any}
 use Rattle.operand_texts.specs.Words.{is_word, word}

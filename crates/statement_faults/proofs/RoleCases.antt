@@ -52,7 +52,7 @@ further_is (Some j) false false n card count h = refl
 further_is (Some j) true true n card count h = cc
 further_is (Some j) true false n card count h = refl
 
--- a line where a statement is awaited, by whether it is skipped and whether it is continued
+-- a line when a statement is awaited, by whether it is skipped and whether it is continued
 is_told : (r : Result Asked FaultKind) → brought_as r ≡ brought.Nothing → ⊥
 is_told (Ok asked) h = cc
 is_told (Err k) h = cc
@@ -71,7 +71,7 @@ pub told_is : (skips c : Bool) (n : ℕ) (line : Line) (b : Brought) → brought
 told_is true c n line b h never = absurd (never (sym h))
 told_is false c n line b h never = refl
 
--- the mode of a reader that stands so
+-- the mode of a reader in this state
 pub awaits : (mode : Mode) (s : ReaderState) → IsStand mode s → s ≡ stand.Awaiting → mode ≡ awaiting
 awaits awaiting s h e = refl
 awaits dropping s h e = let bad : stand.Dropping ≡ stand.Awaiting = sym h ∙ e in cc

@@ -7,7 +7,7 @@ use Rattle.macro_statements.specs.Statements.{statement_with}
 use Rattle.operand_texts.specs.declared.nesting.Nesting.{Nesting}
 use Rattle.operand_texts.specs.Field.{is_balanced, outside, past, separates}
 
--- where the byte behind a text stands
+-- how the byte after a text is nested
 abbrev pub nesting_behind : Nesting → List ℕ → Nesting
 nesting_behind n [] = n
 nesting_behind n (c ∷ cs) = nesting_behind (past n c) cs
@@ -16,7 +16,7 @@ nesting_behind n (c ∷ cs) = nesting_behind (past n c) cs
 abbrev pub is_end : List ℕ → ℕ → Bool
 is_end text j = (j == length text) || separates (nesting_behind outside (take j text)) (slice_index_or text j 0)
 
--- It begins where the text does, and behind each comma that separates.
+-- It begins where the text does, and after each comma that separates.
 abbrev pub IsStart : List ℕ → ℕ → Type 0
 IsStart text k = (k ≡ 0) ⊎ ((j : ℕ) × (k ≡ j + 1) × (is_end text j ≡ true))
 
@@ -30,7 +30,7 @@ pub record Starts (text : List ℕ) (end start : ℕ) : Type 0 where
 abbrev pub front : List ℕ → ℕ → List ℕ
 front text j = take (max j 1) text
 
--- Where a field isn't balanced nothing else of it is read: only operands count that aren't balanced either.
+-- If a field isn't balanced nothing else of it is read: only operands count that aren't balanced either.
 abbrev pub is_counted : List ℕ → ℕ → Bool
 is_counted text j = is_balanced outside text || not (is_balanced outside (front text j))
 

@@ -1,11 +1,13 @@
--- Where the bytes of an operand field stand in the lines of its statement, by the grammar's own words for the field.
-use Rattle.std.specs.Prelude.{◌≡◌, ℕ, zero, suc, ◌+◌, ◌-◌, ◌<◌, Bool, true, false, if◌then◌else◌, nat_lt, List, [], ◌∷◌}
-use Rattle.std.specs.Prelude.{◌++◌, length, map, take, drop, slice_index, slice_index_or, Some, None, Err}
-use Rattle.std.specs.List.{slice_get}
+-- The places of the bytes of an operand field in the lines of its statement, by the grammar's own words for the field.
+use Rattle.std.specs.Prelude.{◌≡◌, ◌==◌, ℕ, zero, suc, ◌+◌, ◌-◌, ◌<◌, Bool, true, false, if◌then◌else◌, nat_lt, List}
+use Rattle.std.specs.Prelude.{[], ◌∷◌, ◌++◌, length, map, take, drop, max, min, slice_index, slice_index_or}
+use Rattle.std.specs.Prelude.{Some, None, Err}
+use Rattle.std.specs.List.{slice_get, take_while}
 use Rattle.std.specs.Str.Lines.{strip_carriage_return}
 use Rattle.macro_operands.specs.declared.faults.FaultKind.{FaultKind}
 use Rattle.macro_operands.specs.declared.faults.FaultKind.TheVariants as fault
 use Rattle.macro_statements.specs.Statements.{from_operands, statement_with}
+use Rattle.operand_texts.specs.Words.{word_len}
 use Rattle.macro_reader.specs.Columns.{used}
 use Rattle.macro_reader.specs.Continuation.{Joined, no_field, begun, with_line, with_lines}
 use Rattle.statement_faults.specs.Operands.{IsWrongOperand}
@@ -14,12 +16,12 @@ use Rattle.statement_faults.specs.declared.gathered.Field.{Field}
 use Rattle.statement_faults.specs.declared.gathered.TextPlace.{TextPlace}
 use Rattle.statement_faults.specs.declared.lines.SourceLine.{SourceLine}
 
--- So many places one after another on a line, the first in this column.
+-- This many places one after another on a line, the first in this column.
 abbrev pub in_row : ℕ → ℕ → ℕ → List TextPlace
 in_row line column zero = []
 in_row line column (suc count) = record { line = line; column = column } ∷ in_row line (column + 1) count
 
--- The places of what a line adds to a field: it stands there from one column on.
+-- The places of what a line adds to a field: from one column on.
 abbrev pub added : ℕ → ℕ → Joined → Joined → List TextPlace
 added line column before after = in_row line column (length after.text - length before.text)
 
@@ -35,7 +37,7 @@ abbrev pub places_of : List ℕ → List (List ℕ) → List TextPlace
 places_of card cards =
     added 0 (72 - length (from_operands card)) no_field (begun card) ++ added_by 1 (begun card) cards
 
--- What stands at a place of these lines.
+-- The byte at a place of these lines.
 abbrev pub byte_at : List (List ℕ) → TextPlace → ℕ
 byte_at cards place = slice_index (slice_index_or cards place.line []) (place.column - 1)
 
@@ -45,7 +47,7 @@ FieldBytesAreThere =
     (card : List ℕ) (cards : List (List ℕ)) (j : Joined) → length card ≡ 71 → with_lines (begun card) cards ≡ Some j
     → map (byte_at (card ∷ cards)) (places_of card cards) ≡ j.text
 
--- A line of a script: without a carriage return in front of its line feed.
+-- A line of a script: without a carriage return before its line feed.
 abbrev pub line_in : List ℕ → SourceLine → List ℕ
 line_in script line =
     if nat_lt line.end (length script)
@@ -68,7 +70,7 @@ further_cards script lines = map (card_in script) (drop 1 lines)
 abbrev pub joined_of : Field → Joined
 joined_of f = record { text = f.text.items; at = f.at; goes_on = f.goes_on }
 
--- It is the field over these lines, and knows where its bytes stand.
+-- It is the field over these lines, and has the place of each byte.
 pub record IsFieldOver (card : List ℕ) (cards : List (List ℕ)) (f : Field) : Type 0 where
   pub joined : with_lines (begun card) cards ≡ Some (joined_of f)
   pub places : f.places.items ≡ places_of card cards
@@ -85,10 +87,31 @@ is_of_operand fault.Value = true
 is_of_operand fault.LeftOut = true
 
 -- A statement over these lines, whose continuation breaks no rule, has this fault of an operand: then the caret is that
--- of the first operand with which it has the fault, and stands at the place of its first byte, if it has one.
+-- of the first operand with which it has the fault, and is at the place of its first byte, if it has one.
 abbrev pub MarksOperand : List ℕ → List (List ℕ) → FaultKind → Caret → Type 0
 MarksOperand card cards kind caret =
     (j : Joined) → with_lines (begun card) cards ≡ Some j → statement_with card j.text ≡ Err kind
     → is_of_operand kind ≡ true
     → IsWrongOperand card j.text kind caret.from caret.to
     × (caret.from < length j.text → slice_get (places_of card cards) caret.from ≡ Some caret.place)
+
+-- How many bytes of the wrong operand are on the caret's line,
+abbrev pub operand_bytes : Caret → ℕ
+operand_bytes caret =
+    length (take_while (λ p. p.line == caret.place.line)
+    (take (caret.to - caret.from) (drop caret.from caret.field.places.items)))
+
+-- and how many the word has that begins at the caret, on the statement's first line.
+abbrev pub word_bytes : Caret → ℕ
+word_bytes caret = word_len (drop (min (caret.place.column - 1) 71) caret.card)
+
+-- How many bytes a caret marks: those of the operand, or of the word in column 1 or of the operation; one at least.
+abbrev pub caret_width : FaultKind → Caret → ℕ
+caret_width fault.Column caret = max (word_bytes caret) 1
+caret_width fault.Continuation caret = 1
+caret_width fault.Operation caret = max (word_bytes caret) 1
+caret_width fault.Operand caret = max (operand_bytes caret) 1
+caret_width fault.Repeated caret = max (operand_bytes caret) 1
+caret_width fault.Missing caret = 1
+caret_width fault.Value caret = max (operand_bytes caret) 1
+caret_width fault.LeftOut caret = max (operand_bytes caret) 1

@@ -1,9 +1,9 @@
 //! Where a statement is wrong: the line and the column of each kind of fault.
-ghost use Rattle.std.specs.Prelude.{◌≡◌, ◌≤◌, ◌<◌, true, Some, None, IfSome, length, map, drop};
-ghost use Rattle.std.specs.List.{slice_get};
+ghost use Rattle.std.specs.Prelude.{◌≡◌, ◌==◌, ◌≤◌, ◌<◌, true, Some, None, IfSome, length, map, drop};
+ghost use Rattle.std.specs.List.{slice_get, take_while};
 ghost use Rattle.macro_reader.specs.Continuation.{begun, with_lines};
 ghost use Rattle.statement_faults.specs.Places.{card_in, first_card, further_cards, is_of_operand};
-ghost use Rattle.statement_faults.specs.Places.{IsFieldOver, MarksOperand};
+ghost use Rattle.statement_faults.specs.Places.{IsFieldOver, MarksOperand, caret_width, operand_bytes, word_bytes};
 
 use crate::fields::card_of;
 use crate::gathered::{Field, TextPlace};
@@ -15,7 +15,7 @@ use operand_texts::words::{after_blanks, after_word, word_len};
 /// Where a statement is wrong.
 #[derive(Drop)]
 pub struct Caret {
-    /// Where its caret stands.
+    /// Where it is.
     pub place: TextPlace,
     /// Columns 1 to 71 of the statement's first line.
     pub card: [u8; 71],
@@ -27,6 +27,46 @@ pub struct Caret {
     pub to: usize,
 }
 
+/// How many of these places are on a line, before the first that isn't.
+fn count_on(line: usize, places: &[TextPlace]) -> usize
+    ensures { result ≡ length (take_while (λ p. p.line == line) places.now) }
+{
+    places.iter().take_while(|place| place.line == line).count()
+}
+
+impl Caret {
+    /// How many bytes of the wrong operand are on the caret's line.
+    fn operand_bytes(&self) -> usize
+        ensures { result ≡ operand_bytes self.now }
+    {
+        let places = self.field.places();
+        let end = self.to.min(places.len());
+        count_on(self.place.line, &places[self.from.min(end)..end])
+    }
+
+    /// How many bytes the word has that begins at the caret, on the statement's first line.
+    fn word_bytes(&self) -> usize
+        ensures { result ≡ word_bytes self.now }
+    {
+        let from = self.place.column.saturating_sub(1).min(71);
+        word_len(&self.card[from..])
+    }
+
+    /// How many bytes it marks, for a fault of this kind: those of the operand, or of the word in column 1 or of the
+    /// operation; one at least.
+    pub fn width(&self, kind: FaultKind) -> usize
+        ensures { result ≡ caret_width kind self.now }
+    {
+        match kind {
+            FaultKind::Column | FaultKind::Operation => self.word_bytes().max(1),
+            FaultKind::Continuation | FaultKind::Missing => 1,
+            FaultKind::Operand | FaultKind::Repeated | FaultKind::Value | FaultKind::LeftOut => {
+                self.operand_bytes().max(1)
+            }
+        }
+    }
+}
+
 /// The card of a line of the script.
 fn card_at(script: &[u8], line: &SourceLine) -> [u8; 71]
     ensures { result ≡ card_in script.now line.now }
@@ -34,7 +74,7 @@ fn card_at(script: &[u8], line: &SourceLine) -> [u8; 71]
     card_of(line.bytes(script))
 }
 
-/// The card of the first of these lines, or an empty one where there is none.
+/// The card of the first of these lines, or an empty one if none is given.
 pub(crate) fn first_card(script: &[u8], lines: &[SourceLine]) -> [u8; 71]
     ensures { result ≡ first_card script.now lines.now }
 {
@@ -44,14 +84,14 @@ pub(crate) fn first_card(script: &[u8], lines: &[SourceLine]) -> [u8; 71]
     }
 }
 
-/// The lines behind the first.
+/// The lines after the first.
 fn further_lines(lines: &[SourceLine]) -> &[SourceLine]
     ensures { result.now ≡ drop 1 lines.now }
 {
     if lines.is_empty() { lines } else { &lines[1..] }
 }
 
-/// The field over a first line and these continuation lines; and where one of them breaks a rule of continuation its
+/// The field over a first line and these continuation lines; and if one of them breaks a rule of continuation, its
 /// place.
 #[tactic(auto, using(crate::proofs::FieldOver::over_first))]
 pub(crate) fn field_over(
@@ -78,7 +118,7 @@ pub(crate) fn field_over(
     (field, None)
 }
 
-/// The column of the operation on a first line, from 1; behind its name where there is none.
+/// The column of the operation on a first line, from 1; after its name if it has none.
 fn operation_column(card: &[u8]) -> usize {
     let from = after_blanks(after_word(card)).len();
     if from == 0 {
@@ -87,7 +127,7 @@ fn operation_column(card: &[u8]) -> usize {
     card.len().saturating_sub(from).saturating_add(1)
 }
 
-/// The column behind the last operand of a statement that has some, or behind its operation and a blank.
+/// The column after the last operand of a statement that has some, or after its operation and a blank.
 fn behind_operands(card: &[u8], field: &Field) -> TextPlace {
     let size = field.text().len();
     if size > 0
@@ -108,7 +148,7 @@ fn behind_operands(card: &[u8], field: &Field) -> TextPlace {
     }
 }
 
-/// Where an operand begins, or behind the last one where it's empty and nothing follows.
+/// Where an operand begins, or after the last one if it's empty and nothing follows.
 fn operand_place(card: &[u8], field: &Field, from: usize) -> TextPlace
     ensures { from < length field.now.text.items → slice_get field.now.places.items from ≡ Some result }
 {
@@ -118,7 +158,7 @@ fn operand_place(card: &[u8], field: &Field, from: usize) -> TextPlace
     }
 }
 
-/// The place where a rule of continuation is broken, or else column 72 of the last of so many lines.
+/// The place where a rule of continuation is broken, or else column 72 of the last of this many lines.
 fn broken_place(broken: Option<TextPlace>, lines: usize) -> TextPlace {
     broken.unwrap_or(TextPlace {
         line: lines.saturating_sub(1),
@@ -126,7 +166,7 @@ fn broken_place(broken: Option<TextPlace>, lines: usize) -> TextPlace {
     })
 }
 
-/// Where the caret of a fault of this kind stands, by the place where a rule of continuation is broken.
+/// Where the caret of a fault of this kind is, by the place where a rule of continuation is broken.
 fn place_for(
     kind: FaultKind,
     card: &[u8],

@@ -1,4 +1,4 @@
-//! The operand field of a statement over its lines, and where each of its bytes stands.
+//! The operand field of a statement over its lines, and the place of each of its bytes.
 ghost use Rattle.std.specs.Prelude.{◌≡◌, ◌≤◌, ◌+◌, ◌-◌, ◌*◌, ◌<◌, ◌^◌, ◌==◌, ◌&&◌, ◌++◌, not, drop, length, Some, None};
 ghost use Rattle.std.specs.List.{slice_get};
 ghost use Rattle.std.specs.Result.{OnOk, OnErr};
@@ -24,7 +24,7 @@ pub fn card_of(line: &[u8]) -> [u8; 71]
     card
 }
 
-/// Where the byte behind a text stands.
+/// How the byte after a text is nested.
 fn nesting_behind(start: Nesting, text: &[u8]) -> Nesting
     requires { start.depth + length text.now < 2 ^ 64 }
     ensures value { result ≡ nesting_after start text.now }
@@ -43,7 +43,7 @@ pub(crate) fn ends_with_comma(text: &[u8]) -> bool
     !text.is_empty() && text[text.len() - 1] == b','
 }
 
-/// Whether a field ends in front of a byte that stands so.
+/// Whether a field ends before a byte that is nested this way.
 fn stops(at: Nesting, byte: u8) -> bool
     ensures { result ≡ (not at.quoted && (byte == 32)) }
 {
@@ -87,7 +87,7 @@ fn append(text: &mut ArrayVec<u8, FIELD_BYTES>, part: &[u8])
 /// The places of a field's bytes.
 type Places = ArrayVec<TextPlace, FIELD_BYTES>;
 
-/// Appends so many places, one after another on a line from this column on.
+/// Appends this many places, one after another on a line from this column on.
 fn append_row(places: &mut Places, line: usize, column: usize, count: usize)
     requires room { array_vec_len places.old + count ≤ 575 }
     requires column { column ≤ 72 }
@@ -132,6 +132,13 @@ impl Field {
         self.text.as_slice()
     }
 
+    /// The place of each byte of the field.
+    pub(crate) fn places(&self) -> &[TextPlace]
+        ensures { result.now ≡ self.now.places.items }
+    {
+        self.places.as_slice()
+    }
+
     /// Takes what a line has of the field, which begins in this column.
     fn take_part(&mut self, part: &[u8], line: usize, column: usize)
         requires room { array_vec_len self.old.text + length part.now ≤ 71 + 56 * self.old.lines }
@@ -150,7 +157,7 @@ impl Field {
         self.goes_on = n == part.len() || ends_with_comma(self.text.as_slice());
     }
 
-    /// Takes one continuation line more; the column that breaks a rule of continuation, from 1, where one does.
+    /// Takes another continuation line; the column that breaks a rule of continuation, from 1, if one does.
     pub fn take_line(&mut self, card: &[u8; 71]) -> Result<(), usize>
         requires fewer { self.old.lines ≤ 8 }
         ensures joined { OnOk result (with_line (joined_of self.old) card.now ≡ Some (joined_of self.new)) }
@@ -178,7 +185,7 @@ impl Field {
         Ok(())
     }
 
-    /// Where a byte of the field stands.
+    /// The place of a byte of the field.
     pub fn place(&self, byte: usize) -> Option<TextPlace>
         ensures { result ≡ slice_get self.now.places.items byte }
     {

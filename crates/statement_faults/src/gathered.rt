@@ -8,7 +8,7 @@ use operand_texts::nesting::Nesting;
 /// The bytes of a field that ten lines have at most: 71 and 9 times 56.
 pub(crate) const FIELD_BYTES: usize = 575;
 
-/// Where a byte of a statement stands.
+/// The place of a byte of a statement.
 #[derive(Clone, Copy, Default)]
 pub struct TextPlace {
     /// The line of the statement, from 0.
@@ -17,15 +17,15 @@ pub struct TextPlace {
     pub column: usize,
 }
 
-/// The operand field of a statement, as far as its lines have come.
+/// The operand field of a statement, over its lines so far.
 #[derive(Drop)]
 pub struct Field {
     pub(crate) text: ArrayVec<u8, FIELD_BYTES>,
-    /// Where its next byte is nested.
+    /// How its next byte is nested.
     pub(crate) at: Nesting,
     /// Whether it goes on at column 16 of the next line.
     pub(crate) goes_on: bool,
-    /// Where each byte of the text stands.
+    /// The place of each byte of the text.
     pub(crate) places: ArrayVec<TextPlace, FIELD_BYTES>,
     /// The continuation lines so far.
     pub(crate) lines: usize,

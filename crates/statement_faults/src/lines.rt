@@ -5,14 +5,14 @@ ghost use Rattle.statement_faults.specs.Places.{line_in};
 
 use arrayvec::ArrayVec;
 
-/// A line of a script: its number, and where its bytes lie, without its line feed.
+/// A line of a script: its number, and where its bytes are, without its line feed.
 #[derive(Clone, Copy, Default)]
 pub struct SourceLine {
     /// Its number in the script, from 1.
     pub number: u32,
     /// The place of its first byte in the script.
     pub start: usize,
-    /// The place behind its last byte.
+    /// The place after its last byte.
     pub end: usize,
 }
 
@@ -29,7 +29,7 @@ fn strip(line: &[u8]) -> &[u8]
 }
 
 impl SourceLine {
-    /// Its bytes, without a carriage return in front of its line feed; none where the script is another.
+    /// Its bytes, without a carriage return before its line feed; none if the script is another.
     pub fn bytes<'a>(&self, script: &'a [u8]) -> &'a [u8]
         ensures { result.now ≡ line_in script.now self.now }
     {
@@ -66,7 +66,7 @@ impl OpenLines {
         self.lines.clear();
     }
 
-    /// Puts a line behind the others; an eleventh is left out.
+    /// Adds a line after the others; an eleventh is left out.
     pub fn push(&mut self, line: SourceLine)
         ensures whole { length self.old.lines.items ≤ 9
             → self.new.lines.items ≡ self.old.lines.items ++ line ∷ [] }

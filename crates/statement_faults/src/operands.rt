@@ -29,7 +29,7 @@ fn has_fault(card: &[u8], text: &[u8], kind: FaultKind) -> bool
     is_fault(&statement_with(head, text), kind)
 }
 
-/// Whether an operand ends in front of a byte that stands so.
+/// Whether an operand ends before a byte that is nested this way.
 fn separates(at: Nesting, byte: u8) -> bool
     ensures { result ≡ separates at byte }
 {
@@ -44,7 +44,7 @@ fn front_of(text: &[u8], i: usize) -> &[u8]
     &text[..i.max(1)]
 }
 
-/// Whether these operands of a text count: where the text isn't balanced, only if they aren't either.
+/// Whether these operands of a text count: if the text isn't balanced, only if they aren't either.
 fn is_counted(text: &[u8], operands: &[u8]) -> bool
     ensures { result ≡ (is_balanced outside text.now || not (is_balanced outside operands.now)) }
 {
@@ -91,7 +91,7 @@ pub fn faulty_end(card: &[u8], text: &[u8], kind: FaultKind) -> usize
     text.len()
 }
 
-/// Where the operand behind a byte begins, which stands so.
+/// Where the operand after a byte begins that is nested this way.
 fn start_behind(start: usize, at: Nesting, byte: u8, i: usize) -> usize
     requires { i < 2 ^ 63 }
     ensures { result ≡ (if separates at byte then i + 1 else start) }
@@ -99,8 +99,8 @@ fn start_behind(start: usize, at: Nesting, byte: u8, i: usize) -> usize
     if separates(at, byte) { i + 1 } else { start }
 }
 
-/// Where the operand that ends at a place of a text begins: behind the last comma in front of that which separates, or
-/// at the text's begin.
+/// Where the operand that ends at a place of a text begins: after the last comma before that which separates, or where
+/// the text begins.
 pub fn operand_start(text: &[u8], end: usize) -> usize
     requires within { end ≤ length text.now }
     requires size { length text.now < 2 ^ 63 }
@@ -115,8 +115,8 @@ pub fn operand_start(text: &[u8], end: usize) -> usize
     start
 }
 
-/// The bytes of a text that are the first operand with which a statement has the fault that it has; the whole text
-/// where it has none of this kind.
+/// The bytes of a text that are the first operand with which a statement has the fault that it has; the whole text if
+/// it has none of this kind.
 pub fn wrong_operand(card: &[u8], text: &[u8], kind: FaultKind) -> (usize, usize)
     requires size { length text.now < 2 ^ 63 }
     ensures within { result.1 ≤ length text.now }

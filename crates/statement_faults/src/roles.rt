@@ -19,7 +19,7 @@ pub enum Role {
     Further,
     /// The line that breaks a rule of continuation.
     Breaking,
-    /// A line that is dropped behind such a one.
+    /// A line that is dropped after such a line.
     Gone,
 }
 
@@ -46,7 +46,7 @@ pub enum Brought {
     Fault(FaultKind),
 }
 
-/// What a line is to a reader that awaits a statement, by where it stands behind the line and by what that brings.
+/// What a line is to a reader that awaits a statement, by the reader's state after the line and what the line brings.
 fn first_role(after: ReaderState, brought: Brought) -> Role
     ensures { (number : ℕ) (line : Line) → IsStand (moved number awaiting line).0 after
         → brought_by (moved number awaiting line).1 ≡ brought → role_in result ≡ role awaiting line }
@@ -84,7 +84,7 @@ fn further_role(brought: Brought) -> Role
     }
 }
 
-/// What a line is, by where the reader stands before it and behind it, and by what it brings.
+/// What a line is, by the reader's state before and after it, and by what it brings.
 pub fn role_of(before: ReaderState, after: ReaderState, brought: Brought) -> Role
     ensures { (number : ℕ) (mode : Mode) (line : Line) → IsStand mode before → IsStand (moved number mode line).0 after
         → brought_by (moved number mode line).1 ≡ brought → role_in result ≡ role mode line }

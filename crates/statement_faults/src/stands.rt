@@ -1,4 +1,4 @@
-//! Where the operand field of a statement stands at the begin of a line.
+//! How the operand field of a statement is nested where its part of a line begins.
 
 use crate::carets::{field_over, first_card};
 use crate::lines::SourceLine;
@@ -6,7 +6,7 @@ use crate::roles::Role;
 use operand_texts::words::{after_blanks, after_word, word};
 use value_hints::forms::operation_of;
 
-/// What a line is, and where its statement's operand field stands where its part of it begins.
+/// What a line is, and how its statement's operand field is nested where the line's part of it begins.
 #[derive(Clone, Copy)]
 pub struct LineStand {
     pub role: Role,

@@ -20,17 +20,17 @@ pub enum Warning {
     Utf16,
     /// The file looks like EBCDIC.
     Ebcdic,
-    /// The file is of records of 80 bytes without line feeds, of which the first alone is read.
+    /// The file has records of 80 bytes without line feeds, of which only the first is read.
     NoLineFeeds,
-    /// A tab, which is no blank.
+    /// A tab, which isn't a blank.
     Tab,
-    /// A character of more than one byte in front of column 72, which moves what stands behind it.
+    /// A character of several bytes before column 72, which moves what follows it.
     WideCharacter,
     /// A carriage return that isn't followed by a line feed.
     CarriageReturn,
     /// A word that goes across column 72, so that the next line goes on with the statement.
     WordAcross,
-    /// Operands that end with a comma, and column 71 where a character in column 72 was meant.
+    /// Operands that end with a comma, and a character in column 71 that was meant for column 72.
     MarkBefore,
     /// The same with column 73.
     MarkAfter,
@@ -181,7 +181,7 @@ fn operands_len(quoted: Option<bool>, text: &[u8]) -> usize
     }
 }
 
-/// A mark beside column 72 of a line, if that is blank.
+/// A mark next to column 72 of a line, if that is blank.
 fn mark_beside(line: &[u8]) -> Warned {
     if line.len() < 71 || (line.len() > 71 && line[71] != b' ') {
         None

@@ -36,7 +36,7 @@ in_inside start len k low high = and_from (nat_le start k) (nat_lt k (start + le
 pub not_inside : (start len k : ℕ) → ((start ≤ k) → (k < start + len) → ⊥) → inside k (record { start = start; len = len }) ≡ false
 not_inside start len k h = false_from_ne_true (inside k (record { start = start; len = len })) (λ e. let at = inside_in start len k e in h at.0 at.1)
 
--- a number that isn't in a run, and not before it, is behind it
+-- a number that isn't in a run, and not before it, is after it
 pub outside : (start len k : ℕ) → inside k (record { start = start; len = len }) ≡ false → start ≤ k → start + len ≤ k
 outside start len k e low =
     elim (cases_lt k (start + len)) [
@@ -53,7 +53,7 @@ pub belongs_is : (p : Subpool) (o : Option Subpool) → holds (same_subpool p) o
 belongs_is p None e = absurd (true≢false (sym e))
 belongs_is p (Some q) e = ap Some (sym (same-is p q e))
 
--- no doubleword of an idle page is taken, and a page is idle where none is
+-- no doubleword of an idle page is taken, and a page is idle if none is
 pub is_idle_at : (taken : ℕ → Bool) (j k : ℕ) → is_idle taken j ≡ true → k / 512 ≡ j → taken k ≡ false
 unfolding is_idle
 is_idle_at taken j k e at = not-true (taken k) (all_pass_at (λ k. not (taken k)) (j * 512) 512 k e (omega (arith, at)) (omega (arith, at)))

@@ -1,4 +1,4 @@
--- A page that comes to be assigned takes a frame that the change brings.
+-- A page that becomes assigned takes a frame that the change brings.
 use Rattle.std.proofs.Common.{◌≡◌, ℕ, ◌*◌, ◌/◌, Bool, true, false, not, List, [], ◌∷◌, Option, None, IsSome, refl, sym, ap, ◌∙◌, subst, arith}
 use Rattle.run_set.specs.Runs.{inside}
 use Rattle.storage_changes.specs.declared.record.PagesRecord.{PagesRecord}
@@ -25,7 +25,7 @@ taken w r page h its free =
     let P : Option ℕ → Type 0 = λ o. IsSome o in
     subst P (cond-in r.assigned (w.brought (4096 * page)) (w.state.bytes (4096 * page)) assigned) (h.frame (4096 * page) at).there
 
--- or the page is still unassigned behind the record, which leaves its frame
+-- or the page is still unassigned after the record, which leaves its frame
 came : (w : Walk) (r : PagesRecord) (page : ℕ) → PagesFits w r → w.state.unassigned page ≡ true
     → ((pages_step w r).state.unassigned page ≡ true → IsSome ((pages_step w r).brought (4096 * page))) → IsSome (w.brought (4096 * page))
 came w r page h free later = go (inside page r.run) refl where

@@ -12,12 +12,12 @@ use Rattle.storage_changes.proofs.Cases.{same-is}
 use Rattle.storage_changes.proofs.StorageCells.{handed_name, handed_from}
 
 module _ (old : Subpool) (to : ℕ) where
-  -- a cell pool that is handed on stays where it is, where it lies in another subpool
+  -- a cell pool in another subpool stays where it is when a subpool is passed on
   stays_there : (q : Pool) → lies_in old q ≡ false → handed_on old to q ≡ q
   stays_there q other =
       cond-false (lies_in old q) (record q { settings = record q.settings { subpool = record q.settings.subpool { owner = to } } }) q other
 
-  -- one that has another number then, it had before
+  -- one that has another number then, had it before
   pub elsewhere : (o : Option Pool) (q : Pool) → option_map (handed_on old to) o ≡ Some q → (q.settings.subpool.number == old.number) ≡ false → o ≡ Some q
   elsewhere o q at other =
       let (x, was, is) = handed_from old to o q at in
@@ -50,7 +50,7 @@ module _ (old : Subpool) (to : ℕ) where
       change pools (handed_on old to) (λ row. record row { subpool = Passing.handed_on old.number old.owner to row.subpool }) named
       (handed_name old to) row_is_handed_on
 
-  -- and where no cell pool lies in the subpool all stay.
+  -- and if no cell pool lies in the subpool all stay.
   pub rows_not_handed_on : AllRowsChange → (pools : ℕ → Option Pool) → AreNamed pools → ((id : ℕ) (q : Pool) → pools id ≡ Some q → lies_in old q ≡ false)
       → cell_pools_in pools ≡ map (λ row. (row.0, record row.1 { subpool = Passing.handed_on old.number old.owner to row.1.subpool })) (cell_pools_in pools)
   rows_not_handed_on change pools named none =

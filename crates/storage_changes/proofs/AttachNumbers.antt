@@ -33,7 +33,7 @@ module _ (settings : Settings) (n : StorageState) (task number : ℕ) (stands : 
   abbrev current : ℕ
   current = n.tasks.current
 
-  -- Where the giver has none, a gift is a new subpool.
+  -- If the giver has none, a gift is a new subpool.
   module _ (none : n.subpools.sight current number ≡ None) where
     nobody_sees : (other : ℕ) → n.subpools.sight other number ≢ Some current
     nobody_sees other e = none_some current (sym none ∙ opened.seen other current e)
@@ -90,7 +90,7 @@ module _ (settings : Settings) (n : StorageState) (task number : ℕ) (stands : 
       (λ k. number == k) (λ k. number == k)
       (pass_steps settings n number stands named task low opened change current two.current two.range (at ∙ ap Some (sym is)) two.apart) refl (omega arith) (λ k e. e))
 
-  -- what is shared where the current task sees one, and where it sees none
+  -- what is shared if the current task sees one, and if it sees none
   shares_seen : (owner : ℕ) → n.subpools.sight current number ≡ Some owner → with_sight (model_of n) task number owner ≡ with_share (model_of n) task number
   shares_seen owner at =
       λ i. with_sight (sym (cond-true (sees_one (model_of n) number) (model_of n) (with_subpool (model_of n) number current) (ap is_some at)) i) task number

@@ -1,4 +1,4 @@
--- What holds at a number of a sound storage where a task sees and owns nothing, and the subpools that are made, that
+-- What holds at a number of a sound storage at which a task sees and owns nothing, and the subpools that are made, that
 -- pass and that are shared there.
 use Rattle.std.proofs.Common.{◌≡◌, ◌≢◌, ℕ, ◌-◌, ◌≤◌, Bool, true, false, not, ◌&&◌, ◌==◌, if◌then◌else◌, Option, Some, None, [], ◌∷◌, refl, sym, ◌∙◌, ap, arith, true≢false}
 use Rattle.std.specs.Prelude.{◌/◌}
@@ -29,8 +29,8 @@ use Rattle.storage_changes.proofs.AttachCells.{elsewhere}
 use Rattle.storage_changes.proofs.AttachPassed.{passed, none_free, passed_stands, passed_leads}
 use Rattle.storage_changes.proofs.AttachSteps.{AreSameAt, Steps}
 
--- The task sees and owns no subpool of the number; what is seen of the number is seen by its owner, and so is whose pages
--- or cell pools are there.
+-- The task sees and owns no subpool of the number; what is seen of the number is seen by its owner, and so is each
+-- subpool whose pages or cell pools exist.
 pub record IsOpen (u : Subpools) (task number : ℕ) : Type 0 where
   pub unseen : u.sight task number ≡ None
   pub unowned : (other : ℕ) → u.sight other number ≢ Some task
@@ -52,7 +52,7 @@ none_of (Some x) h = absurd (h x refl)
 is_there_at : (u : Subpools) (number owner : ℕ) → u.sight owner number ≡ Some owner → is_there u (subpool number owner) ≡ true
 is_there_at u number owner e = ap (holds (λ x. x == owner)) e ∙ eq-eqb owner owner refl
 
--- it's so of a task that isn't there
+-- it's so of a task that doesn't exist
 pub open_of : PoolsAreFound → (settings : Settings) (m : StorageState) → IsSound settings m → AreNamed m.subpools.cells → (task : ℕ)
     → is_task (model_of m) task ≡ false → (number : ℕ) → IsOpen m.subpools task number
 open_of found settings m sound named task free number =

@@ -37,7 +37,7 @@ module _ (f : Subpool → ℕ → Bool) (old new : Subpool) where
     go false true e is = sym (ap (λ r. f r k) (same-is q old is) ∙ none_old)
     go false false e d = refl
 
-  -- and what is there came from the old one, or was there
+  -- and what is anywhere came from the old one, or was there before
   moved_from : (q : Subpool) (k : ℕ) → moved q k ≡ true
       → ((q ≡ new) × (f old k ≡ true)) ⊎ ((same_subpool q new ≡ false) × (same_subpool q old ≡ false) × (f q k ≡ true))
   moved_from q k e = go (same_subpool q new) (same_subpool q old) refl refl e where
@@ -122,7 +122,7 @@ module _ (settings : Settings) (m : StorageState) (old : Subpool) (to : ℕ) (st
             ∙ taken_stays d (subpool_of u (d / 512)) (false_from_ne_true (u.free old d) (λ e. both_ways (u.pages old (d / 512)) other (stands.free old d e)))
       ]
 
-  -- it stands
+  -- `Stands` holds
   named_at : (q : Subpool) (k : ℕ) → after.pages q k ≡ true → subpool_of after k ≡ Some q
   named_at q k e =
       elim (cases_Bool (u.pages old k)) [
@@ -150,7 +150,7 @@ module _ (settings : Settings) (m : StorageState) (old : Subpool) (to : ℕ) (st
     free = free_at;
   }
 
-  -- whose subpools are there
+  -- the owners of the subpools that exist
   there_leads : (owner : ℕ) (b c d : Bool) (o : Option ℕ) → to ≢ old.owner → (owner == to) ≡ c → (owner == old.owner) ≡ d
       → holds (λ t. t == owner) (if not b then o else if c then Some to else if d then None else option_map (λ t. if t == old.owner then to else t) o)
       ≡ (if b then c || (not d && holds (λ t. t == owner) o) else holds (λ t. t == owner) o)

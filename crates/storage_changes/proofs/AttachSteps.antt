@@ -1,4 +1,4 @@
--- Records that change the subpools of some numbers alone, one list of records behind another.
+-- Records that change only the subpools of some numbers, one list of records after another.
 use Rattle.std.proofs.Common.{◌≡◌, ℕ, ◌+◌, ◌*◌, ◌≤◌, Bool, true, false, ◌||◌, ◌==◌, Option, Some, List, [], ◌∷◌, ◌++◌, length, refl, ◌∙◌, ap, arith}
 use Rattle.std.specs.List.{AllByRecursion, flat_map}
 use Rattle.std.proofs.lemmas.Bool.{false_from_ne_true, both_ways, eqb-true, or_left, or_right, or_parts, eq-eqb}
@@ -16,7 +16,8 @@ use Rattle.storage_changes.proofs.Rows.{Stands}
 use Rattle.service_laws.proofs.Numbers.{AreApart}
 use Rattle.storage_changes.specs.Attaching.{subpool}
 
--- At a number both have the same rows of sight and the same pages, and what cell pools the second has the first has.
+-- At a number both have the same rows of sight and the same pages, and the first has the cell pools that the second
+-- has.
 pub record AreSameAt (u v : Subpools) (number : ℕ) : Type 0 where
   pub sight : (task : ℕ) → v.sight task number ≡ u.sight task number
   pub pages : (owner page : ℕ) → v.pages (subpool number owner) page ≡ u.pages (subpool number owner) page
@@ -33,8 +34,8 @@ same_on u v w number h k =
       cells = λ id q at is. h.cells id q (k.cells id q at is) is;
     }
 
--- The records fit in turn where so many elements are left, and lead to a storage that stands, whose cell pools are named,
--- and which is this on the plain machine and has the subpools of other numbers as they were.
+-- The records fit in turn if that many elements are left, and lead to a storage for which `Stands` holds, whose cell
+-- pools are named, and which is this on the plain machine and has the subpools of other numbers as they were.
 pub record Steps (settings : Settings) (n : StorageState) (rs : List Record) (s : State) (cost : ℕ) (touched : ℕ → Bool) : Type 0 where
   pub after : StorageState
   pub goes : (b g : ℕ → Option ℕ) (spare left : ℕ) → 1 ≤ left → left + cost ≤ spare → Goes (at n b g spare) rs after b g left
@@ -55,7 +56,7 @@ no_steps settings n touched stands named = record {
   others = λ number e. same_here n.subpools number;
 }
 
--- the same, of another name, where more is left and more may change
+-- the same, of another name, if more is left and more may change
 pub steps_as :
     (settings : Settings) (n : StorageState) (rs : List Record) (s t : State) (cost more : ℕ) (touched also : ℕ → Bool) → Steps settings n rs s cost touched
     → s ≡ t → cost ≤ more → ((number : ℕ) → also number ≡ false → touched number ≡ false) → Steps settings n rs t more also
@@ -69,7 +70,7 @@ steps_as settings n rs s t cost more touched also steps is dear within = record 
   others = λ number e. steps.others number (within number e);
 }
 
--- records behind others
+-- records after others
 abbrev pub steps_on :
     (settings : Settings) (n : StorageState) (rs ss : List Record) (s t : State) (cost more : ℕ) (touched also : ℕ → Bool)
     (first : Steps settings n rs s cost touched) → Steps settings first.after ss t more also
@@ -88,8 +89,8 @@ steps_on settings n rs ss s t cost more touched also first next = record {
       same_on n.subpools first.after.subpools next.after.subpools number (first.others number parts.0) (next.others number parts.1);
 }
 
--- The records of a list of numbers, none of which stands twice: those of each number fit where its subpools and the
--- tasks are as they were at the beginning.
+-- The records of a list of numbers, none of which occurs twice: those of each number fit if its subpools and the tasks
+-- are as they were at the beginning.
 module _ (settings : Settings) (m : StorageState) (records : ℕ → List Record) (effect : State → ℕ → State) (P : ℕ → Type 0)
     (one : (n : StorageState) (x : ℕ) → Stands settings n.subpools n.unassigned → AreNamed n.subpools.cells → n.tasks ≡ m.tasks → AreSameAt m.subpools n.subpools x → P x
     → Steps settings n (records x) (effect (model_of n) x) 2 (λ number. x == number))

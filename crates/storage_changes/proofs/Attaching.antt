@@ -1,4 +1,4 @@
--- A task comes, with its subpools.
+-- A task is attached, with its subpools.
 use Rattle.std.proofs.Common.{◌≡◌, ◌≢◌, ℕ, ◌+◌, ◌-◌, ◌*◌, ◌≤◌, Bool, true, false, not, ◌||◌, ◌==◌, if◌then◌else◌, Option, Some, None, IsSome, is_some, List, [], ◌∷◌, ◌++◌, length, refl, sym, ◌∙◌, ap, subst, arith, inl, inr, true≢false}
 use Rattle.std.specs.Prelude.{◌/◌}
 use Rattle.std.specs.List.{flat_map}
@@ -42,7 +42,7 @@ module _ (settings : Settings) (m : StorageState) (task : ℕ) (sound : IsSound 
   apart : task ≢ m.tasks.current
   apart is = both_ways (is_task s task) free (ap (is_task s) is ∙ sound.well_formed.tasks.current_is_task)
 
-  -- nobody has a task that isn't there for its parent
+  -- no task has a parent that doesn't exist
   childless : (other : ℕ) → m.tasks.parents other ≢ Some task
   childless other e =
       elim (or_cases (other == 1) (holds (climbs m.tasks.parents 63 1) (m.tasks.parents other)) (sound.well_formed.tasks.below_root other (ap is_some e))) [
@@ -142,7 +142,7 @@ module _ (settings : Settings) (m : StorageState) (task : ℕ) (sound : IsSound 
     abbrev zero_first : Steps settings began (zero_records m task shares_zero) (with_zero (model_of began) task shares_zero) 2 (λ k. 0 == k)
     zero_first = zero_steps shares_zero
 
-    -- of a number above 0 all is as it was behind the records of subpool 0
+    -- of a number above 0 all is as it was after the records of subpool 0
     behind_zero : (x : ℕ) → is_in (gifts ++ shares) x ≡ true → AreSameAt m.subpools zero_first.after.subpools x
     behind_zero x is = zero_first.others x (false_from_ne_true (0 == x) (λ e. let zero_is = eqb-true 0 x e in let some = (private x is).0 in absurd (omega (arith, zero_is, some))))
 

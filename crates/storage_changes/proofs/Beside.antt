@@ -71,7 +71,7 @@ gives_back p d count page (suc n) =
     (area_returns p (d + count) (past - (d + count)) false))
     (tt, (refl, tt))
 
--- an element is left behind them, if there was one before them
+-- an element is left after them, if there was one before them
 pub one_left : (w : Walk) (rs : List Record) → AreReturns rs → FitInTurn w rs → 0 < w.spare → 0 < (walk w rs).spare
 one_left w [] are f some = some
 one_left w (Area r ∷ rs) are f some = one_left (step w (Area r)) rs are.1 f.1 f.0.room_after
@@ -90,7 +90,7 @@ one_left w (CellExtent r ∷ rs) are f some = absurd are.0
 one_left w (Cell r ∷ rs) are f some = absurd are.0
 one_left w (Bytes r ∷ rs) are f some = absurd are.0
 
--- each record takes or gives as many blank elements
+-- each record takes or gives the same number of blank elements
 spare_more : (b : Bool) (s n more : ℕ) → 0 < s → 0 < (if b then spare_joined s n else spare_left s n)
     → (if b then spare_joined (s + more) n else spare_left (s + more) n) ≡ (if b then spare_joined s n else spare_left s n) + more
 spare_more true s n more room after = omega (arith, room)

@@ -55,7 +55,7 @@ same-is q p h =
     let owner : q.owner ≡ p.owner = eqb-true q.owner p.owner (and-right (q.number == p.number) (q.owner == p.owner) h) in
     λ i. record { number = number i; owner = owner i }
 
--- records of functions are equal where their functions are, at every place
+-- records of functions are equal if their functions are, at every place
 pub subpools-same : (m n : Subpools) → ((task number : ℕ) → m.sight task number ≡ n.sight task number)
     → ((p : Subpool) (page : ℕ) → m.pages p page ≡ n.pages p page) → ((p : Subpool) (d : ℕ) → m.free p d ≡ n.free p d)
     → ((id : ℕ) → m.cells id ≡ n.cells id) → m ≡ n

@@ -1,4 +1,4 @@
--- A cell pool that comes, with its first extent.
+-- A cell pool that is created, with its first extent.
 use Rattle.std.proofs.Common.{◌≡◌, inl, inr, ℕ, ◌*◌, ◌/◌, ◌<◌, Bool, true, false, ◌==◌, if◌then◌else◌, List, ◌++◌, Option, Some, None, is_some, refl, sym, ◌∙◌, ap, subst, arith}
 use Rattle.std.proofs.Math.Nat.{mul-pos}
 use Rattle.std.proofs.lemmas.Bool.{cond-true, eqb-true, eq-eqb}
@@ -28,7 +28,7 @@ use Rattle.storage_changes.proofs.Changed.{some_is, listed_too}
 use Rattle.storage_changes.proofs.Elsewhere.{with_cells, goes_with, elsewhere_on, own_elsewhere, area_elsewhere}
 use Rattle.storage_changes.proofs.Places.{takes, with_parts, zeros_for, nothing}
 
--- a change by which a cell pool comes first
+-- a change that first creates a cell pool
 module _ (m : StorageState) (p : Pool) (records : List Record) (blanks : ℕ) (fresh : Run) (absent : m.subpools.cells p.id ≡ None) (unnamed : IsUnnamed m.subpools p.name) where
   abbrev r : CellPoolRecord
   r = record { pool = p.id; present = true }
@@ -36,7 +36,7 @@ module _ (m : StorageState) (p : Pool) (records : List Record) (blanks : ℕ) (f
   abbrev d : Change
   d = change_building p (change_of records blanks fresh)
 
-  -- the cell pool that is parked, and those that are there then
+  -- the cell pool that is parked, and those that exist then
   abbrev parked : ℕ → Option Pool
   parked id = if id == p.id then Some p else None
 
@@ -70,7 +70,7 @@ module _ (m : StorageState) (p : Pool) (records : List Record) (blanks : ℕ) (f
   left_none id true e = ap m.subpools.cells (eqb-true id p.id e) ∙ absent
   left_none id false e = refl
 
-  -- nothing is parked behind its record
+  -- nothing is parked after its record
   comes : step (outset m d) (CellPool r) ≡ at (with_cells m joined) (zeros_for fresh) nothing blanks
   comes = λ i. record {
     state = with_cells m (λ id. come (id == p.id) (m.subpools.cells id) i);

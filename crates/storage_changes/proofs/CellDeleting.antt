@@ -1,4 +1,4 @@
--- A cell pool that goes, with its extents.
+-- A cell pool that is deleted, with its extents.
 use Rattle.std.proofs.Common.{◌≡◌, inl, inr, ℕ, ◌/◌, ◌<◌, Bool, false, ◌==◌, if◌then◌else◌, List, ◌++◌, Option, Some, None, IsSome, is_some, refl, sym, ◌∙◌, ap, subst, arith}
 use Rattle.std.specs.Prelude.{All, unwrap_or}
 use Rattle.run_set.specs.Runs.{inside}
@@ -96,7 +96,7 @@ module _ (settings : Settings) (s : State) (w : IsWellFormed settings s) (p : Po
       let far = spans_all (λ y. All (Apart y) (spans pool)) (others s.cell_pools name) (across_turned Apart turned (spans pool) rest parts.2) in
       ready without (others s.cell_pools name) pool p.extents (extent_kept pool its.in_subpool) each_kept far parts.0
 
-  -- what is left once the extents are given back, whether the row goes before or behind them
+  -- what is left once the extents are given back, whether the row is removed before or after them
   abbrev gone : ℕ → Bool
   gone k = list_any (lies_in pool k) pool.extents
 

@@ -1,4 +1,4 @@
--- The extents of a cell pool lie in the pages of its subpool, which lie in the regions: so none ends behind these.
+-- The extents of a cell pool lie in the pages of its subpool, which lie in the regions: so none ends past these.
 use Rattle.std.proofs.Common.{◌≡◌, ℕ, ◌+◌, ◌-◌, ◌*◌, ◌^◌, ◌<◌, ◌≤◌, inl, inr, true, Option, Some, None, List, [], ◌∷◌, All, map, sym, ◌∙◌, subst, arith}
 use Rattle.std.specs.Prelude.{◌/◌, ◌%◌, ◌==◌, ◌&&◌, nat_le, nat_lt}
 use Rattle.std.specs.Ordering.{nat_cmp, eq_by_cmp}

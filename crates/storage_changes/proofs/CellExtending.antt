@@ -1,4 +1,4 @@
--- A cell pool that has a further extent, whose first cell it hands out.
+-- A cell pool that gets another extent, whose first cell it hands out.
 use Rattle.std.proofs.Common.{◌≡◌, ◌+◌, ◌*◌, ◌<◌, false, ◌++◌, refl, ◌∙◌, ap, arith}
 use Rattle.std.specs.Prelude.{drop}
 use Rattle.std.proofs.Math.Nat.{mul-pos}

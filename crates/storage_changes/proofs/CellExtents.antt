@@ -1,4 +1,4 @@
--- An extent that comes: it overlaps no other one of its cell pool, and its first cell is the first free one.
+-- An extent that is added: it overlaps no other one of its cell pool, and its first cell is the first free one.
 use Rattle.std.proofs.Common.{◌≡◌, ℕ, zero, suc, ◌+◌, ◌*◌, ◌/◌, ◌%◌, ◌<◌, ◌≤◌, Bool, true, false, not, ◌||◌, nat_lt, ◌==◌, List, [], ◌∷◌, ◌++◌, Some, refl, sym, ◌∙◌, ap, subst, arith, inl, inr, true≢false}
 use Rattle.std.specs.Prelude.{drop}
 use Rattle.std.proofs.Math.Nat.{mul-pos}
@@ -79,7 +79,7 @@ among_first ys zs k e = ap (among k) e ∙ here (k == k) (eq-eqb k k refl) where
   here false f = cc
 
 module _ (p : Pool) (start count : ℕ) (empty : p.cells ≡ []) (some : 0 < count) (size : 0 < p.settings.size) where
-  -- it is the first free one where none was free,
+  -- it is the first free one if none was free,
   pub first_free : (extended start count p).cells ≡ start ∷ drop 1 (cells_from p.settings.size start count)
   first_free = ap (λ (z : List ℕ). z ++ cells_from p.settings.size start count) empty ∙ first_cell p.settings.size start count some
 

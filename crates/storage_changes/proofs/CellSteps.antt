@@ -20,7 +20,7 @@ use Rattle.storage_changes.proofs.Cases.{cond-kept, cond-in, cond-out, subpools-
 some-is : (p q : Pool) → Some p ≡ Some q → p ≡ q
 some-is p q e = cc
 
--- The cell pools of a subpool, which change places with those that are parked: none is both there and parked.
+-- The cell pools of a subpool, which change places with those that are parked: none both exists and is parked.
 
 abbrev NotBoth : Option Pool → Option Pool → Type 0
 NotBoth x y = IsSome x → y ≡ None
@@ -69,7 +69,7 @@ module _ (p : Subpool) where
   other-had true x y q e = inl e
   other-had false x y q e = inr e
 
-  -- what is there or parked then was so before
+  -- what exists or is parked then was so before
   had-pool : (m n : Subpools) (id : ℕ) (q : Pool) → HasPool (with_storage_of m n p) (with_storage_of n m p) id q → HasPool m n id q
   had-pool m n id q (inl e) = one-had (holds_of (lies_in p) (either_of (m.cells id) (n.cells id))) (m.cells id) (n.cells id) q e
   had-pool m n id q (inr e) = other-had (holds_of (lies_in p) (either_of (n.cells id) (m.cells id))) (m.cells id) (n.cells id) q e

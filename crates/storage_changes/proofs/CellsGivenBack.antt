@@ -89,7 +89,7 @@ freed_then true false false true e f = cc
 freed_then true false false false e f = refl
 freed_then false own was now e f = cc
 
--- One extent, where the free storage of the subpool's pages is also that of `u`.
+-- One extent, if the free storage of the subpool's pages is also that of `u`.
 module _ (settings : Settings) (valid : settings_valid settings ≡ true) (p : Pool) (size : 0 < p.settings.size) (m : StorageState) (sound : IsSound settings m)
     (u : Subpools) (same : (k : ℕ) → m.subpools.pages p.settings.subpool (k / 512) ≡ true → u.free p.settings.subpool k ≡ m.subpools.free p.settings.subpool k)
     (x : Extent) (its : IsInSubpool (model_of m) (cell_pool_of p) (extent_of x)) (clear : IsClear (model_of m).cell_pools (cell_pool_of p) x) where

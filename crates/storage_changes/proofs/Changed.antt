@@ -24,7 +24,7 @@ use Rattle.storage_changes.specs.CellActions.{handed_out_records, given_back_rec
 pub some_is : {A : Type 0} (x y : A) → Some x ≡ Some y → x ≡ y
 some_is x y e = cc
 
--- a row on the plain machine beside what else becomes of it
+-- a row on the plain machine with what else becomes of it
 pub listed_too : (end now s : State) (name : List ℕ) (pool : CellPool) → end ≡ with_pool now name pool → now ≡ s → end ≡ with_pool s name pool
 listed_too end now s name pool listed leads = listed ∙ ap (λ t. with_pool t name pool) leads
 
@@ -71,7 +71,7 @@ module _ (m : StorageState) (b g : ℕ → Option ℕ) (s left : ℕ) (p : Pool)
       (record { ids = ids; there = ap is_some there; cell = found (λ q. IsCell r q q) own })
       refl less
 
-  -- so many cells more from an address on
+  -- this number of further cells from an address on
   pub extends : (start count : ℕ) → 0 < count → start + count * p.settings.size ≤ 2 ^ 32 → meets start (count * p.settings.size) p ≡ false → left + extent_blanks count ≤ s
       → Goes (at m b g s) (extent_records p.id start count) (changed m p.id (extended start count)) b g left
   extends start count some range apart less =

@@ -1,4 +1,4 @@
--- Records that leave the cell pools alone do the same whichever there are.
+-- Records that leave the cell pools unchanged do the same whichever exist.
 use Rattle.std.proofs.Common.{◌≡◌, ℕ, zero, suc, ◌≤◌, Bool, true, false, List, [], ◌∷◌, ◌++◌, Option, refl, sym, ◌∙◌, ap, subst}
 use Rattle.vsm_model.specs.declared.Subpool.{Subpool}
 use Rattle.vsm_model.specs.Areas.{Place, Inside, Fresh, Nowhere}
@@ -22,7 +22,7 @@ with_cells m cells = record m { subpools = record m.subpools { cells = cells } }
 abbrev pub walk_with : Walk → (ℕ → Option Pool) → Walk
 walk_with w cells = record w { state = with_cells w.state cells }
 
--- a record of these kinds leaves the cell pools alone
+-- a record of these kinds leaves the cell pools unchanged
 abbrev pub IsElsewhere : Record → Type 0
 IsElsewhere (Area r) = Unit {0}
 IsElsewhere (Extent r) = Unit {0}

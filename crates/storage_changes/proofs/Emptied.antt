@@ -39,7 +39,7 @@ module _ (settings : Settings) (m : StorageState) (p : Subpool) (d count page n 
   abbrev taken : ℕ → Bool
   taken k = is_taken m.subpools (subpool_of m.subpools (k / 512)) k
 
-  -- a page that leaves is the subpool's,
+  -- a page that leaves belongs to the subpool,
   pub its : (j : ℕ) → inside j run ≡ true → subpool_of m.subpools j ≡ Some p
   its j own =
       belongs_is p (subpool_of m.subpools j)
@@ -48,7 +48,7 @@ module _ (settings : Settings) (m : StorageState) (p : Subpool) (d count page n 
   pub had : (j : ℕ) → inside j run ≡ true → m.subpools.pages p j ≡ true
   had j own = (named_pages_are_there m.subpools j).0 p (its j own)
 
-  -- has no doubleword that is taken but by the area,
+  -- has no doubleword that is taken except by the area,
   not_kept : (k : ℕ) → inside (k / 512) run ≡ true → (not (inside k area) && taken k) ≡ false
   not_kept k own =
       is_idle_at (without_taken (model_of m) d count).taken (k / 512) k
@@ -122,7 +122,7 @@ module _ (settings : Settings) (m : StorageState) (p : Subpool) (d count page n 
       bytes = λ a. ap (λ b. if b then None else m.bytes a) (idle (a / 4096)) i;
     }
 
-    -- it stands
+    -- `Stands` holds
     named_at : (q : Subpool) (k : ℕ) (b : Bool) → inside k run ≡ b → after.subpools.pages q k ≡ true → subpool_of after.subpools k ≡ Some q
     named_at q k true own e = absurd (true≢false (sym e ∙ pages_in q k (same_subpool q p) refl own))
     named_at q k false other e = named_out k other ∙ sound.named q k (sym (pages_out q k other) ∙ e)

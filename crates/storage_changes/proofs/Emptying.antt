@@ -53,7 +53,7 @@ module _ (settings : Settings) (m : StorageState) (p : Subpool) (sound : IsSound
   abbrev after : StorageState
   after = without_subpool m p
 
-  -- a page that a subpool still has is another's
+  -- a subpool that still has a page is another one, and had it before
   kept : (q : Subpool) (k : ℕ) → after.subpools.pages q k ≡ true → (same_subpool q p ≡ false) × (m.subpools.pages q k ≡ true)
   kept q k e = kept_where (same_subpool q p) (m.subpools.pages q k) e
 
@@ -63,7 +63,7 @@ module _ (settings : Settings) (m : StorageState) (p : Subpool) (sound : IsSound
       false_from_ne_true (m.subpools.pages p k)
       (λ own. true≢false (sym (ap (λ r. same_subpool r p) (sound.apart q p k at.1 own) ∙ same-self p) ∙ at.0))
 
-  -- its pages are nobody's, and the others are named as before
+  -- its pages belong to nobody, and the others are named as before
   named_in : (k : ℕ) → m.subpools.pages p k ≡ true → subpool_of after.subpools k ≡ None
   named_in k own = go (subpool_of after.subpools k) refl where
     go : (o : Option Subpool) → subpool_of after.subpools k ≡ o → o ≡ None
@@ -113,7 +113,7 @@ module _ (settings : Settings) (m : StorageState) (p : Subpool) (sound : IsSound
     cell_pools = rows_stay stay m.subpools.cells p names i;
   }
 
-  -- it stands
+  -- `Stands` holds
   rest_at : (k : ℕ) (b : Bool) → m.subpools.pages p k ≡ b
       → (if b then true else m.unassigned k) ≡ (in_a_region settings k && not (is_some (subpool_of after.subpools k)))
   rest_at k true own =
@@ -152,7 +152,7 @@ module _ (settings : Settings) (m : StorageState) (p : Subpool) (sound : IsSound
     abbrev leaving : List Record
     leaving = unassigned_records (extents m.subpools p)
 
-    -- behind the first record
+    -- after the first record
     abbrev emptied : Walk
     emptied = queues_step (outset m change) (record { subpool = p })
 
@@ -172,7 +172,7 @@ module _ (settings : Settings) (m : StorageState) (p : Subpool) (sound : IsSound
     leave : Leave emptied (extents m.subpools p)
     leave = runs_leave 0 emptied (extents m.subpools p) runs.spaced can_leave (omega arith)
 
-    -- behind the runs
+    -- after the runs
     abbrev unassigned : Walk
     unassigned = walk emptied leaving
 

@@ -56,7 +56,7 @@ pub apart_append : {A : Type 0} (R : A → A → Type 0) (xs ys : List A) → Ap
 apart_append R [] ys a b c = b
 apart_append R (x ∷ xs) ys a b c = (each_append (R x) xs ys a.0 c.0, apart_append R xs ys a.1 b c.1)
 
--- the lists of a list, each of whose elements are apart from those of each later one
+-- the lists of a list, whose elements are each apart from those of each later one
 pub apart_flat : {A B : Type 0} (R : B → B → Type 0) (S : A → A → Type 0) (h : A → List B) (xs : List A)
     → ((x y : A) → S x y → Each (λ u. Each (R u) (h y)) (h x)) → Each (λ x. Apart R (h x)) xs → Apart S xs → Apart R (flat_map h xs)
 apart_flat R S h [] across e a = tt
@@ -118,7 +118,7 @@ pub range_ascends : (first len : ℕ) → Apart (λ j k. j < k) (range_with_len 
 range_ascends first zero = tt
 range_ascends first (suc len) = (each_so (λ k. first + 1 ≤ k) (λ k. first < k) (range_with_len (first + 1) len) (λ k low. omega (arith, low)) (each_from (first + 1) (first + 1) len (omega arith)), range_ascends (first + 1) len)
 
--- where some element passes a test
+-- if some element passes a test
 pub some_has : {A : Type 0} (P : A → Type 0) (f : A → Bool) (xs : List A) → Each P xs → list_any f xs ≡ true → (x : A) × P x × (f x ≡ true)
 some_has P f [] e any = absurd (true≢false (sym any))
 some_has P f (x ∷ xs) e any =
@@ -155,7 +155,7 @@ pub any_map : {A B : Type 0} (f : B → Bool) (g : A → B) (xs : List A) → li
 any_map f g [] = refl
 any_map f g (x ∷ xs) = ap (λ b. f (g x) || b) (any_map f g xs)
 
--- where one element makes a list, or a value, that has one
+-- if one element makes a list, or a value, that has one
 pub any_flat : {A B : Type 0} (f : B → Bool) (same : A → Bool) (h : A → List B) (xs : List A)
     → ((x : A) → same x ≡ true → list_any f (h x) ≡ true) → list_any same xs ≡ true → list_any f (flat_map h xs) ≡ true
 any_flat f same h [] has any = absurd (true≢false (sym any))

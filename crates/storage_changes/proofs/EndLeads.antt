@@ -33,7 +33,7 @@ use Rattle.storage_changes.proofs.EndSubpools.{owned_are_apart}
 use Rattle.storage_changes.proofs.EndTasks.{having, AllGo, ends_go}
 use Rattle.storage_changes.proofs.EndWalk.{Comes, LeadsOn, leads_first, comes_on, rows_then}
 
--- what is known of tables: each cell pool is found in one, and what it becomes where some of them go
+-- what is known of tables: each cell pool is found in one, and what it becomes if some of them are deleted
 abbrev TableLaws : Type 0
 TableLaws = PoolsAreFound × RowsOfTheOthersStay
 
@@ -43,11 +43,11 @@ module _ (settings : Settings) (m : StorageState) (ended : List ℕ) (next : ℕ
   abbrev turned : StorageState
   turned = with_turn (released settings m sound valid laws.0 named ended) next
 
-  -- where none sees what the tasks owned,
+  -- when none sees what the tasks owned,
   abbrev unshared_state : StorageState
   unshared_state = seeing turned (unshared_sight settings m sound ended)
 
-  -- where there is no subpool of theirs,
+  -- when no subpool of theirs exists,
   abbrev removed_state : StorageState
   removed_state = seeing turned (last_sight settings m sound ended)
 
@@ -69,7 +69,7 @@ module _ (settings : Settings) (m : StorageState) (ended : List ℕ) (next : ℕ
       })
       (λ t subtask e. absurd (true≢false (sym e))) can.order ends
 
-  -- and where they have ended
+  -- and when they have ended
   abbrev last : StorageState
   last = having removed_state all_go.after_parents all_go.after_words
 
@@ -97,7 +97,7 @@ module _ (settings : Settings) (m : StorageState) (ended : List ℕ) (next : ℕ
   change =
       change_parking (owned_by_these m.subpools ended) (end_records m ended next ++ register_records (with_turn m next) set) (end_blanks m ended)
 
-  -- what goes over, and the turn with the rows of sight; then the subpools; then the tasks
+  -- what moves over, and the turn with the rows of sight; then the subpools; then the tasks
   abbrev first : List Record
   first = released_records m.subpools ended ++ Turn (record { task = next }) ∷ unshared_records m.subpools ended
 

@@ -36,7 +36,7 @@ module _ (settings : Settings) (m : StorageState) (sound : IsSound settings m) (
   was true x e = absurd (true≢false (sym e))
   was false x e = (refl, e)
 
-  -- a page that a subpool has still, it had
+  -- a page that a subpool still has, it had before
   kept : (q : Subpool) (k : ℕ) → left.pages q k ≡ true → (gone q ≡ false) × (m.subpools.pages q k ≡ true)
   kept q k e = was (gone q) (m.subpools.pages q k) e
 
@@ -85,7 +85,7 @@ module _ (settings : Settings) (m : StorageState) (sound : IsSound settings m) (
       ≡ (not (theirs (d / 512)) && is_taken m.subpools (subpool_of m.subpools (d / 512)) d)
   taken_lead d = taken_lead_at d (theirs (d / 512)) refl
 
-  -- it stands
+  -- `Stands` holds
   rest_at : (k : ℕ) (b : Bool) → theirs k ≡ b
       → (if b then true else m.unassigned k) ≡ (in_a_region settings k && not (is_some (subpool_of left k)))
   rest_at k true own =

@@ -1,4 +1,4 @@
--- A subtree's tasks end in an order in which each comes behind its subtasks, and they are those of the subtree.
+-- A subtree's tasks end in an order in which each one follows its subtasks, and they are those of the subtree.
 use Rattle.std.proofs.Common.{◌≡◌, ℕ, zero, suc, ◌+◌, ◌<◌, ◌≤◌, Bool, true, false, ◌==◌, Some, List, [], ◌∷◌, ◌++◌, is_some, sym, ◌∙◌, ap, subst, arith, inl, inr, true≢false}
 use Rattle.std.specs.Prelude.{filter}
 use Rattle.std.specs.List.{range_with_len}
@@ -38,7 +38,7 @@ module _ (s : State) (top : ℕ) (w : TasksAreSound s) (there : is_task s top �
   next_below : (n t subtask : ℕ) → s.parents subtask ≡ Some t → below n t ≡ true → below (suc n) subtask ≡ true
   next_below n t subtask at e = ap (holds (below n)) at ∙ e
 
-  -- the task is so many steps below task 1 as its top and it together
+  -- the task is as many steps below task 1 as it is below its top and the top below task 1
   from_first : (n d t : ℕ) → IsStepsBelow s n top t → IsStepsBelow s d 1 top → (k : ℕ) × (k ≡ n + d) × IsStepsBelow s k 1 t
   from_first zero d t is deep = (d, omega arith, subst (IsStepsBelow s d 1) (sym is) deep)
   from_first (suc n) d t (parent, at, later) deep =
@@ -61,7 +61,7 @@ module _ (s : State) (top : ℕ) (w : TasksAreSound s) (there : is_task s top �
       let few = none_is_deeper s w a t deep in
       omega (arith, is, few)
 
-  -- Those are done that are further below, and at this level those before a number.
+  -- The tasks that are further below are done, and at this level those before a number.
   record Done (n first : ℕ) (gone : List ℕ) : Type 0 where
     deeper : (k t : ℕ) → n < k → below k t ≡ true → is_in gone t ≡ true
     before : (t : ℕ) → t < first → below n t ≡ true → is_in gone t ≡ true
@@ -123,7 +123,7 @@ module _ (s : State) (top : ℕ) (w : TasksAreSound s) (there : is_task s top �
   range : (n t : ℕ) → below n t ≡ true → (1 ≤ t) × (t ≤ 64)
   range n t e = w.numbered t (its n t e)
 
-  -- behind a level are those that are one step less below
+  -- after a level, those that are one step less below are next
   up : (n : ℕ) (gone : List ℕ) → Done (suc n) 65 gone → Done n 1 gone
   up n gone done = record {
     deeper = λ k t more e. elim (cases_lt (suc n) k) [

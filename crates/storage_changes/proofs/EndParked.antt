@@ -1,4 +1,4 @@
--- Empty subpools are parked, and all of them go.
+-- Empty subpools are parked, and all of them are removed.
 use Rattle.std.proofs.Common.{◌≡◌, ℕ, Bool, true, false, ◌&&◌, ◌==◌, if◌then◌else◌, List, [], ◌∷◌, Option, Some, None, refl, sym, ◌∙◌, ap, subst, arith}
 use Rattle.std.specs.Prelude.{◌/◌}
 use Rattle.std.proofs.lemmas.Bool.{cond_both, and_parts, eqb-true, eq-eqb}
@@ -38,7 +38,7 @@ none_is_free : (ps : List Subpool) (q : Subpool) (d : ℕ) → (empties ps).free
 none_is_free [] q d = refl
 none_is_free (p ∷ ps) q d = none_is_free ps q d
 
--- a subpool more leaves those that are there
+-- another subpool leaves those that exist
 there_still : (u : Subpools) (p q : Subpool) → is_there u q ≡ true → is_there (with_own u p true) q ≡ true
 there_still u p q there =
     cond_both ((q.owner == p.owner) && (q.number == p.number)) (Some p.owner) (u.sight q.owner q.number) (λ o. holds (λ owner. owner == q.owner) o ≡ true)
@@ -64,7 +64,7 @@ no_cells : (ps : List Subpool) (id : ℕ) → (empties ps).cells id ≡ None
 no_cells [] id = refl
 no_cells (p ∷ ps) id = no_cells ps id
 
--- where no subpool goes all cell pools stay, and none is parked
+-- if no subpool is removed all cell pools stay, and none is parked
 all_stay : (x : Option Pool) → x ≡ all_but (lies_among []) x
 all_stay None = refl
 all_stay (Some q) = refl

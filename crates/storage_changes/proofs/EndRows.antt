@@ -1,4 +1,4 @@
--- The rows of sight that go when tasks end, and what is seen then.
+-- The rows of sight that are removed when tasks end, and what is seen then.
 use Rattle.std.proofs.Common.{◌≡◌, ◌≢◌, ℕ, ◌<◌, ◌⊎◌, Bool, true, false, not, ◌&&◌, ◌||◌, ◌==◌, if◌then◌else◌, List, [], ◌∷◌, Option, Some, None, refl, sym, ◌∙◌, ap, arith, inl, inr, true≢false}
 use Rattle.std.specs.List.{list_any}
 use Rattle.std.proofs.lemmas.Bool.{cond-true, cond-false, and_parts, and_left, and_from, or_left, or_right, or_cases, or_parts, eqb-true, eq-eqb, ne_eqb, cases_Bool, cond_both, both_ways, not-true, false_from_ne_true}
@@ -28,7 +28,8 @@ pub record IsUnseeing (f : Sight) (ended : List ℕ) (row : SightRow) : Type 0 w
   pub sharer : row.1 ≢ row.0.owner
   pub ends : (is_in ended row.1 || is_in ended row.0.owner) ≡ true
 
--- Such a row, which goes with one of a task that ends: that task is the owner, or it shares what one owns that stays.
+-- Such a row is removed with one of a task that ends: that task is the owner, or shares a subpool of an owner that
+-- stays.
 pub record GoesWith (f : Sight) (ended : List ℕ) (x row : SightRow) : Type 0 where
   pub unseeing : IsUnseeing f ended row
   pub number : row.0.number ≡ x.0.number
@@ -53,7 +54,7 @@ module _ (settings : Settings) (m : StorageState) (sound : IsSound settings m) (
       (owner_is p.owner (sight task p.number) parts.0, λ same. both_ways (task == p.owner) (not-true (task == p.owner) parts.1) (eq-eqb task p.owner same)))
       (each_all (λ task. Unit {0}) tasks (λ _. tt))
 
-  -- what each row that goes with one of a task that ends has to do with it
+  -- what each row that is removed with one of a task that ends has to do with it
   rows_go : (x : SightRow) → IsSeen m.subpools ended x → Each (GoesWith sight ended x) (rows_with m.subpools ended x)
   rows_go x is =
       cond_both (is_own x) (sharer_rows m.subpools x.0) (if is_in ended x.0.owner then [] else x ∷ []) (Each (GoesWith sight ended x))
@@ -98,7 +99,7 @@ module _ (settings : Settings) (m : StorageState) (sound : IsSound settings m) (
         range = sound.well_formed.tasks.numbered row.1 (sound.well_formed.sight.seer_is_task row.1 row.0.number row.0.owner its.seen);
       }) rows_have
 
-  -- no row goes with two of them
+  -- no row is removed with two of them
   goes_once : (x y u v : SightRow) → IsSeen m.subpools ended x → IsSeen m.subpools ended y → IsOtherRow x y → GoesWith sight ended x u → GoesWith sight ended y v → IsOtherRow u v
   goes_once x y u v first second other at is = false_from_ne_true (is_row u.1 u.0.number v.1 v.0.number) (λ same.
       let parts = and_parts (v.1 == u.1) (v.0.number == u.0.number) same in
@@ -140,7 +141,7 @@ module _ (settings : Settings) (m : StorageState) (sound : IsSound settings m) (
       (each_all (λ x. Apart IsOtherRow (rows_with m.subpools ended x)) seen each_apart)
       (apart_each IsOtherRow (IsSeen m.subpools ended) seen (seen_are_apart m.subpools ended) (seen_have m.subpools ended))
 
-  -- the rows are just those of who shares a subpool and has ended, or whose owner has
+  -- the rows are exactly those of tasks that share a subpool and have ended, or whose owner has
   rows_only : (t n o : ℕ) → sight t n ≡ Some o → (is_in ended t || is_in ended o) ≡ false → is_among_rows rows t n ≡ false
   rows_only t n o at stays = false_from_ne_true (is_among_rows rows t n) (λ any.
       let (row, its, same) = some_has (IsUnseeing sight ended) (λ row. is_row row.1 row.0.number t n) rows rows_have any in
@@ -177,7 +178,7 @@ module _ (settings : Settings) (m : StorageState) (sound : IsSound settings m) (
   this_one : (x : SightRow) → is_this x x ≡ true
   this_one x = and_from (same_subpool x.0 x.0) (x.1 == x.1) (same-self x.0) (eq-eqb x.1 x.1 refl)
 
-  -- what goes with a row of a task that ends is among them
+  -- what is removed with a row of a task that ends is among them
   goes_too : (t n : ℕ) (task : ℕ) (p : Subpool) → is_in ended task ≡ true → sight task p.number ≡ Some p.owner → is_among_rows (rows_with m.subpools ended (p, task)) t n ≡ true → is_among_rows rows t n ≡ true
   goes_too t n task p ends sees with =
       let seer = sound.well_formed.tasks.numbered task (sound.well_formed.sight.seer_is_task task p.number p.owner sees) in
@@ -216,7 +217,7 @@ module _ (settings : Settings) (m : StorageState) (sound : IsSound settings m) (
         ]
       ]
 
-  -- the subpools that go are seen by their owners alone
+  -- only their owners see the subpools that are removed
   abbrev pub unshared_sight : Sight
   unshared_sight = without_rows sight rows
 

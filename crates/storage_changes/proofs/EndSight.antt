@@ -1,4 +1,4 @@
--- Rows of sight that go, and subpools that their owners don't see any more.
+-- Rows of sight that are removed, and subpools that their owners no longer see.
 use Rattle.std.proofs.Common.{◌≡◌, ◌≢◌, ℕ, ◌≤◌, Bool, true, false, ◌||◌, ◌==◌, if◌then◌else◌, List, [], ◌∷◌, Option, Some, None, refl, sym, ◌∙◌, ap, arith, true≢false}
 use Rattle.std.specs.Prelude.{map}
 use Rattle.std.specs.List.{list_any}
@@ -22,7 +22,7 @@ seeing m f = record m { subpools = record m.subpools { sight = f } }
 abbrev pub without_row : Sight → ℕ → ℕ → Sight
 without_row f task number t n = if is_row task number t n then None else f t n
 
--- rows of subpools and tasks go
+-- rows of subpools and tasks are removed
 abbrev pub without_rows : Sight → List SightRow → Sight
 without_rows f [] = f
 without_rows f (row ∷ rows) = without_rows (without_row f row.1 row.0.number) rows
@@ -48,7 +48,7 @@ pub record IsShared (f : Sight) (row : SightRow) : Type 0 where
   pub sharer : row.1 ≢ row.0.owner
   pub range : (1 ≤ row.1) × (row.1 ≤ 64)
 
--- who sees its own subpool has no row of another's that goes
+-- a task that sees its own subpool has no row of another's that is removed
 pub own_stays : (f : Sight) (row : SightRow) (p : Subpool) → IsShared f row → f p.owner p.number ≡ Some p.owner → is_row row.1 row.0.number p.owner p.number ≡ false
 own_stays f row p shared sees = false_from_ne_true (is_row row.1 row.0.number p.owner p.number) (λ is.
     let parts = and_parts (p.owner == row.1) (p.number == row.0.number) is in
@@ -70,7 +70,7 @@ shared_still f row other first apart shared = record {
 pub is_seen : (f : Sight) (p : Subpool) → f p.owner p.number ≡ Some p.owner → holds (λ owner. owner == p.owner) (f p.owner p.number) ≡ true
 is_seen f p sees = ap (holds (λ owner. owner == p.owner)) sees ∙ eq-eqb p.owner p.owner refl
 
--- tasks don't share others' subpools any more
+-- tasks no longer share others' subpools
 pub unshared_lead : (m : StorageState) (f : Sight) (rows : List SightRow) → Each (IsShared f) rows → Apart IsOtherRow rows
     → LeadsOn (seeing m f) (map unshared rows) (seeing m (without_rows f rows))
 unshared_lead m f [] shared apart = leads_nowhere (seeing m f)
@@ -93,7 +93,7 @@ unshared_lead m f (row ∷ rows) shared apart =
 abbrev pub own_rows : List Subpool → List SightRow
 own_rows ps = map (λ p. (p, p.owner)) ps
 
--- An empty subpool that its owner alone sees, of a task's number and a number of private storage.
+-- An empty subpool that only its owner sees, of a task's number and a number of private storage.
 pub record IsAlone (m : StorageState) (f : Sight) (p : Subpool) : Type 0 where
   pub owner : (1 ≤ p.owner) × (p.owner ≤ 64)
   pub number : p.number ≤ 127

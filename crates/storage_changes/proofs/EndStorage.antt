@@ -1,5 +1,5 @@
--- The storage of subpools, with their cell pools, goes over into a change that has an empty one parked under each of
--- their names.
+-- The storage of subpools, with their cell pools, moves into a change that has an empty one parked under each of their
+-- names.
 use Rattle.std.proofs.Common.{◌≡◌, ℕ, suc, ◌+◌, ◌<◌, Bool, true, false, not, ◌||◌, if◌then◌else◌, List, [], ◌∷◌, ◌++◌, length, Some, None, IsSome, is_some, inl, inr, refl, sym, ◌∙◌, ap, subst, arith, true≢false}
 use Rattle.std.specs.Prelude.{◌/◌}
 use Rattle.std.specs.List.{flat_map, list_any}
@@ -73,7 +73,7 @@ pub any_onto : (f : Subpool → Bool) (done left : List Subpool) → list_any f 
 any_onto f done [] = refl
 any_onto f done (p ∷ left) = any_onto f (p ∷ done) left ∙ any_move (f p) (list_any f left) (list_any f done)
 
--- where these are emptied, and those are yet to be
+-- if these are emptied, and those are yet to be
 pub record IsAmid (m : StorageState) (w : Walk) (done left : List Subpool) : Type 0 where
   pub state : w.state ≡ emptied_of m done
   pub none_brought : (a : ℕ) → w.brought a ≡ None
@@ -103,7 +103,7 @@ not_listed p [] others = refl
 not_listed p (q ∷ done) others = ap (λ b. b || is_listed done p) (same_turned p q ∙ others.0) ∙ not_listed p done others.1
 
 module _ (settings : Settings) (m : StorageState) (sound : IsSound settings m) (valid : settings_valid settings ≡ true) (named : AreNamed m.subpools.cells) where
-  -- a page of a subpool is none of others'
+  -- a page of a subpool belongs to none of the others
   not_had : (p : Subpool) (k : ℕ) (done : List Subpool) → Each (IsAnother p) done → m.subpools.pages p k ≡ true → have m done k ≡ false
   not_had p k [] others own = refl
   not_had p k (q ∷ done) others own =
@@ -114,7 +114,7 @@ module _ (settings : Settings) (m : StorageState) (sound : IsSound settings m) (
   runs : (p : Subpool) → AreRunsOf (extents m.subpools p) (m.subpools.pages p)
   runs p = extents_are_runs m.subpools p (λ k high. none_beyond settings m p sound valid k (omega (arith, high)))
 
-  -- one subpool more
+  -- another subpool
   module _ (w : Walk) (done : List Subpool) (p : Subpool) (left : List Subpool) (amid : IsAmid m w done (p ∷ left)) where
     -- at the state as it is
     abbrev here : Walk
@@ -126,7 +126,7 @@ module _ (settings : Settings) (m : StorageState) (sound : IsSound settings m) (
     abbrev moved : Walk
     moved = queues_step here (record { subpool = p })
 
-    -- a cell pool of others that are emptied already lies in none of its
+    -- a cell pool of others that are already emptied lies in none of its
     cells_apart : (q : Pool) → lies_among done q ≡ true → lies_in p q ≡ false
     cells_apart q among =
         false_from_ne_true (lies_in p q)
@@ -225,7 +225,7 @@ module _ (settings : Settings) (m : StorageState) (sound : IsSound settings m) (
       room = let few = enough in let kept = leave.spare in omega (arith, few, kept);
     }
 
-    -- what is there or parked was there at first
+    -- what exists or is parked existed at first
     was : (id : ℕ) (x : Pool) → HasPool here.state.subpools w.parked id x → m.subpools.cells id ≡ Some x
     was id x (inl at) = all_but_was (lies_among done) (m.subpools.cells id) x at
     was id x (inr at) = only_was (lies_among done) (m.subpools.cells id) x (sym (amid.parked_cells id) ∙ at)

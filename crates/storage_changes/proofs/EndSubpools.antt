@@ -1,4 +1,4 @@
--- What tasks that end see: each row of theirs comes once, and the subpools that they own among them.
+-- What tasks that end see: each of their rows occurs once, and the subpools that they own are among them.
 use Rattle.std.proofs.Common.{◌≡◌, ℕ, ◌<◌, ◌≤◌, Bool, true, false, ◌&&◌, ◌==◌, Option, Some, None, List, refl, sym, ◌∙◌, ap, arith, true≢false}
 use Rattle.std.specs.Prelude.{filter, option_map}
 use Rattle.std.specs.List.{list_any}

@@ -1,4 +1,4 @@
--- Tasks that end one by one, each behind its subtasks, with registers of zeros.
+-- Tasks that end one by one, each after its subtasks, with registers of zeros.
 use Rattle.std.proofs.Common.{◌≡◌, ◌≢◌, ℕ, zero, suc, ◌+◌, ◌-◌, ◌*◌, ◌/◌, ◌<◌, Bool, true, false, ◌&&◌, ◌||◌, ◌==◌, if◌then◌else◌, List, [], ◌∷◌, slice_index_or, Option, Some, None, IsSome, is_some, refl, sym, ◌∙◌, ap, arith, inl, inr, true≢false}
 use Rattle.std.specs.Prelude.{map, unwrap_or, nat_le, nat_lt}
 use Rattle.std.specs.List.{range_with_len, flat_map, list_any}
@@ -104,7 +104,7 @@ pub record HaveGone (m : StorageState) (gone : ℕ → Bool) (parents : Parents)
   pub zeros : (t r : ℕ) → gone t ≡ true → words t r ≡ 0
   pub same_words : (t r : ℕ) → gone t ≡ false → words t r ≡ m.tasks.words t r
 
--- Where they lead to: all of the list have ended besides.
+-- Where they lead to: all of the list have also ended.
 pub record AllGo (m n : StorageState) (gone tasks : List ℕ) (parents : Parents) (words : Words) : Type 0 where
   pub after_parents : Parents
   pub after_words : Words
@@ -121,7 +121,7 @@ some_value None e = absurd (true≢false (sym e))
 some_value (Some x) e = refl
 
 module _ (m : StorageState) (w : TasksAreSound (model_of m)) where
-  -- a task besides the first one has a parent that is a task
+  -- a task other than the first one has a parent that is a task
   parent_there : (task : ℕ) → task ≢ 1 → is_some (m.tasks.parents task) ≡ true → is_some (m.tasks.parents (unwrap_or (m.tasks.parents task) 0)) ≡ true
   parent_there task later there =
       elim (or_cases (task == 1) (holds (climbs m.tasks.parents 63 1) (m.tasks.parents task)) (w.below_root task there)) [
@@ -192,7 +192,7 @@ module _ (m : StorageState) (w : TasksAreSound (model_of m)) where
         ))
         (leads_nowhere (having n fewer zeros)))
 
-    -- then it has gone too
+    -- then it has ended too
     turned_test : (t : ℕ) → (task == t) ≡ false → (t == task) ≡ false
     turned_test t other = ne_eqb t task (λ same. both_ways (task == t) other (eq-eqb task t (sym same)))
 

@@ -10,7 +10,7 @@ use Rattle.storage_changes.specs.Leads.{AreRegisters}
 use Rattle.storage_changes.proofs.Goes.{walk_on, fits_on}
 use Rattle.storage_changes.proofs.Rows.{with_rows, rows_fit, rows_walk}
 
--- no frame is to come, and there is a blank element
+-- no frame is yet to be brought, and there is a blank element
 pub record Rests (w : Walk) (m : StorageState) : Type 0 where
   pub state : w.state ≡ m
   pub none_brought : (a : ℕ) → w.brought a ≡ None
@@ -25,7 +25,7 @@ pub record Comes (w : Walk) (rs : List Record) (m : StorageState) : Type 0 where
 abbrev pub with_state : Walk → StorageState → Walk
 with_state w m = record w { state = m }
 
--- from each walk that rests at a state they come to another
+-- from each walk that rests at a state they lead to another
 abbrev pub LeadsOn : StorageState → List Record → StorageState → Type 0
 LeadsOn m rs n = (w : Walk) → Rests w m → Comes (with_state w m) rs n
 
@@ -46,7 +46,7 @@ leads_then m n o rs ss first behind w rests = comes_on (with_state w m) rs ss n 
 pub leads_nowhere : (m : StorageState) → LeadsOn m [] m
 leads_nowhere m w rests = record { fits = tt; rests = record { state = refl; none_brought = rests.none_brought; spare = rests.spare } }
 
--- one record behind which others come
+-- one record that others follow
 pub leads_first : (m n o : StorageState) (r : Record) (rs : List Record)
     → ((w : Walk) → Rests w m → Fits (with_state w m) r × Rests (step (with_state w m) r) n) → LeadsOn n rs o → LeadsOn m (r ∷ rs) o
 leads_first m n o r rs one behind w rests =
@@ -57,7 +57,7 @@ leads_first m n o r rs one behind w rests =
     let rest : Comes (step (with_state w m) r) rs o = subst P there later in
     record { fits = (fits, rest.fits); rests = rest.rests }
 
--- registers of the current task are set behind them
+-- registers of the current task are set after them
 pub rows_then : (w : Walk) (rs : List Record) (n : StorageState) (rows : List (ℕ × ℕ)) → IsSome (n.tasks.parents n.tasks.current) → AreRegisters rows
     → Comes w rs n → Comes w (rs ++ register_records n rows) (with_rows n rows)
 rows_then w rs n rows task are comes = comes_on w rs (register_records n rows) n (with_rows n rows) comes (λ v rests. record {

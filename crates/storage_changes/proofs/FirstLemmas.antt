@@ -7,7 +7,7 @@ use Rattle.std.proofs.lemmas.List.{append_assoc}
 use Rattle.storage_changes.specs.Meaning.{first_of}
 use Rattle.storage_changes.proofs.Cases.{cond-in, cond-out}
 
--- the list is some elements, this one, and some more
+-- the list is some elements, this one, and more
 abbrev pub IsIn : {A : Type 0} → A → List A → Type 0
 IsIn {A} x xs = (before : List A) × (after : List A) × (xs ≡ before ++ x ∷ after)
 

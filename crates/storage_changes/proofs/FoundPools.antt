@@ -68,7 +68,7 @@ none_there : (o : Option Pool) → ((q : Pool) → o ≡ Some q → ⊥) → o �
 none_there None none = refl
 none_there (Some q) none = absurd (none q refl)
 
--- A list with one cell pool in front.
+-- A list that begins with one cell pool.
 module _ (p : Pool) (list : List Pool) (named : AreNamed (λ id. id_in id (p ∷ list)))
     (pairs : AllPairs (λ p q. p.id ≢ q.id) (p ∷ list)) where
   abbrev rest : ℕ → Option Pool
@@ -116,7 +116,7 @@ rows_are_counted pools list named listed pairs =
     let same : pools ≡ (λ id. id_in id list) = λ i. λ id. listed id i in
     ap (λ pools. length (cell_pools_in pools)) same ∙ listed_counted list (subst AreNamed same named) pairs
 
--- A cell pool is met where one of its extents on the plain machine overlaps.
+-- A cell pool is met if one of its extents on the plain machine overlaps.
 met_rows : (address length : ℕ) (p : Pool) (extents : List Extent) →
     list_any (overlaps_extent address length (cell_pool_of p)) (map extent_of extents) ≡ list_any (overlaps p.settings.size address length) extents
 met_rows address length p [] = refl

@@ -46,7 +46,7 @@ module _ (settings : Settings) (m : StorageState) (p : Subpool) (is_new : Bool) 
   enough : (count ≤ 512 * n) × (512 * n < count + 512)
   enough = (omega arith, omega arith)
 
-  -- a page of the run is nobody's
+  -- a page of the run belongs to nobody
   nobody : (k : ℕ) → inside k (run_of page n) ≡ true → subpool_of m.subpools k ≡ None
   nobody k own = none_from (subpool_of m.subpools k)
       (not-true (is_some (subpool_of m.subpools k)) (and_parts (in_a_region settings k) (not (is_some (subpool_of m.subpools k))) (sym (sound.rest k) ∙ rest k own)).1)
@@ -139,7 +139,7 @@ module _ (settings : Settings) (m : StorageState) (p : Subpool) (is_new : Bool) 
       ∙ taken_out d (subpool_of m.subpools (d / 512)) other
       ∙ ap (λ b. b || is_taken m.subpools (subpool_of m.subpools (d / 512)) d) (sym (area_in d other))
 
-  -- it stands
+  -- `Stands` holds
   apart_at : (q r : Subpool) (k : ℕ) (b : Bool) → inside k (run_of page n) ≡ b → all.subpools.pages q k ≡ true → all.subpools.pages r k ≡ true → q ≡ r
   apart_at q r k true own e f = only_it q k own e ∙ sym (only_it r k own f)
   apart_at q r k false other e f = sound.apart q r k (sym (pages_out q k other) ∙ e) (sym (pages_out r k other) ∙ f)

@@ -29,8 +29,8 @@ module _ (settings : Settings) (m : StorageState) (p : Subpool) (d count page n 
   abbrev past : ℕ
   past = 512 * (page + suc n)
 
-  -- what of the area lies before the pages, of the pages before the area, of the area behind the pages, and of the pages
-  -- behind the area
+  -- what of the area lies before the pages, of the pages before the area, of the area after the pages, and of the pages
+  -- after the area
   abbrev freed_before : StorageState
   freed_before = freed m p d (512 * page - d) true
 
@@ -81,7 +81,7 @@ module _ (settings : Settings) (m : StorageState) (p : Subpool) (d count page n 
   behind_area : (k : ℕ) → (k < d + count) ⊎ (past ≤ k) → taken_behind.subpools.free p k ≡ freed_behind.subpools.free p k
   behind_area k away = freed_out freed_behind p (d + count) (past - (d + count)) false p k (not_inside (d + count) (past - (d + count)) k (λ low less. omega (arith, low, less, away)))
 
-  -- the free storage behind the records
+  -- the free storage after the records
   pub given : (k : ℕ) → inside k (run_of d count) ≡ true → inside (k / 512) (run_of page (suc n)) ≡ false → f p k ≡ true
   given k own other =
       let at = inside_in d count k own in

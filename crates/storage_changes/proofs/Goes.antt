@@ -11,7 +11,7 @@ use Rattle.storage_changes.specs.Fits.{Fits, FitInTurn}
 abbrev pub at : StorageState → (ℕ → Option ℕ) → (ℕ → Option ℕ) → ℕ → Walk
 at m brought given spare = record { state = m; brought = brought; given = given; parked = no_subpools; spare = spare }
 
--- The records fit in turn, and lead to this state and these frames, with so many blank elements left at least.
+-- The records fit in turn, and lead to this state and these frames, with at least this many blank elements left.
 pub record Goes (w : Walk) (rs : List Record) (m : StorageState) (brought given : ℕ → Option ℕ) (left : ℕ) : Type 0 where
   pub fits : FitInTurn w rs
   pub there : walk w rs ≡ at m brought given (walk w rs).spare
@@ -25,7 +25,7 @@ pub fits_on : (w : Walk) (rs ss : List Record) → FitInTurn w rs → FitInTurn 
 fits_on w [] ss h k = k
 fits_on w (r ∷ rs) ss h k = (h.0, fits_on (step w r) rs ss h.1 k)
 
--- records behind others
+-- records after others
 pub goes_on :
     (w : Walk) (rs ss : List Record) (m n : StorageState) (b g c h : ℕ → Option ℕ) (left less : ℕ) → Goes w rs m b g left
     → ((s : ℕ) → left ≤ s → Goes (at m b g s) ss n c h less) → Goes w (rs ++ ss) n c h less

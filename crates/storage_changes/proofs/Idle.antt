@@ -60,7 +60,7 @@ module _ (settings : Settings) (m : StorageState) (p : Subpool) (d count : ℕ) 
   abbrev past : ℕ
   past = past_emptied m.subpools p (d + count)
 
-  -- a page of the run has a doubleword of the area, and so is the subpool's,
+  -- a page of the run has a doubleword of the area, and so belongs to the subpool,
   its : (j : ℕ) → from ≤ j → j < past → subpool_of m.subpools j ≡ Some p
   its j low less =
       let begins = (first_bounds front (d / 512)).0 in
@@ -75,7 +75,7 @@ module _ (settings : Settings) (m : StorageState) (p : Subpool) (d count : ℕ) 
             ∙ sound.named p ((512 * j) / 512) (held (512 * j) (in_inside d count (512 * j) above (omega (arith, less, ends)))).0
       ]
 
-  -- has none that is taken beside it,
+  -- has no other doubleword that is taken,
   free_beside : (j k : ℕ) → from ≤ j → j < past → k / 512 ≡ j → inside k area ≡ false → m.subpools.free p k ≡ true
   free_beside j k low less at other =
       let begins = (first_bounds front (d / 512)).0 in
@@ -131,7 +131,7 @@ module _ (settings : Settings) (m : StorageState) (p : Subpool) (d count : ℕ) 
           | inr other ↦ omega (arith, in_it.0, at, other)
         ]
 
-    -- nor behind it
+    -- nor after it
     not_behind : (b : Bool) → back ≡ b → j < (if b then last else last - 1)
     not_behind true e = let (k, own, at) = touched in let in_it = inside_in d count k own in omega (arith, in_it.1, at)
     not_behind false e =

@@ -1,4 +1,4 @@
--- Of all subpools in order one has a page, or a free doubleword, at most.
+-- At most one of all subpools in order has a page, or a free doubleword.
 use Rattle.std.proofs.Common.{◌≡◌, ℕ, zero, suc, ◌+◌, ◌<◌, ◌≤◌, inl, inr, Bool, true, false, ◌&&◌, not, if◌then◌else◌, List, [], ◌∷◌, Option, Some, None, is_some, refl, sym, ap, ◌∙◌, arith}
 use Rattle.std.specs.Prelude.{◌/◌}
 use Rattle.std.specs.List.{range_with_len, filter_map, cons_option}
@@ -31,7 +31,7 @@ module _ {A : Type 0} where
     go None e = omega (arith, e)
     go (Some x) e = ap (λ (z : ℕ). count x + z) e
 
--- a sum in which one number alone of a range counts
+-- a sum in which only one number of a range counts
 module _ (f : ℕ → ℕ) where
   sum_behind : (n a : ℕ) → ((t : ℕ) → a ≤ t → f t ≡ 0) → sum_of f (range_with_len a n) ≡ 0
   sum_behind zero a none = refl
@@ -50,7 +50,7 @@ module _ (f : ℕ → ℕ) where
   sum_numbers : (x k : ℕ) → k ≡ 128 → ((t : ℕ) → (t ≡ x → ⊥) → f t ≡ 0) → x ≤ 127 → sum_of f numbers ≡ f x
   sum_numbers x k e other high = ap (sum_of f) (numbers_are k e) ∙ sum_single x other k 0 (omega arith) (omega (arith, high, e))
 
--- Of a test that one subpool passes at most, those that are there and pass are one, or none.
+-- Of a test that one subpool passes at most, those that exist and pass are one, or none.
 module _ (m : Subpools) (p : Subpool) (g : Subpool → Bool) (can : CanBe p) (there : is_there m p ≡ true) (only : (q : Subpool) → g q ≡ true → q ≡ p) where
   abbrev counted : ℕ → ℕ → ℕ
   counted number owner = value (λ q. one_if (g q)) (subpool_at m number owner)
@@ -78,7 +78,7 @@ module _ (m : Subpools) (p : Subpool) (g : Subpool → Bool) (can : CanBe p) (th
       ∙ counts
 
 module _ (settings : Settings) (m : StorageState) (sound : IsSound settings m) where
-  -- a subpool with a page is there, and is one that there can be
+  -- a subpool with a page exists, and is a possible one
   has_page : (p : Subpool) (page : ℕ) → subpool_of m.subpools page ≡ Some p → is_there m.subpools p ≡ true
   has_page p page e = sound.well_formed.pages.has_subpool page p e
 
@@ -87,7 +87,7 @@ module _ (settings : Settings) (m : StorageState) (sound : IsSound settings m) w
       let owner = sound.well_formed.tasks.numbered p.owner (sound.well_formed.sight.owner_is_task p.number p.owner there) in
       (sound.well_formed.sight.is_private p.number p.owner there, owner.0, owner.1)
 
-  -- a page is assigned where it's a page of one of the subpools
+  -- a page is assigned if it's a page of one of the subpools
   pub page_counts : (page : ℕ) → one_if (is_some (subpool_of m.subpools page)) ≡ sum_of (λ q. one_if (m.subpools.pages q page)) (subpools_in_order m.subpools)
   page_counts page = go (subpool_of m.subpools page) refl where
     nobodys : subpool_of m.subpools page ≡ None → (q : Subpool) → m.subpools.pages q page ≡ false
@@ -99,7 +99,7 @@ module _ (settings : Settings) (m : StorageState) (sound : IsSound settings m) w
         let has : m.subpools.pages p page ≡ true = (named_pages_are_there m.subpools page).0 p e in
         sym (one_counts m.subpools p (λ q. m.subpools.pages q page) (can_be p (has_page p page e)) (has_page p page e) (λ q h. sound.apart q p page h has) ∙ ap one_if has)
 
-  -- and a doubleword of an assigned page is free where it's in the free storage of one of them
+  -- and a doubleword of an assigned page is free if it's in the free storage of one of them
   pub free_counts : (d : ℕ) → one_if (is_some (subpool_of m.subpools (d / 512)) && not (is_taken m.subpools (subpool_of m.subpools (d / 512)) d))
       ≡ sum_of (λ q. one_if (m.subpools.free q d)) (subpools_in_order m.subpools)
   free_counts d = go (subpool_of m.subpools (d / 512)) refl where

@@ -18,7 +18,7 @@ use Rattle.storage_changes.specs.MapLists.{pair_of, ExtentsAreShown, FreeAreasAr
 use Rattle.storage_changes.proofs.MapRunLists.{Between, between_wider, between_longer, runs_between, runs_agree, two_ranges}
 use Rattle.storage_changes.proofs.MapRanges.{InEither, sizes, is_within, page_is, page_within, free_within}
 
--- the runs of what passes in two ranges alone, with a number between them and one behind them
+-- the runs of only what passes in two ranges, with a number between them and one after them
 pub parted : (f : ℕ → Bool) (a n b m top : ℕ) → a + n < b → b + m < top → ((k : ℕ) → f k ≡ true → InEither a n b m k) → runs f 0 top ≡ runs f a n ++ runs f b m
 parted f a n b m top gap room only = two_ranges f a n b m top gap room
     (λ k high. fails k (λ h. either k h (λ low far. omega (arith, low, high)) (λ low far. omega (arith, low, high, gap))))

@@ -54,7 +54,7 @@ module _ {B C : Type 0} where
   flat_flat f g [] = refl
   flat_flat f g (x ∷ xs) = flat_append f (g x) (flat_map g xs) ∙ ap (λ (z : List C). flat_map f (g x) ++ z) (flat_flat f g xs)
 
--- the lines of what is there, or none
+-- the lines of what exists, or none
 module _ {C : Type 0} (m : Subpools) (lines : ℕ → ℕ → List C) (none : (number owner : ℕ) → is_there m (record { number = number; owner = owner }) ≡ false → lines number owner ≡ []) where
   abbrev shown : Subpool → List C
   shown p = lines p.number p.owner

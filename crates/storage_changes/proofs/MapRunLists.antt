@@ -3,12 +3,12 @@ use Rattle.std.proofs.Common.{◌≡◌, ℕ, zero, suc, ◌+◌, ◌<◌, ◌�
 use Rattle.std.proofs.lemmas.Bool.{eqb-true, false_from_ne_true}
 use Rattle.vsm_model.specs.Runs.{with_first, runs}
 
--- the first run begins at this number or behind it
+-- the first run begins at or after this number
 abbrev pub Begins : ℕ → List (ℕ × ℕ) → Type 0
 Begins low [] = Unit {0}
 Begins low (x ∷ xs) = low ≤ x.0
 
--- each run begins at the first number or behind it, and ends at the last one or before it
+-- each run begins at or after the first number, and ends at or before the last one
 abbrev pub Between : ℕ → ℕ → List (ℕ × ℕ) → Type 0
 Between low high [] = Unit {0}
 Between low high (x ∷ xs) = (low ≤ x.0) × (0 < x.1) × (x.0 + x.1 ≤ high) × Between low high xs
@@ -25,7 +25,7 @@ pub between_longer : (low k high : ℕ) (xs : List (ℕ × ℕ)) → k ≤ high 
 between_longer low k high [] less h = tt
 between_longer low k high (x ∷ xs) less h = (h.0, h.1, let ends : x.0 + x.1 ≤ k = h.2 in omega (arith, less, ends), between_longer low k high xs less h.3)
 
--- a number in front of runs: it begins the first of them, or is a run of its own
+-- a number before runs: it begins the first of them, or is a run of its own
 front_begins : (k : ℕ) (xs : List (ℕ × ℕ)) → Begins k (with_first k xs)
 front_begins k [] = omega arith
 front_begins k (x ∷ xs) = go (x.0 == suc k) where
@@ -43,7 +43,7 @@ front_between k high (x ∷ xs) less h = go (x.0 == suc k) refl where
       (omega arith, omega arith, omega (arith, at, ends), between_wider k (suc k) high xs (omega arith) h.3)
   go false e = (omega arith, omega arith, omega (arith, less), between_wider k (suc k) high (x ∷ xs) (omega arith) h)
 
--- behind it other runs may stand
+-- other runs may follow it
 front_alone : (k low : ℕ) (ys : List (ℕ × ℕ)) → suc k < low → Begins low ys → with_first k ys ≡ (k, 1) ∷ ys
 front_alone k low [] less h = refl
 front_alone k low (y ∷ ys) less h =
@@ -59,7 +59,7 @@ front_append k low (x ∷ xs) ys less h = go (x.0 == suc k) where
   go false = refl
 
 module _ (f : ℕ → Bool) where
-  -- the runs of a number more, where it passes and where it doesn't
+  -- the runs of another number, if it passes and if it doesn't
   pub one_less : (k n : ℕ) → f k ≡ false → runs f k (suc n) ≡ runs f (suc k) n
   one_less k n e = ap (λ (b : Bool). if b then with_first k (runs f (suc k) n) else runs f (suc k) n) e
 
@@ -87,7 +87,7 @@ module _ (f : ℕ → Bool) where
       go true h = front_between k (k + suc n) (runs f (suc k) n) (omega arith) h
       go false h = between_wider k (suc k) (k + suc n) (runs f (suc k) n) (omega arith) h
 
-  -- numbers that don't pass make no runs, in front of others
+  -- numbers that don't pass make no runs, before others
   pub runs_behind : (k n m : ℕ) → ((j : ℕ) → k ≤ j → j < k + n → f j ≡ false) → runs f k (n + m) ≡ runs f (k + n) m
   runs_behind k zero m none =
       let count : 0 + m ≡ m = omega arith in
@@ -101,7 +101,7 @@ module _ (f : ℕ → Bool) where
       ∙ runs_behind (suc k) n m (λ j low high. none j (omega (arith, low)) (omega (arith, high)))
       ∙ ap (λ (z : ℕ). runs f z m) first
 
-  -- where a number doesn't pass, the runs before it and those behind it are apart
+  -- if a number doesn't pass, the runs before it and those after it are apart
   pub runs_apart : (k n m : ℕ) → f (k + n) ≡ false → runs f k (n + m) ≡ runs f k n ++ runs f (k + n) m
   runs_apart k zero m e =
       let count : 0 + m ≡ m = omega arith in
@@ -129,7 +129,7 @@ module _ (f : ℕ → Bool) where
   append_none [] ys e = e
   append_none (x ∷ xs) ys e = ap (λ (z : List (ℕ × ℕ)). x ∷ z) (append_none xs ys e)
 
-  -- the runs of what passes in two ranges alone, with a number between them and one behind them
+  -- the runs of only what passes in two ranges, with a number between them and one after them
   pub two_ranges : (a n b m top : ℕ) → a + n < b → b + m < top
       → ((k : ℕ) → k < a → f k ≡ false) → ((k : ℕ) → a + n ≤ k → k < b → f k ≡ false) → ((k : ℕ) → b + m ≤ k → f k ≡ false)
       → runs f 0 top ≡ runs f a n ++ runs f b m

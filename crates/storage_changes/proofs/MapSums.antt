@@ -33,7 +33,7 @@ module _ {A B : Type 0} where
   sum_flat f g [] = refl
   sum_flat f g (x ∷ xs) = sum_append f (g x) (flat_map g xs) ∙ ap (λ (z : ℕ). sum_of f (g x) + z) (sum_flat f g xs)
 
--- how many pass of two ranges that meet
+-- how many of two ranges that meet pass
 pub passing_apart : (f : ℕ → Bool) (k n m : ℕ) → passing f k (n + m) ≡ passing f k n + passing f (k + n) m
 passing_apart f k zero m =
     let count : 0 + m ≡ m = omega arith in
@@ -62,7 +62,7 @@ pub passing_plus : (f g h : ℕ → Bool) → ((j : ℕ) → one_if (f j) + one_
 passing_plus f g h both k zero = refl
 passing_plus f g h both k (suc n) = omega (arith, both k, passing_plus f g h both (suc k) n)
 
--- no more pass than there are
+-- no more pass than the range has
 pub passing_few : (f : ℕ → Bool) (k n : ℕ) → passing f k n ≤ n
 passing_few f k zero = omega arith
 passing_few f k (suc n) = go (f k) (passing_few f (suc k) n) where

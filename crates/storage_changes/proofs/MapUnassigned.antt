@@ -17,7 +17,7 @@ use Rattle.storage_changes.proofs.MapRunLists.{runs_agree}
 use Rattle.storage_changes.proofs.MapRanges.{InEither, sizes, is_within, either_region}
 use Rattle.storage_changes.proofs.MapListsShown.{parted, as_runs, append_nil, ends_of_two}
 
--- where two tests pass, either may stand before a third
+-- if two tests pass, either may be before a third
 swapped : (a b x : Bool) → a ≡ true → b ≡ true → (a && x) ≡ (b && x)
 swapped a b x e h = ap (λ (z : Bool). z && x) (e ∙ sym h)
 

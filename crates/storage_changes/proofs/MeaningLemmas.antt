@@ -13,7 +13,7 @@ use Rattle.storage_changes.specs.Laws.{CanBe, PagesAreNamed, NamedPagesAreThere,
 use Rattle.storage_changes.proofs.Cases.{cond-in, cond-out, and-both, and-false, not-not, same-self, same-is}
 use Rattle.storage_changes.proofs.FirstLemmas.{IsIn, in-range, in-map, in-flat_map, first-passes, first-found, first-missed, first-nothing}
 
--- a subpool is among all that there can be
+-- a subpool is among all possible ones
 is-one : (p : Subpool) → CanBe p → IsIn p all_subpools
 unfolding all_subpools
 is-one p h = in-flat_map (λ (number : ℕ). map (λ (owner : ℕ). let q : Subpool = record { number = number; owner = owner } in q) (range_with_len 1 64)) p.number p (range_with_len 0 128)

@@ -1,4 +1,4 @@
--- The rows behind a name in a table in order: all, none, or the next one and those behind it.
+-- The rows after a name in a table in order: all, none, or the next one and those after it.
 use Rattle.std.proofs.Common.{◌≡◌, ℕ, ◌^◌, true, false, Option, Some, None, List, [], ◌∷◌, refl, sym, ◌∙◌, ap, true≢false, is_lt, inl, inr}
 use Rattle.std.specs.Ordering.{eq_by_cmp}
 use Rattle.std.specs.FinMap.Entries.{below_all}
@@ -25,7 +25,7 @@ stays low row rows is = cond-true (is_after low row.0) (row ∷ rows_behind rows
 leaves : (low : Option (List ℕ)) (row : Row) (rows : CellPools) → is_after low row.0 ≡ false → rows_behind (row ∷ rows) low ≡ rows_behind rows low
 leaves low row rows is = cond-false (is_after low row.0) (row ∷ rows_behind rows low) (rows_behind rows low) is
 
--- Rows whose names all come behind a name stay behind any that this one comes behind.
+-- Rows whose names all follow a name also follow any that this one follows.
 further : (low : Option (List ℕ)) (name other : List ℕ) → is_after low name ≡ true → is_before name other ≡ true → is_after low other ≡ true
 further None name other h k = refl
 further (Some low) name other h k = before_chain low name other h k
@@ -46,7 +46,7 @@ all_behind : (table : CellPools) → rows_behind table None ≡ table
 all_behind [] = refl
 all_behind (row ∷ rows) = ap (λ (z : CellPools). row ∷ z) (all_behind rows)
 
--- what is found behind the first row is found
+-- what is found after the first row is found
 found_rest : (row : Row) (rows : CellPools) → below_all by_name row.0 rows ≡ true → (name : List ℕ) (pool : CellPool) → cell_pool_in rows name ≡ Some pool → cell_pool_in (row ∷ rows) name ≡ Some pool
 found_rest row rows below name pool e =
     elim (cases_Bool (eq_by_cmp by_name name row.0)) [
@@ -54,7 +54,7 @@ found_rest row rows below name pool e =
       | inr apart ↦ found_later row rows name apart ∙ e
     ]
 
--- what is found comes behind what is below all
+-- what is found follows what is below all
 found_behind : (low : List ℕ) (rows : CellPools) → below_all by_name low rows ≡ true → (name : List ℕ) (pool : CellPool) → cell_pool_in rows name ≡ Some pool → is_before low name ≡ true
 found_behind low [] below name pool e = absurd (some_none pool (sym e))
 found_behind low (row ∷ rows) below name pool e =
@@ -71,7 +71,7 @@ not_back a b h =
       | inr is ↦ is
     ]
 
--- where no name that is found comes behind, no row does
+-- if no name that is found follows, no row does
 none_behind : (low : Option (List ℕ)) (table : CellPools) → are_ascending table ≡ true → ((name : List ℕ) (pool : CellPool) → cell_pool_in table name ≡ Some pool → is_after low name ≡ false) → rows_behind table low ≡ []
 none_behind low [] ascends none = refl
 none_behind low (row ∷ rows) ascends none =
@@ -79,7 +79,7 @@ none_behind low (row ∷ rows) ascends none =
     leaves low row rows (none row.0 row.1 (found_first row rows row.0 (own_name row.0)))
     ∙ none_behind low rows parts.1 (λ name pool e. none name pool (found_rest row rows parts.0 name pool e))
 
--- The first name that comes behind is in front of those that come behind it.
+-- The first name that follows is before those that follow it.
 module _ (low : Option (List ℕ)) (next : List ℕ) (pool : CellPool) (behind : is_after low next ≡ true) where
   first_behind : (table : CellPools) → are_ascending table ≡ true → cell_pool_in table next ≡ Some pool
       → ((name : List ℕ) (other : CellPool) → cell_pool_in table name ≡ Some other → is_after low name ≡ true → is_before name next ≡ false)

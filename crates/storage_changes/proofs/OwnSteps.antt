@@ -1,4 +1,4 @@
--- An empty subpool that comes or goes, and back.
+-- An empty subpool that is made or removed, and back.
 use Rattle.std.proofs.Common.{◌≡◌, ℕ, ◌<◌, Bool, true, false, not, ◌&&◌, ◌==◌, if◌then◌else◌, Option, Some, None, refl, sym, ◌∙◌, arith, subst}
 use Rattle.std.proofs.lemmas.Bool.{eqb-true, eq-eqb, and_left}
 use Rattle.vsm_model.specs.declared.Subpool.{Subpool}

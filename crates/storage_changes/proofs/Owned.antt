@@ -1,4 +1,4 @@
--- Subpools that are there, and one that is new.
+-- Subpools that exist, and one that is new.
 use Rattle.std.proofs.Common.{◌≡◌, ℕ, ◌+◌, ◌≤◌, Bool, true, false, ◌&&◌, ◌||◌, ◌==◌, if◌then◌else◌, Option, Some, None, refl, sym, ◌∙◌, ap, arith, true≢false}
 use Rattle.std.specs.Prelude.{◌/◌}
 use Rattle.std.proofs.lemmas.Bool.{and_from, cond-true, eqb-true, eq-eqb, false_from_ne_true}
@@ -15,11 +15,11 @@ use Rattle.storage_changes.proofs.Goes.{at, Goes, goes_nowhere}
 use Rattle.storage_changes.proofs.Records.{owned, own_goes}
 
 module _ (settings : Settings) (m : StorageState) (sound : IsSound settings m) (p : Subpool) where
-  -- a subpool with a page is there
+  -- a subpool with a page exists
   pub has_pages : (page : ℕ) → m.subpools.pages p page ≡ true → is_there m.subpools p ≡ true
   has_pages page e = sound.well_formed.pages.has_subpool page p (sound.named p page e)
 
-  -- what is there has a number of private storage and a task for its owner
+  -- what exists has a number of private storage and a task for its owner
   pub there_is_named : is_there m.subpools p ≡ true → CanBe p
   there_is_named there =
       let owner = sound.well_formed.tasks.numbered p.owner (sound.well_formed.sight.owner_is_task p.number p.owner there) in
@@ -46,7 +46,7 @@ module _ (settings : Settings) (m : StorageState) (sound : IsSound settings m) (
       (own.1, omega (arith, own.0, current.0), omega (arith, own.0, current.1))
   place_of false there = there_is_named there
 
--- a subpool that is made is there
+-- a subpool that is made exists
 pub own_is_there : (u : Subpools) (p : Subpool) → is_there (with_own u p true) p ≡ true
 own_is_there u p =
     ap (holds (λ owner. owner == p.owner))
@@ -54,7 +54,7 @@ own_is_there u p =
     (and_from (p.owner == p.owner) (p.number == p.number) (eq-eqb p.owner p.owner refl) (eq-eqb p.number p.number refl)))
     ∙ eq-eqb p.owner p.owner refl
 
--- the subpool is there once it is made, if it is new
+-- the subpool exists once it is made, if it is new
 pub made_is_there : (m : StorageState) (p : Subpool) (is_new : Bool) → CanOwn m p is_new → is_there (owned m p is_new).subpools p ≡ true
 made_is_there m p true own = own_is_there m.subpools p
 made_is_there m p false there = there

@@ -1,4 +1,4 @@
--- Tables of cell pools in order: what is found where a row is put or goes, and rows that pass a test.
+-- Tables of cell pools in order: what is found if a row is put or removed, and rows that pass a test.
 use Rattle.std.proofs.Common.{◌≡◌, ◌≢◌, ℕ, suc, ◌+◌, Ordering, Less, Equal, Greater, Bool, true, false, not, ◌&&◌, ◌||◌, if◌then◌else◌, cond, T, Option, Some, None, is_some, List, [], ◌∷◌, length, map, filter, refl, sym, ◌∙◌, ap, subst, true≢false, is_lt, is_eq, inl, inr, add-one}
 use Rattle.std.specs.Ordering.{nat_cmp, eq_by_cmp}
 use Rattle.std.specs.Option.{option_map}
@@ -33,7 +33,7 @@ below_is_other Less e = refl
 below_is_other Equal e = absurd (true≢false (sym e))
 below_is_other Greater e = refl
 
--- A name is tied with itself alone.
+-- A name is tied only with itself.
 pub same_name : (a b : List ℕ) → eq_by_cmp by_name a b ≡ true → a ≡ b
 same_name a b e = slice_cmp-IsAntisymmetric nat_cmp-IsAntisymmetric a b (tied (by_name a b) e)
 
@@ -44,7 +44,7 @@ pub other_name : (a b : List ℕ) → a ≢ b → eq_by_cmp by_name a b ≡ fals
 other_name a b apart =
     elim (cases_Bool (eq_by_cmp by_name a b)) [ inl is ↦ absurd (apart (same_name a b is)) | inr is ↦ is ]
 
--- a name that is below all names isn't there
+-- a name that is below all names isn't found
 pub none_below : (name : List ℕ) (rows : CellPools) → below_all by_name name rows ≡ true → cell_pool_in rows name ≡ None
 none_below name [] e = refl
 none_below name (row ∷ rows) e =
@@ -73,7 +73,7 @@ put_counted table name pool e none =
     length-put by_name nat_list_cmp_total name pool table (up _ e)
     ∙ ap (λ found. cond (is_some found) (length table) (length table + 1)) none ∙ add-one (length table)
 
--- A row that goes.
+-- A row that is removed.
 alike : (name x q : List ℕ) → by_name q x ≡ Equal → not (eq_by_cmp by_name name x) ≡ not (eq_by_cmp by_name name q)
 alike name x q e = ap (λ k. not (eq_by_cmp by_name name k)) (sym (same_name q x (ap is_eq e)))
 

@@ -58,7 +58,7 @@ nothing_freed m p start free = λ i. record m {
   };
 }
 
--- an area costs one blank element at most, and none where it has no doubleword
+-- an area costs one blank element at most, and none if it has no doubleword
 pub area_goes :
     (m : StorageState) (b g : ℕ → Option ℕ) (s left : ℕ) (p : Subpool) (start count : ℕ) (free : Bool) → is_there m.subpools p ≡ true
     → start + count ≤ 2 ^ 29 → ((d : ℕ) → inside d (run_of start count) ≡ true → m.subpools.free p d ≡ not free) → 1 ≤ left → left + min 1 count ≤ s
@@ -74,7 +74,7 @@ area_goes m b g s left p start (suc n) free there high other some less =
     (record { there = there; some = omega arith; high = high; other = other; room = omega (arith, less); room_after = omega (arith, some, after) })
     refl after
 
--- a state with a subpool more, if it is new
+-- a state with another subpool, if it is new
 abbrev pub sight_with : Subpools → Subpool → Bool → ℕ → ℕ → Option ℕ
 sight_with u p true = (with_own u p true).sight
 sight_with u p false = u.sight
@@ -116,7 +116,7 @@ extent_goes m b g s left p page count present there more high other some less =
     (record { there = there; some = more; high = high; other = other; room = omega (arith, less); room_after = omega (arith, some, after) })
     refl after
 
--- a state with other unassigned pages, and the frames that come and go
+-- a state with other unassigned pages, and the frames that are brought and given
 abbrev pub assigned : StorageState → (ℕ → Option ℕ) → ℕ → ℕ → Bool → StorageState
 assigned m brought page count are =
     record m {

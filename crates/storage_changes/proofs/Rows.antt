@@ -47,7 +47,7 @@ with_its_word m register word e = λ i. record m { tasks = record m.tasks { word
       let both = and_parts (t == m.tasks.current) (r == register) e2 in
       sym e ∙ λ i. m.tasks.words (sym (eqb-true t m.tasks.current both.0) i) (sym (eqb-true r register both.1) i)
 
--- on any walk a record for each register fits, and they set the registers alone,
+-- on any walk a record for each register fits, and they set only the registers,
 each_fit : (w : Walk) (rows : List (ℕ × ℕ)) → IsSome (w.state.tasks.parents w.state.tasks.current) → AreRegisters rows
     → FitInTurn w (map (register_record w.state.tasks.current) rows)
 each_fit w [] task are = tt
@@ -91,7 +91,7 @@ code_stays task words code e = ap (λ b. (if b then [] else register_record task
 pub code_changes : (task : ℕ) (words : ℕ → ℕ) (code : ℕ) → words 15 ≢ code → set_records task words ((15, code) ∷ []) ≡ register_record task (15, code) ∷ []
 code_changes task words code e = ap (λ b. (if b then [] else register_record task (15, code) ∷ []) ++ []) (ne_eqb (words 15) code e)
 
--- behind the first register each has a record
+-- after the first register each has a record
 pub rows_behind : (task : ℕ) (words : ℕ → ℕ) (row : ℕ × ℕ) (rows : List (ℕ × ℕ))
     → set_records task words (row ∷ []) ++ map (register_record task) rows ≡ set_records task words (row ∷ rows)
 rows_behind task words row rows = append_assoc (if words row.0 == row.1 then [] else register_record task row ∷ []) [] (map (register_record task) rows)
@@ -117,7 +117,7 @@ rows_lead : (m : StorageState) (rows : List (ℕ × ℕ)) → model_of (with_row
 rows_lead m [] = refl
 rows_lead m (row ∷ rows) = rows_lead (with_word m row.0 row.1) rows
 
--- what a sound storage has besides a well-formed state on the plain machine
+-- what a sound storage has in addition to a well-formed state on the plain machine
 pub record Stands (settings : Settings) (u : Subpools) (unassigned : ℕ → Bool) : Type 0 where
   pub apart : (p q : Subpool) (page : ℕ) → u.pages p page ≡ true → u.pages q page ≡ true → p ≡ q
   pub named : (p : Subpool) (page : ℕ) → u.pages p page ≡ true → subpool_of u page ≡ Some p
@@ -132,7 +132,7 @@ rows_stand : (settings : Settings) (m : StorageState) (rows : List (ℕ × ℕ))
 rows_stand settings m [] h = h
 rows_stand settings m (row ∷ rows) h = rows_stand settings (with_word m row.0 row.1) rows h
 
--- the current task is there
+-- the current task exists
 pub task_is_there : (settings : Settings) (m : StorageState) → IsSound settings m → IsSome (m.tasks.parents m.tasks.current)
 task_is_there settings m h = h.well_formed.tasks.current_is_task
 
@@ -158,7 +158,7 @@ leads_to settings m n d rows s fits there none fresh stands leads formed =
       leads = ap model_of there ∙ model;
     }
 
--- a change of these records and new frames, where they go there
+-- a change of these records and new frames, if they lead there
 pub leads_with_rows :
     (settings : Settings) (m n : StorageState) (records : List Record) (blanks : ℕ) (fresh : Run) (b g : ℕ → Option ℕ) (left : ℕ) (rows : List (ℕ × ℕ))
     (s : State) → Goes (outset m (change_of records blanks fresh)) records (with_rows n rows) b g left → ((a : ℕ) → b a ≡ None)

@@ -1,4 +1,4 @@
--- A task that shares a subpool, or doesn't any more, and back; and a subpool that passes to another task, and back.
+-- A task that shares a subpool, or no longer does, and back; and a subpool that passes to another task, and back.
 use Rattle.std.proofs.Common.{◌≡◌, ◌≢◌, ℕ, ◌+◌, ◌≤◌, Bool, true, false, not, ◌&&◌, ◌==◌, if◌then◌else◌, Option, Some, None, refl, sym, ap, ◌∙◌, arith}
 use Rattle.std.specs.Option.{option_map}
 use Rattle.std.proofs.lemmas.Bool.{eqb-true, eq-eqb, ne_eqb, and_left}

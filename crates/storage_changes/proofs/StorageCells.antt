@@ -1,4 +1,4 @@
--- The cell pools where those of some subpools go, and where a subpool is handed on.
+-- The cell pools if those of some subpools are removed, and if a subpool is passed on.
 use Rattle.std.proofs.Common.{◌≡◌, ℕ, Bool, true, false, not, ◌||◌, if◌then◌else◌, filter, Option, Some, None, IsSome, List, [], ◌∷◌, refl, sym, ◌∙◌, ap, subst, true≢false}
 use Rattle.std.specs.Prelude.{All}
 use Rattle.std.specs.Cmp.Lexicographic.{slice_cmp}
@@ -28,7 +28,7 @@ same_turned p q =
     (λ e. ap (λ r. same_subpool q r) (same-is p q e) ∙ same-self q)
     (λ e. ap (λ r. same_subpool p r) (same-is q p e) ∙ same-self p)
 
--- Where nothing is parked, the others of a subpool stay,
+-- If nothing is parked, the others of a subpool stay,
 pub others_stay : (p : Subpool) (x : Option Pool) → exchanged p x None ≡ all_but (lies_in p) x
 others_stay p None = refl
 others_stay p (Some q) = refl
@@ -40,7 +40,7 @@ rows_stay stay pools p named =
     ap cell_pools_in (λ i id. others_stay p (pools id) i)
     ∙ stay pools (lies_in p) (λ row. same_subpool p row.subpool) named (λ q. same_turned p q.settings.subpool)
 
--- No name comes to be there twice where what is there and what is parked was all there once.
+-- No name occurs twice if what exists and what is parked all existed once.
 pub can_exchange : (pools : ℕ → Option Pool) (m others : Subpools) (p : Subpool) → AreNamed pools
     → ((id : ℕ) (x : Pool) → HasPool m others id x → pools id ≡ Some x) → CanExchange m others p
 can_exchange pools m others p named was i j x y at is same =
@@ -48,7 +48,7 @@ can_exchange pools m others p named was i j x y at is same =
     let second = was j y is in
     ap (lies_in p) (same_some x y (sym first ∙ ap pools (named.once i j x y first second same) ∙ second))
 
--- Pools that were there already, under their ids, are named as they were,
+-- Pools that existed already, under their ids, are named as they were,
 pub kept_are_named : (pools others : ℕ → Option Pool) → AreNamed pools → ((id : ℕ) (x : Pool) → others id ≡ Some x → pools id ≡ Some x) → AreNamed others
 kept_are_named pools others named were = record {
   ids = λ id x at. named.ids id x (were id x at);
@@ -75,7 +75,7 @@ only_was gone (Some q) x at = chosen (gone q) at where
 pub left_are_named : (pools : ℕ → Option Pool) (gone : Pool → Bool) → AreNamed pools → AreNamed (λ id. all_but gone (pools id))
 left_are_named pools gone named = kept_are_named pools (λ id. all_but gone (pools id)) named (λ id x. all_but_was gone (pools id) x)
 
--- and those of a subpool that is handed on.
+-- and those of a subpool that is passed on.
 module _ (p : Subpool) (to : ℕ) where
   pub handed_name : (x : Pool) → (handed_on p to x).name ≡ x.name
   handed_name x = go (lies_in p x) where
@@ -115,7 +115,7 @@ module _ (p : Subpool) (to : ℕ) where
         subst HasCells is (handed_cells x (named.cells id x was));
   }
 
--- One subpool's cell pools go over, where those of others are parked already: what stays, and what is parked then.
+-- One subpool's cell pools move over, when those of others are parked already: what stays, and what is parked then.
 module _ (p : Subpool) (gone : Pool → Bool) (apart : (q : Pool) → gone q ≡ true → lies_in p q ≡ false) where
   pub goes_from : (x : Option Pool) → exchanged p (all_but gone x) (only gone x) ≡ all_but (λ q. lies_in p q || gone q) x
   goes_from None = refl
@@ -147,7 +147,7 @@ module _ (p : Subpool) (gone : Pool → Bool) (apart : (q : Pool) → gone q ≡
     go true is = over (lies_in p q) (apart q is)
     go false is = stay (lies_in p q)
 
--- no cell pool is there and parked
+-- no cell pool both exists and is parked
 pub not_both : (gone : Pool → Bool) (x : Option Pool) → IsSome (all_but gone x) → only gone x ≡ None
 not_both gone None some = refl
 not_both gone (Some q) some = go (gone q) some where
@@ -164,7 +164,7 @@ row_at P (row ∷ table) name pool h found =
       chosen true e later = subst P (same_some row.1 pool e) (All-head (λ row. P row.1) row table h)
       chosen false e later = later e
 
--- In a sound storage the subpool of each cell pool is there.
+-- In a sound storage the subpool of each cell pool exists.
 pub has_subpool : PoolsAreFound → (settings : Settings) (m : StorageState) → IsSound settings m → AreNamed m.subpools.cells → (id : ℕ) (q : Pool)
     → m.subpools.cells id ≡ Some q → is_there m.subpools q.settings.subpool ≡ true
 has_subpool found settings m sound named id q at =

@@ -12,7 +12,7 @@ use Rattle.storage_changes.specs.Steps.{walk, pages_step}
 use Rattle.storage_changes.specs.Fits.{PagesFits, FitInTurn}
 use Rattle.storage_changes.specs.Changes.{unassigned_records}
 
--- a state whose pages of a set are unassigned besides
+-- a state in which the pages of a set are also unassigned
 abbrev pub without_pages_in : StorageState → (ℕ → Bool) → StorageState
 without_pages_in m set =
     record m {

@@ -1,4 +1,4 @@
--- What the table becomes where cell pools change, come and go.
+-- What the table becomes if cell pools are created, change and are deleted.
 use Rattle.std.proofs.Common.{◌≡◌, ◌≢◌, ℕ, ◌^◌, ◌<◌, Bool, true, false, not, ◌==◌, if◌then◌else◌, Option, Some, None, List, option_map, map, filter, refl, sym, ◌∙◌, ap, inl, inr, ◌⊎◌, true≢false}
 use Rattle.std.proofs.lemmas.Bool.{cases_Bool, cond-true, cond-false}
 use Rattle.std.specs.Ordering.{eq_by_cmp}
@@ -12,12 +12,12 @@ use Rattle.service_laws.proofs.TaskTables.{ascending_left, found_still, none_sti
 use Rattle.storage_changes.proofs.PoolRows.{by_name, same_name, own_name, put_found, put_others, put_ascends, without_found, without_others, without_ascends}
 use Rattle.storage_changes.proofs.TabledPools.{same_number, number_is, number_apart, Has, has_or_not, IsTableOf, AreSingle, in_is, table_of}
 
--- a value that comes of a change was another before it
+-- a value that results from a change was another before it
 mapped : {A B : Type 0} (f : A → B) (o : Option A) (x : B) → option_map f o ≡ Some x → (y : A) × (o ≡ Some y) × (f y ≡ x)
 mapped f None x e = absurd (some_none x (sym e))
 mapped f (Some y) x e = (y, refl, same_some (f y) x e)
 
--- what the test leaves was there, and doesn't pass
+-- what the test leaves existed, and doesn't pass
 left_of : (test : Pool → Bool) (o : Option Pool) (x : Pool) → all_but test o ≡ Some x → (o ≡ Some x) × (test x ≡ false)
 left_of test None x e = absurd (some_none x (sym e))
 left_of test (Some y) x e =
@@ -112,7 +112,7 @@ module _ (pools : ℕ → Option Pool) (named : AreNamed pools) where
       none = changed_is_none;
     })
 
-  -- One comes.
+  -- One is created.
   module _ (id : ℕ) (p : Pool) (small : id < 2 ^ 32) (free : pools id ≡ None)
       (fresh : (i : ℕ) (q : Pool) → pools i ≡ Some q → q.name ≡ p.name → ⊥) where
     abbrev added : ℕ → Option Pool
@@ -180,7 +180,7 @@ module _ (pools : ℕ → Option Pool) (named : AreNamed pools) where
       none = added_is_none;
     })
 
-  -- One goes.
+  -- One is deleted.
   module _ (id : ℕ) (p : Pool) (there : pools id ≡ Some p) where
     abbrev gone : ℕ → Option Pool
     gone i = if i == id then None else pools i
@@ -233,7 +233,7 @@ module _ (pools : ℕ → Option Pool) (named : AreNamed pools) where
       none = gone_is_none;
     })
 
-  -- All go that pass a test.
+  -- All that pass a test are deleted.
   module _ (test : Pool → Bool) (passes : CellPool → Bool) (alike : (p : Pool) → passes (cell_pool_of p) ≡ test p) where
     abbrev others : ℕ → Option Pool
     others i = all_but test (pools i)

@@ -1,4 +1,4 @@
--- The table of cell pools is in order, and answers each name by the cell pool that has it; there is one such table.
+-- The table of cell pools is in order, and returns for each name the cell pool that has it; there is one such table.
 use Rattle.std.proofs.Common.{◌≡◌, ◌≢◌, ℕ, zero, suc, ◌^◌, ◌<◌, true, false, Option, Some, None, List, ◌==◌, refl, sym, ◌∙◌, ap, arith, inl, inr, ◌⊎◌, true≢false}
 use Rattle.std.proofs.lemmas.Bool.{cases_Bool}
 use Rattle.std.proofs.lemmas.Bool.Decides.{nat_tests}
@@ -11,7 +11,7 @@ use Rattle.storage_changes.specs.PoolTable.{cell_pool_of, with_row, cell_pools_b
 use Rattle.service_laws.proofs.Options.{some_none, same_some}
 use Rattle.storage_changes.proofs.PoolRows.{by_name, same_name, own_name, put_found, put_others, put_ascends}
 
--- Two numbers that are one, and the test of it.
+-- Two numbers that are equal, and the test of it.
 pub same_number : (a b : ℕ) → (a == b) ≡ true → a ≡ b
 same_number a b e = grind (arith, nat_tests)
 
@@ -80,7 +80,7 @@ below_ascends pools (suc n) =
 pub record AreSingle (pools : ℕ → Option Pool) : Type 0 where
   pub once : (i j : ℕ) (p q : Pool) → pools i ≡ Some p → pools j ≡ Some q → p.name ≡ q.name → i ≡ j
 
--- What the table has under a name, with one cell pool more.
+-- What the table has under a name, with another cell pool.
 module _ (pools : ℕ → Option Pool) (n : ℕ) (single : AreSingle pools) (name : List ℕ) where
   abbrev rows : CellPools
   rows = cell_pools_below pools n

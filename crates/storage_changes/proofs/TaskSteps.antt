@@ -1,4 +1,4 @@
--- A task that comes or goes, and back; and the turn that passes to a task, and back.
+-- A task that is attached or removed, and back; and the turn that passes to a task, and back.
 use Rattle.std.proofs.Common.{◌≡◌, ◌≢◌, ℕ, ◌+◌, ◌≤◌, Bool, true, false, not, ◌==◌, if◌then◌else◌, Option, Some, None, IsSome, refl, sym, ap, ◌∙◌, arith, subst}
 use Rattle.std.proofs.lemmas.Bool.{eqb-true, eq-eqb, ne_eqb}
 use Rattle.storage_changes.specs.declared.record.TaskRecord.{TaskRecord}

@@ -135,7 +135,7 @@ walk-out w (r ∷ rs) h = walk-out (step w r) rs (step-out w r h)
 -- a change
 
 module _ (m : StorageState) (d : Change) (h : Fit m d) where
-  -- behind the change, seen from the other side, is before the exchanged one
+  -- after the change, seen from the other side, is before the exchanged one
   turned-round : flip (arrival m d) ≡ outset (overlay m d) (inverse m d)
   turned-round = walk-same (flip (arrival m d)) (outset (overlay m d) (inverse m d)) refl (λ a. refl) h.brought refl refl
 

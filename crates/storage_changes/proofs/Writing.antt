@@ -126,7 +126,7 @@ module _ (settings : Settings) (m : StorageState) (address : ℕ) (bytes : List 
   abbrev count : ℕ
   count = blocks_for address (length bytes)
 
-  -- each byte of the blocks is there, as those of its page are
+  -- each byte of the blocks exists, as those of its page do
   had : (x : ℕ) → inside (x / 16) (run_of (address / 16) count) ≡ true → IsSome (m.bytes x)
   had x own =
       let (y, low, high, same) = touched address (length bytes) x own in

@@ -1,5 +1,5 @@
--- The records of a task that comes, and of a turn. Assembler Services Reference, ATTACH; Assembler Services Guide,
--- "Virtual storage management", "Subpool handling".
+-- The records of a task that is attached, and of a turn. Assembler Services Reference, ATTACH; Assembler Services
+-- Guide, "Virtual storage management", "Subpool handling".
 use Rattle.std.specs.Prelude.{◌≡◌, ℕ, ◌+◌, ◌*◌, Bool, true, false, Option, Some, None, List, [], ◌∷◌, ◌++◌, length}
 use Rattle.std.specs.List.{flat_map, list_any}
 use Rattle.vsm_model.specs.declared.Subpool.{Subpool}
@@ -60,8 +60,8 @@ abbrev pub with_attached : State → ℕ → Bool → List ℕ → List ℕ → 
 with_attached s task shares_zero gifts shares =
     with_shares (with_gifts (with_zero (with_task s task) task shares_zero) task gifts) task shares
 
--- The task has the least free number; the numbers are of private storage, each but once and none of them 0; and what
--- is given is nobody else's.
+-- The task has the least free number; the numbers are of private storage, each only once and none of them 0; and what
+-- is given belongs to nobody else.
 pub record CanAttach (s : State) (task : ℕ) (gifts shares : List ℕ) : Type 0 where
   pub number : free_number s ≡ Some task
   pub good : is_bad_list (gifts ++ shares) ≡ false

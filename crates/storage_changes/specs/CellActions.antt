@@ -1,5 +1,5 @@
--- The records of a cell pool that comes, hands out a cell, has a further extent, gets a cell back, or goes. Assembler
--- Services Reference, CPOOL; Assembler Services Guide, "Virtual storage management", "Using the CPOOL macro".
+-- The records of a cell pool that is created, hands out a cell, gets another extent, gets a cell back, or is deleted.
+-- Assembler Services Reference, CPOOL; Assembler Services Guide, "Virtual storage management", "Using the CPOOL macro".
 use Rattle.std.specs.Prelude.{◌≡◌, ℕ, ◌+◌, ◌*◌, ◌/◌, ◌^◌, ◌≤◌, true, false, drop, List, [], ◌∷◌, ◌++◌, length}
 use Rattle.run_set.specs.Runs.{Run}
 use Rattle.vsm_model.specs.declared.Subpool.{Subpool}
@@ -25,7 +25,7 @@ handed_out_records id cell = Cell (record { pool = id; cell = cell; free = false
 abbrev pub given_back_records : ℕ → ℕ → List Record
 given_back_records id cell = Cell (record { pool = id; cell = cell; free = true }) ∷ []
 
--- a cell pool has so many cells more from an address on
+-- a cell pool has this number of further cells from an address on
 abbrev pub extent_records : ℕ → ℕ → ℕ → List Record
 extent_records id start count =
     CellExtent (record { pool = id; start = start; count = count; present = true }) ∷ []
@@ -34,19 +34,19 @@ extent_records id start count =
 abbrev pub extent_blanks : ℕ → ℕ
 extent_blanks count = count + 2
 
--- An area of so many doublewords is taken at its place,
+-- An area of this many doublewords is taken at its place,
 abbrev pub area_records : Subpool → ℕ → Place → List Record
 area_records p count (Inside d) = take_records p d count
 area_records p count (Fresh page) = take_fresh_records p page count
 area_records p count Nowhere = []
 
--- with so many blank elements,
+-- with this many blank elements,
 abbrev pub area_blanks : Place → ℕ
 area_blanks (Inside d) = 3
 area_blanks (Fresh page) = 5
 area_blanks Nowhere = 0
 
--- and these pages come to be assigned.
+-- and these pages are assigned.
 abbrev pub area_pages : ℕ → Place → Run
 area_pages count (Inside d) = run_of 0 0
 area_pages count (Fresh page) = run_of page (pages_for count)
@@ -61,12 +61,12 @@ HasRoom m p count (Fresh page) =
     × ((k : ℕ) → among page (pages_for count) k ≡ true → m.unassigned k ≡ true)
 HasRoom m p count Nowhere = ⊥
 
--- the doublewords of an extent of so many cells
+-- the doublewords of an extent of this many cells
 abbrev pub doublewords_for : Pool → ℕ → ℕ
 doublewords_for p count = doublewords (count * p.settings.size)
 
--- Each of these extents is given back, with the pages that it empties once those before it are given back, whose
--- doublewords are free storage then,
+-- Each of these extents is given back, with the pages that it empties once those before it, whose doublewords are then
+-- free storage, are given back,
 abbrev pub extents_given_back : Subpools → Subpool → ℕ → List Extent → List Record
 extents_given_back m p size [] = []
 extents_given_back m p size (x ∷ xs) =
@@ -75,25 +75,25 @@ extents_given_back m p size (x ∷ xs) =
     give_back_records p (x.start / 8) count run.start run.len
     ++ extents_given_back (with_free m p (run_of (x.start / 8) count) true) p size xs
 
--- behind the cell pool's own record.
+-- after the cell pool's own record.
 abbrev pub deleting_records : Subpools → Pool → List Record
 deleting_records m p =
     CellPoolRow (record { pool = p.id; present = false })
     ∷ extents_given_back m p.settings.subpool p.settings.size p.extents
 
--- The blank elements that this takes at most: four for each extent, and one that has to be left.
+-- The most blank elements that this takes: four for each extent, and one that has to be left.
 abbrev pub deleting_blanks : Pool → ℕ
 deleting_blanks p = 4 * length p.extents + 1
 
--- the state in which a cell pool has the next cells, where the one that it hands out is its first free one,
+-- the state in which a cell pool has the next cells, if the one that it hands out is its first free one,
 abbrev pub with_handed_out : State → Pool → State
 with_handed_out s p = with_pool s p.name (record (cell_pool_of p) { free = drop 1 p.cells })
 
--- that in which a cell is its first free one,
+-- the state in which a cell is its first free one,
 abbrev pub with_given_back : State → Pool → ℕ → State
 with_given_back s p cell = with_pool s p.name (record (cell_pool_of p) { free = cell ∷ p.cells })
 
--- and that in which it has a further extent at a place, whose first cell it handed out.
+-- and the state in which it has another extent at a place, whose first cell it handed out.
 abbrev pub with_extended : State → Pool → ℕ → Place → State
 with_extended s p count goes =
     with_handed_out (with_area s p.settings.subpool (doublewords_for p count) goes)

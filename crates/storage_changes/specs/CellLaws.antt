@@ -31,7 +31,7 @@ HandingOutLeads =
     Leads settings m (change_of (handed_out_records p.id cell ++ register_records m rows) 0 (run_of 0 0))
     (with_registers (with_handed_out (model_of m) p) rows)
 
--- or, where none is free, the first one of a further extent;
+-- or, if none is free, the first one of another extent;
 abbrev pub ExtendingLeads : Type 0
 ExtendingLeads =
     (settings : Settings) (m : StorageState) (p : Pool) (count : ℕ) (goes : Place) (rows : List (ℕ × ℕ)) →
@@ -58,7 +58,7 @@ GivingBackCellsLeads =
     Leads settings m (change_of (given_back_records p.id cell ++ register_records m rows) 0 (run_of 0 0))
     (with_registers (with_given_back (model_of m) p cell) rows)
 
--- a cell pool comes, with its first extent, whose cells are free, in a subpool that is there or is made first.
+-- a cell pool is created, with its first extent, whose cells are free, in a subpool that exists or is made first.
 abbrev pub BuildingLeads : Type 0
 BuildingLeads =
     (settings : Settings) (m : StorageState) (p : Pool) (is_new : Bool) (count : ℕ) (goes : Place)
@@ -84,7 +84,7 @@ BuildingLeads =
     (with_area (with_new (model_of m) p.settings.subpool is_new) p.settings.subpool (doublewords_for p count) goes)
     p.name (cell_pool_of p)) rows)
 
--- A cell pool goes, and each of its extents is given back with the pages that it empties.
+-- A cell pool is deleted, and each of its extents is given back with the pages that it empties.
 abbrev pub DeletingLeads : Type 0
 DeletingLeads =
     (settings : Settings) (m : StorageState) (p : Pool) (rows : List (ℕ × ℕ)) →

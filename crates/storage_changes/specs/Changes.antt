@@ -37,13 +37,13 @@ abbrev pub unassigned_records : List Run → List Record
 unassigned_records [] = []
 unassigned_records (r ∷ rs) = Pages (record { run = r; assigned = false }) ∷ unassigned_records rs
 
--- The pages, the free storage and the cell pools of a subpool go over into the change as they stand: they change places
--- with those of an empty one that the change has parked under its name. Its pages become unassigned.
+-- The pages, the free storage and the cell pools of a subpool move into the change as they are: they change places with
+-- those of an empty one that the change has parked under its name. Its pages become unassigned.
 abbrev pub emptied_records : Subpools → Subpool → List Record
 emptied_records m p = Queues (record { subpool = p }) ∷ unassigned_records (extents m p)
 
--- What these records mean at a state, where a subpool is emptied first, or none is: an extent that leaves takes one
--- blank element more.
+-- What these records mean at a state, if a subpool is emptied first, or none is: an extent that leaves takes one more
+-- blank element.
 abbrev pub change_from : Subpools → Option Subpool → List Record → ℕ → Run → Change
 change_from m None records blanks fresh = change_of records blanks fresh
 change_from m (Some p) records blanks fresh =
@@ -64,7 +64,7 @@ empties (p ∷ ps) = with_own (empties ps) p true
 abbrev pub change_parking : List Subpool → List Record → ℕ → Change
 change_parking ps records blanks = record (change_of records blanks no_pages) { parked = empties ps }
 
--- a change by which a cell pool comes first, which it has parked until then
+-- a change that first creates a cell pool, which it has parked until then
 abbrev pub change_building : Pool → Change → Change
 change_building p d =
     record d {
@@ -76,11 +76,11 @@ change_building p d =
 abbrev pub outset : StorageState → Change → Walk
 outset m d = record { state = m; brought = d.frames; given = λ a. None; parked = d.parked; spare = d.blanks }
 
--- behind the last record
+-- after the last record
 abbrev pub arrival : StorageState → Change → Walk
 arrival m d = walk (outset m d) d.records
 
--- Each record fits where it is applied, and the frames are those of unassigned pages, which come to be assigned.
+-- Each record fits where it is applied, and the frames are those of unassigned pages, which become assigned.
 pub record Fit (m : StorageState) (d : Change) : Type 0 where
   pub in_turn : FitInTurn (outset m d) d.records
   pub fresh : (a : ℕ) → IsSome (d.frames a) → m.unassigned (a / 4096) ≡ true

@@ -15,16 +15,16 @@ use Rattle.storage_changes.specs.declared.record.Record.TheVariants.{Own, Queues
 use Rattle.storage_changes.specs.Changes.{unassigned_records}
 use Rattle.storage_changes.specs.State.{StorageState}
 
--- The task is just so many steps below another: each step goes from a task to its parent.
+-- The task is exactly this many steps below another: each step goes from a task to its parent.
 abbrev pub is_below_by : (ℕ → Option ℕ) → ℕ → ℕ → ℕ → Bool
 is_below_by parents top zero task = task == top
 is_below_by parents top (suc steps) task = holds (is_below_by parents top steps) (parents task)
 
--- the tasks that are so many steps below another
+-- the tasks that are this many steps below another
 abbrev pub ended_level : (ℕ → Option ℕ) → ℕ → ℕ → List ℕ
 ended_level parents top steps = filter (is_below_by parents top steps) (range_with_len 1 64)
 
--- The tasks up to so many steps below another, those furthest below it first.
+-- The tasks up to this many steps below another, those furthest below it first.
 abbrev pub ended_from : (ℕ → Option ℕ) → ℕ → ℕ → List ℕ
 ended_from parents top zero = ended_level parents top 0
 ended_from parents top (suc steps) = ended_level parents top (suc steps) ++ ended_from parents top steps
@@ -65,24 +65,24 @@ owned_in rows = map (λ row. row.0) (filter is_own rows)
 abbrev pub owned_by_these : Subpools → List ℕ → List Subpool
 owned_by_these m ended = owned_in (seen_by_these m ended)
 
--- The storage of a subpool goes over into the change, and its pages become unassigned.
+-- The storage of a subpool moves into the change, and its pages become unassigned.
 abbrev pub emptying_records : Subpools → Subpool → List Record
 emptying_records m p = Queues (record { subpool = p }) ∷ unassigned_records (extents m p)
 
 abbrev pub released_records : Subpools → List ℕ → List Record
 released_records m ended = flat_map (emptying_records m) (owned_by_these m ended)
 
--- the rows of those who share a subpool
+-- the rows of the tasks that share a subpool
 abbrev pub sharer_rows : Subpools → Subpool → List SightRow
 sharer_rows m p = map (λ task. (p, task)) (sharers m.sight p.number p.owner)
 
--- The rows that go with one of a task that ends. With an owner's own go those of all who share its subpool; a row of
--- another's subpool goes alone where its owner stays, and else with the owner's.
+-- The rows that are removed with one of a task that ends. An owner's own takes along those of all tasks that share its
+-- subpool; a row of another's subpool is removed by itself if its owner stays, and otherwise with the owner's.
 abbrev pub rows_with : Subpools → List ℕ → SightRow → List SightRow
 rows_with m ended row =
     if is_own row then sharer_rows m row.0 else if is_in ended row.0.owner then [] else row ∷ []
 
--- the rows that go besides those of owners: none of their tasks sees the subpool any more
+-- the rows that are removed except those of owners: none of their tasks sees the subpool any longer
 abbrev pub rows_unseen : Subpools → List ℕ → List SightRow
 rows_unseen m ended = flat_map (rows_with m ended) (seen_by_these m ended)
 
@@ -92,7 +92,7 @@ unshared row = Sharer (record { subpool = row.0; task = row.1; present = false }
 abbrev pub unshared_records : Subpools → List ℕ → List Record
 unshared_records m ended = map unshared (rows_unseen m ended)
 
--- the subpools, which are empty by then and seen by their owners alone, are gone
+-- the subpools, which are empty by then and which only their owners see, are gone
 abbrev pub removed : Subpool → Record
 removed p = Own (record { subpool = p; present = false })
 
@@ -127,11 +127,11 @@ with_turn m next = record m { tasks = record m.tasks { current = next } }
 abbrev pub end_blanks : StorageState → List ℕ → ℕ
 end_blanks m ended = 1 + length (released_records m.subpools ended)
 
--- how many extents their subpools have,
+-- the number of extents that their subpools have,
 abbrev pub extents_ended : Subpools → List ℕ → ℕ
 extents_ended m ended = length (flat_map (extents m) (owned_by_these m ended))
 
--- and how many rows of sight go besides those of owners
+-- and the number of rows of sight that are removed except those of owners
 abbrev pub sights_ended : Subpools → List ℕ → ℕ
 sights_ended m ended = length (rows_unseen m ended)
 
@@ -140,7 +140,7 @@ abbrev pub weight_ended : Subpools → List ℕ → ℕ
 weight_ended m ended =
     length ended + length (owned_by_these m ended) + extents_ended m ended + sights_ended m ended
 
--- each task comes but once, behind all those whose parent it is
+-- each task occurs only once, after all those whose parent it is
 abbrev pub AreSubtasksFirst : (ℕ → Option ℕ) → List ℕ → List ℕ → Type 0
 AreSubtasksFirst parents gone [] = Unit {0}
 AreSubtasksFirst parents gone (task ∷ tasks) =
@@ -148,7 +148,7 @@ AreSubtasksFirst parents gone (task ∷ tasks) =
     × ((subtask : ℕ) → parents subtask ≡ Some task → is_in gone subtask ≡ true)
     × AreSubtasksFirst parents (task ∷ gone) tasks
 
--- These tasks can end in this order, and it's then the turn of one that doesn't.
+-- These tasks can end in this order, and then it's the turn of one that doesn't.
 pub record CanEnd (s : State) (ended : List ℕ) (next : ℕ) : Type 0 where
   pub order : AreSubtasksFirst s.parents [] ended
   pub tasks : (task : ℕ) → is_in ended task ≡ true → is_task s task ≡ true

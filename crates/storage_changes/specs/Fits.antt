@@ -1,4 +1,4 @@
--- When a record fits: its places have the other value, what it needs is there, and an element is left before and after
+-- When a record fits: its places have the other value, what it needs exists, and an element is left before and after
 -- each call on a queue.
 use Rattle.std.specs.Prelude.{◌≡◌, ◌≢◌, ℕ, ◌+◌, ◌*◌, ◌/◌, ◌^◌, ◌<◌, ◌≤◌, Bool, true, false, not, List, [], ◌∷◌, length}
 use Rattle.std.specs.Prelude.{Option, Some, None, IsSome, if◌then◌else◌}
@@ -71,8 +71,8 @@ pub record OwnFits (w : Walk) (r : OwnRecord) : Type 0 where
   pub room : 0 < w.spare
   pub room_after : 0 < (own_step w r).spare
 
--- The subpool is there, and parked under the same name. No cell pool is both there and parked, and no name comes to be
--- there twice.
+-- The subpool exists, and is parked under the same name. No cell pool both exists and is parked, and no name occurs
+-- twice among those that exist then.
 pub record QueuesFits (w : Walk) (r : QueuesRecord) : Type 0 where
   pub there : is_there w.state.subpools r.subpool ≡ true
   pub parked : is_there w.parked r.subpool ≡ true
@@ -83,13 +83,13 @@ pub record RegisterFits (w : Walk) (r : RegisterRecord) : Type 0 where
   pub task : IsSome (w.state.tasks.parents r.task)
   pub register : r.register < 16
 
--- There are four words, and as many registers from the first on.
+-- There are four words, and the same number of registers from the first on.
 pub record RegistersFits (w : Walk) (r : RegistersRecord) : Type 0 where
   pub task : IsSome (w.state.tasks.parents r.task)
   pub first : r.first + 4 ≤ 16
   pub four : length r.words ≡ 4
 
--- The task isn't the first nor the current one, its parent is there, nobody has it for a parent, and its registers are
+-- The task is neither the first nor the current one, its parent exists, it is nobody's parent, and its registers are
 -- zeros.
 pub record TaskFits (w : Walk) (r : TaskRecord) : Type 0 where
   pub range : (1 ≤ r.task) × (r.task ≤ 64)
@@ -106,7 +106,7 @@ pub record TurnFits (w : Walk) (r : TurnRecord) : Type 0 where
   pub task : IsSome (w.state.tasks.parents r.task)
   pub current : IsSome (w.state.tasks.parents w.state.tasks.current)
 
--- The subpool is there, and the task, which isn't its owner, sees it or none of its number.
+-- The subpool exists, and the task, which isn't its owner, sees it or none of its number.
 pub record SharerFits (w : Walk) (r : SharerRecord) : Type 0 where
   pub there : is_there w.state.subpools r.subpool ≡ true
   pub range : (1 ≤ r.task) × (r.task ≤ 64)
@@ -115,7 +115,7 @@ pub record SharerFits (w : Walk) (r : SharerRecord) : Type 0 where
       w.state.subpools.sight r.task r.subpool.number ≡ (if r.present then None else Some r.subpool.owner)
   pub room : 1 ≤ w.spare + (if r.present then 0 else 1)
 
--- The subpool is there, and the task that it passes to sees and owns none of its number.
+-- The subpool exists, and the task that it passes to sees and owns none of its number.
 pub record PassFits (w : Walk) (r : PassRecord) : Type 0 where
   pub there : is_there w.state.subpools r.subpool ≡ true
   pub owner : (1 ≤ r.subpool.owner) × (r.subpool.owner ≤ 64)
@@ -128,7 +128,8 @@ pub record PassFits (w : Walk) (r : PassRecord) : Type 0 where
       (id : ℕ) (p : Pool) → w.state.subpools.cells id ≡ Some p
       → same_subpool p.settings.subpool (owned_by r.subpool r.to) ≡ false
 
--- The cell pool is there or parked, as it goes or comes, and not both; no other one there or parked has its name.
+-- The cell pool exists if it is removed, or is parked if it is created, but not both; no other one, existing or parked,
+-- has its name.
 pub record CellPoolFits (w : Walk) (r : CellPoolRecord) : Type 0 where
   pub here : IsSome (if r.present then w.parked.cells r.pool else w.state.subpools.cells r.pool)
   pub not_there : (if r.present then w.state.subpools.cells r.pool else w.parked.cells r.pool) ≡ None
@@ -136,11 +137,11 @@ pub record CellPoolFits (w : Walk) (r : CellPoolRecord) : Type 0 where
       (p : Pool) → (if r.present then w.parked.cells r.pool else w.state.subpools.cells r.pool) ≡ Some p
       → IsSingle w.state.subpools w.parked r.pool p.name
 
--- each cell pool that is there has its own id
+-- each cell pool that exists has its own id
 abbrev pub AreUnderTheirIds : (ℕ → Option Pool) → Type 0
 AreUnderTheirIds pools = (id : ℕ) (p : Pool) → pools id ≡ Some p → p.id ≡ id
 
--- The extent has a cell, lies within 32 bits and overlaps no other one of the cell pool; where it's the last one, its
+-- The extent has a cell, lies within 32 bits and overlaps no other one of the cell pool; if it's the last one, its
 -- cells are the end of the free ones.
 pub record IsExtent (r : CellExtentRecord) (p rest : Pool) : Type 0 where
   pub some : 0 < r.count

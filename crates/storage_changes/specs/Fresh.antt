@@ -1,4 +1,4 @@
--- Between two sound states, the pages that come to be assigned are just those that the plain machine newly assigns.
+-- Between two sound states, the pages that become assigned are exactly those that the plain machine newly assigns.
 use Rattle.std.specs.Prelude.{◌≡◌, ℕ, true, false, not, ◌&&◌, is_some}
 use Rattle.run_set.specs.Runs.{Run, inside}
 use Rattle.vsm_model.specs.declared.limits.Settings.{Settings}

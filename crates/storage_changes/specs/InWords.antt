@@ -1,4 +1,4 @@
--- A record of an area, as it stands in words.
+-- A record of an area, in words.
 use Rattle.std.specs.Prelude.{ℕ, List, ◌==◌}
 use Rattle.storage_changes.specs.declared.record.AreaRecord.{AreaRecord}
 use Rattle.storage_changes.specs.Records.{word, subpool_in, run_in}

@@ -22,29 +22,29 @@ ChangesLeadBack = (m : StorageState) (d : Change) → Fit m d
 abbrev pub CanBe : Subpool → Type 0
 CanBe p = (p.number ≤ 127) × (1 ≤ p.owner) × (p.owner ≤ 64)
 
--- no page is two subpools'
+-- no page belongs to two subpools
 abbrev pub PagesAreApart : Subpools → Type 0
 PagesAreApart m = (p q : Subpool) (page : ℕ) → m.pages p page ≡ true → m.pages q page ≡ true → p ≡ q
 
--- The subpool that has a page is the one that the search answers,
+-- The subpool that has a page is the one that the search returns,
 abbrev pub PagesAreNamed : Type 0
 PagesAreNamed = (m : Subpools) → PagesAreApart m → (p : Subpool) (page : ℕ) → CanBe p → m.pages p page ≡ true
     → subpool_of m page ≡ Some p
 
--- a subpool that it answers has the page, and where it answers none no subpool has it.
+-- a subpool that it returns has the page, and if it returns none no subpool has it.
 abbrev pub NamedPagesAreThere : Type 0
 NamedPagesAreThere =
     (m : Subpools) (page : ℕ)
     → ((p : Subpool) → subpool_of m page ≡ Some p → m.pages p page ≡ true)
     × ((p : Subpool) → subpool_of m page ≡ None → CanBe p → m.pages p page ≡ false)
 
--- Pages that were nobody's and join a subpool are named by it, and the others as before;
+-- Pages that belonged to nobody and join a subpool are named by it, and the others as before;
 abbrev pub JoinedPagesAreNamed : Type 0
 JoinedPagesAreNamed = (m : Subpools) (p : Subpool) (run : Run) → CanBe p
     → ((q : Subpool) (page : ℕ) → inside page run ≡ true → m.pages q page ≡ false)
     → (page : ℕ) → subpool_of (with_pages m p run true) page ≡ (if inside page run then Some p else subpool_of m page)
 
--- pages that leave their subpool are nobody's, and the others stay named as before.
+-- pages that leave their subpool belong to nobody, and the others stay named as before.
 abbrev pub LeftPagesAreNobodys : Type 0
 LeftPagesAreNobodys = (m : Subpools) (p : Subpool) (run : Run) → PagesAreApart m
     → ((page : ℕ) → inside page run ≡ true → m.pages p page ≡ true)
@@ -57,7 +57,7 @@ AreasAreTaken = (m : StorageState) (p : Subpool) (area : Run)
     → model_of (record m { subpools = with_free m.subpools p area false })
     ≡ with_taken (model_of m) area.start area.len
 
--- and one that joins it isn't taken any more.
+-- and one that joins it is no longer taken.
 abbrev pub AreasAreFreed : Type 0
 AreasAreFreed = (m : StorageState) (p : Subpool) (area : Run)
     → ((d : ℕ) → inside d area ≡ true → subpool_of m.subpools (d / 512) ≡ Some p)
@@ -74,7 +74,7 @@ abbrev pub UnassignedPagesAreNobodys : Type 0
 UnassignedPagesAreNobodys = (settings : Settings) (m : StorageState) → IsSound settings m
     → (page : ℕ) → in_a_region settings page ≡ true → m.unassigned page ≡ not (is_some ((model_of m).pages page))
 
--- each page that a change comes to assign has a frame that the change brings
+-- each page that a change assigns has a frame that the change brings
 abbrev pub AssignedPagesAreBrought : Type 0
 AssignedPagesAreBrought = (m : StorageState) (d : Change) (page : ℕ) → Fit m d
     → m.unassigned page ≡ true → (overlay m d).unassigned page ≡ false → IsSome (d.frames (4096 * page))

@@ -1,4 +1,4 @@
--- What a change of records comes to on the plain machine.
+-- What a change of records leads to on the plain machine.
 use Rattle.std.specs.Prelude.{◌≡◌, ℕ, ◌<◌, ◌≤◌, ◌&&◌, true, false, Bool, if◌then◌else◌, None, List, All}
 use Rattle.run_set.specs.Runs.{Run, inside}
 use Rattle.vsm_model.specs.declared.Subpool.{Subpool}
@@ -22,7 +22,7 @@ pub record Leads (settings : Settings) (m : StorageState) (d : Change) (s : Stat
 abbrev pub with_new : State → Subpool → Bool → State
 with_new s p is_new = if is_new then with_subpool s p.number p.owner else s
 
--- a new subpool is the current task's, which sees none of its number; another is there
+-- a new subpool belongs to the current task, which sees none of its number; any other exists
 abbrev pub CanOwn : StorageState → Subpool → Bool → Type 0
 CanOwn m p true =
     (p.owner ≡ m.tasks.current) × (p.number ≤ 127) × (m.subpools.sight p.owner p.number ≡ None)
@@ -32,7 +32,7 @@ CanOwn m p false = is_there m.subpools p ≡ true
 abbrev pub AreRegisters : List (ℕ × ℕ) → Type 0
 AreRegisters rows = All (λ row. row.0 < 16) rows
 
--- These are just the pages of the subpool that have no taken doubleword once the area isn't taken any more.
+-- These are exactly the pages of the subpool that have no taken doubleword once the area is no longer taken.
 abbrev pub AreIdle : State → Subpool → ℕ → ℕ → Run → Type 0
 AreIdle s p d count run =
     (page : ℕ) → inside page run

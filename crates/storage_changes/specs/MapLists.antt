@@ -33,7 +33,7 @@ FreeAreasAreShown = (settings : Settings) (m : StorageState) (p : Subpool) → s
     → flat_map (plain.free_areas (model_of m) p) (ascending_regions settings)
     ≡ map pair_of (in_place.free_areas m.subpools p)
 
--- An extent ends before the last page that there can be, and a free area before the last doubleword.
+-- An extent ends before the last page that is possible, and a free area before the last doubleword.
 abbrev pub ExtentsEndInRegions : Type 0
 ExtentsEndInRegions = (settings : Settings) (m : StorageState) (p : Subpool) (i : ℕ) (r : Run)
     → settings_valid settings ≡ true → IsSound settings m
@@ -44,12 +44,12 @@ FreeAreasEndInRegions = (settings : Settings) (m : StorageState) (p : Subpool) (
     → settings_valid settings ≡ true → IsSound settings m
     → slice_get (in_place.free_areas m.subpools p) i ≡ Some r → r.start + r.len < 2 ^ 29
 
--- The tasks that see a subpool besides its owner are the same.
+-- The tasks that see a subpool and aren't its owner are the same.
 abbrev pub SharersAreShown : Type 0
 SharersAreShown = (m : StorageState) (number owner : ℕ)
     → sharers (model_of m) number owner ≡ pools.sharers m.subpools.sight number owner
 
--- The lines of all subpools are those of the subpools that are there, in their order.
+-- The lines of all subpools are those of the subpools that exist, in their order.
 abbrev pub SubpoolsAreShown : Type 0
 SubpoolsAreShown = (settings : Settings) (m : StorageState)
     → flat_map (λ number. flat_map (subpool_lines settings (model_of m) number) (numbers 1 65)) (numbers 0 128)
@@ -68,7 +68,7 @@ abbrev pub UnassignedAreShown : Type 0
 UnassignedAreShown = (settings : Settings) (m : StorageState) → settings_valid settings ≡ true → IsSound settings m
     → flat_map (unassigned_in (model_of m)) (ascending_regions settings) ≡ map pair_of (unassigned_runs m)
 
--- none ends behind the last page that there can be;
+-- none ends past the last page that is possible;
 abbrev pub UnassignedEndInRegions : Type 0
 UnassignedEndInRegions = (settings : Settings) (m : StorageState) (i : ℕ) (r : Run) → settings_valid settings ≡ true
     → IsSound settings m → slice_get (unassigned_runs m) i ≡ Some r → r.start + r.len < 2 ^ 20

@@ -48,7 +48,7 @@ BytesAreCounted = (settings : Settings) (m : StorageState) → settings_valid se
     × (total_bytes settings (model_of m) true + total_bytes settings (model_of m) false
     ≡ 4096 * (all_pages m.subpools true + all_pages m.subpools false))
 
--- None of these sums is more than the pages, or the doublewords, that there can be.
+-- None of these sums is more than the pages, or the doublewords, that can exist.
 abbrev pub TotalsAreFew : Type 0
 TotalsAreFew = (settings : Settings) (m : StorageState) → settings_valid settings ≡ true → IsSound settings m
     → ((below : Bool) (p : Subpool) → subpool_pages m.subpools below p ≤ 2 ^ 20)

@@ -16,7 +16,7 @@ abbrev pub first_of : {A : Type 0} → (A → Bool) → List A → Option A
 first_of passes [] = None
 first_of passes (x ∷ xs) = if passes x then Some x else first_of passes xs
 
--- every subpool that there can be, by number and then by owner: closed, since there are many
+-- every possible subpool, by number and then by owner: closed, since there are many
 unfoldable pub all_subpools : List Subpool
 all_subpools =
     flat_map (λ number. map (λ owner. record { number = number; owner = owner }) (range_with_len 1 64))
@@ -26,7 +26,7 @@ all_subpools =
 abbrev pub subpool_of : Subpools → ℕ → Option Subpool
 subpool_of m page = first_of (λ p. m.pages p page) all_subpools
 
--- a doubleword of a subpool's page is taken where it isn't in its free storage
+-- a doubleword of a subpool's page is taken if it isn't in its free storage
 abbrev pub is_taken : Subpools → Option Subpool → ℕ → Bool
 is_taken m None d = false
 is_taken m (Some p) d = not (m.free p d)
@@ -46,8 +46,8 @@ model_of m =
       cell_pools = cell_pools_in m.subpools.cells;
     }
 
--- No page is two subpools', the unassigned pages are the rest of the regions, free storage lies in its subpool's pages,
--- and the plain machine's state is well-formed.
+-- No page belongs to two subpools, the unassigned pages are the rest of the regions, free storage lies in its subpool's
+-- pages, and the plain machine's state is well-formed.
 pub record IsSound (settings : Settings) (m : StorageState) : Type 0 where
   pub apart : (p q : Subpool) (page : ℕ) → m.subpools.pages p page ≡ true → m.subpools.pages q page ≡ true → p ≡ q
   pub named : (p : Subpool) (page : ℕ) → m.subpools.pages p page ≡ true → subpool_of m.subpools page ≡ Some p

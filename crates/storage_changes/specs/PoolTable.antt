@@ -20,7 +20,7 @@ cell_pool_of p =
       free = p.cells;
     }
 
--- a cell pool that is there has its place in the table
+-- a cell pool that exists has its place in the table
 abbrev pub with_row : CellPools → Option Pool → CellPools
 with_row table None = table
 with_row table (Some p) = with_cell_pool table p.name (cell_pool_of p)

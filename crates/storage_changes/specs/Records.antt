@@ -1,4 +1,4 @@
--- How a record stands in the seven words of an element: its kind, its places and their other value.
+-- How a record is stored in the seven words of an element: its kind, its places and their other value.
 use Rattle.std.specs.Prelude.{ℕ, ◌+◌, Bool, List, [], ◌∷◌, ◌++◌, ◌%◌, ◌==◌, slice_index_or, if◌then◌else◌}
 use Rattle.run_set.specs.Runs.{Run}
 use Rattle.vsm_model.specs.declared.Subpool.{Subpool}
@@ -64,7 +64,7 @@ abbrev pub four_at : List ℕ → ℕ → List ℕ
 four_at bytes place = slice_index_or bytes place 0 ∷ slice_index_or bytes (place + 1) 0
     ∷ slice_index_or bytes (place + 2) 0 ∷ slice_index_or bytes (place + 3) 0 ∷ []
 
--- The first word says of which kind the record is. What the others say depends on the kind.
+-- The first word gives the kind of the record. What the others mean depends on the kind.
 unfoldable pub record_of : List ℕ → Record
 record_of words =
     if word words 0 == 0 then

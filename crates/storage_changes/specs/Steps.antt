@@ -118,7 +118,7 @@ registers_step w r =
       };
     }
 
--- A task below its parent, whose registers are zeros where it isn't there and where it is: it has four elements.
+-- A task below its parent, whose registers are zeros both if it exists and if it doesn't: it has four elements.
 
 abbrev pub task_spare : Walk → TaskRecord → ℕ
 task_spare w r = if r.present then w.spare - 4 else w.spare + 4
@@ -182,7 +182,7 @@ cell_extent_step w r =
       spare = if r.present then w.spare - extent_elements r else w.spare + extent_elements r;
     }
 
--- the first free cell of a cell pool, which has its element while it's in use, too
+-- the first free cell of a cell pool, which also has its element while it's in use
 
 abbrev pub cell_change : CellRecord → Pool → Pool
 cell_change r = if r.free then with_first r.cell else without_first

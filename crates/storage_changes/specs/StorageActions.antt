@@ -44,15 +44,15 @@ returned_records p page (suc n) =
 abbrev pub take_records : Subpool → ℕ → ℕ → List Record
 take_records p d count = area_records p d count false
 
--- They are taken at the first byte of new pages, whose doublewords behind them become free.
+-- They are taken at the first byte of new pages, whose doublewords after them become free.
 abbrev pub take_fresh_records : Subpool → ℕ → ℕ → List Record
 take_fresh_records p page count =
     assigned_records p page (pages_for count)
     ++ area_records p (512 * page + count) (512 * pages_for count - count) true
 
--- They are given back, and so many pages from this one on, which have no other taken doubleword, leave the subpool:
--- what of the area lies beside these pages becomes free, and what of the pages lies beside the area, which is free,
--- taken.
+-- They are given back, and this many pages from this one on, which have no other taken doubleword, leave the subpool:
+-- what of the area lies outside these pages becomes free, and what of the pages lies outside the area, which is free,
+-- becomes taken.
 abbrev pub give_back_records : Subpool → ℕ → ℕ → ℕ → ℕ → List Record
 give_back_records p d count page zero = area_records p d count true
 give_back_records p d count page (suc n) =
@@ -62,7 +62,7 @@ give_back_records p d count page (suc n) =
     ++ area_records p (d + count) (512 * (page + suc n) - (d + count)) false
     ++ returned_records p page (suc n)
 
--- the first page that an area from d on empties: it keeps the one that it begins in where some doubleword before it is
+-- the first page that an area from d on empties: it keeps the one that it begins in if some doubleword before it is
 -- taken there,
 abbrev pub first_emptied : Subpools → Subpool → ℕ → ℕ
 first_emptied m p d = if all_pass (m.free p) (512 * (d / 512)) (d - 512 * (d / 512)) then d / 512 else d / 512 + 1
@@ -76,11 +76,11 @@ past_emptied m p end =
 abbrev pub emptied_pages : Subpools → Subpool → ℕ → ℕ → Run
 emptied_pages m p d count = run_of (first_emptied m p d) (past_emptied m p (d + count) - first_emptied m p d)
 
--- the bytes once these stand from the address on
+-- the bytes once these are stored from the address on
 abbrev pub bytes_with : (ℕ → Option ℕ) → ℕ → List ℕ → ℕ → Option ℕ
 bytes_with old address bytes a = if among address (length bytes) a then slice_get bytes (a - address) else old a
 
--- how many blocks of sixteen bytes so many bytes from the address on touch
+-- the number of blocks of sixteen bytes that this many bytes from the address on touch
 abbrev pub blocks_for : ℕ → ℕ → ℕ
 blocks_for address zero = 0
 blocks_for address (suc n) = (address + n) / 16 + 1 - address / 16
@@ -95,8 +95,8 @@ write_records m address bytes =
 abbrev pub register_record : ℕ → ℕ × ℕ → Record
 register_record task row = Register (record { task = task; register = row.0; word = row.1 })
 
--- Registers of a task get words. The first of them, which has the return code, mostly has its word already, and then no
--- record.
+-- Registers of a task get words. The first of them, which has the return code, mostly has its word already, and then
+-- needs no record.
 abbrev pub set_records : ℕ → (ℕ → ℕ) → List (ℕ × ℕ) → List Record
 set_records task words [] = []
 set_records task words (row ∷ rows) =

@@ -56,7 +56,7 @@ GivingBackLeads =
     Leads settings m (change_of (give_back_records p d count page n ++ register_records m rows) 5 (run_of 0 0))
     (with_registers (without_area (model_of m) p d count) rows)
 
--- these pages are a run, which its first and its last page alone have to be looked at for;
+-- these pages are a run, for which only its first and its last page have to be looked at;
 abbrev pub EmptiedPagesAreARun : Type 0
 EmptiedPagesAreARun =
     (settings : Settings) (m : StorageState) (p : Subpool) (d count : ℕ) →
@@ -65,7 +65,7 @@ EmptiedPagesAreARun =
     AreIdle (model_of m) p d count (emptied_pages m.subpools p d count)
     × ((emptied_pages m.subpools p d count).start + (emptied_pages m.subpools p d count).len ≤ 2 ^ 20)
 
--- the pages, the free storage and the cell pools of a subpool go, with the doublewords that were taken there;
+-- the pages, the free storage and the cell pools of a subpool are removed, with the doublewords that were taken there;
 abbrev pub EmptyingLeads : Type 0
 EmptyingLeads =
     (settings : Settings) (m : StorageState) (p : Subpool) (rows : List (ℕ × ℕ)) →
@@ -75,7 +75,7 @@ EmptyingLeads =
     Leads settings m (change_from m.subpools (Some p) (register_records m rows) 1 (run_of 0 0))
     (with_registers (without_storage (model_of m) (same_subpool p)) rows)
 
--- bytes are written where there are some;
+-- bytes are written where some exist;
 abbrev pub WritingLeads : Type 0
 WritingLeads =
     (settings : Settings) (m : StorageState) (address : ℕ) (bytes : List ℕ) →
@@ -83,7 +83,7 @@ WritingLeads =
     IsWellFormed settings (with_bytes (model_of m) address bytes) →
     Leads settings m (change_of (write_records m address bytes) 0 (run_of 0 0)) (with_bytes (model_of m) address bytes)
 
--- and registers alone are set.
+-- and only registers are set.
 abbrev pub SettingLeads : Type 0
 SettingLeads =
     (settings : Settings) (m : StorageState) (rows : List (ℕ × ℕ)) →

@@ -1,4 +1,5 @@
--- Laws of the table of cell pools: what is found in it, and what it becomes where cell pools come, change and go.
+-- Laws of the table of cell pools: what is found in it, and what it becomes if cell pools are created, change and are
+-- deleted.
 use Rattle.std.specs.Prelude.{◌≡◌, ◌≢◌, ℕ, ◌^◌, ◌<◌, Bool, true, not, ◌==◌, ◌↔◌, if◌then◌else◌, Option, Some, None}
 use Rattle.std.specs.Prelude.{IfSome, option_map, List, map, filter, length, AllPairs}
 use Rattle.std.specs.List.{list_any}
@@ -26,7 +27,7 @@ PoolsAreFound = (pools : ℕ → Option Pool) → AreNamed pools
     × ((name : List ℕ) → IfSome (cell_pool_in (cell_pools_in pools) name) (λ found.
     ∥ ((id : ℕ) × (p : Pool) × (pools id ≡ Some p) × (p.name ≡ name) × (found ≡ cell_pool_of p)) ∥₁))
 
--- none is found where no cell pool has the name
+-- none is found if no cell pool has the name
 abbrev pub OthersAreNotFound : Type 0
 OthersAreNotFound = (pools : ℕ → Option Pool) (name : List ℕ) → AreNamed pools
     → ((id : ℕ) (p : Pool) → pools id ≡ Some p → p.name ≡ name → ⊥)
@@ -39,25 +40,25 @@ ChangedPoolsHaveTheirRow = (pools : ℕ → Option Pool) (id : ℕ) (p : Pool) (
     → cell_pools_in (λ i. option_map (at_id id change) (pools i))
     ≡ with_cell_pool (cell_pools_in pools) p.name (cell_pool_of (change p))
 
--- one that comes has a row of its own,
+-- one that is created has a row of its own,
 abbrev pub NewPoolsHaveARow : Type 0
 NewPoolsHaveARow = (pools : ℕ → Option Pool) (id : ℕ) (p : Pool) → AreNamed pools → id < 2 ^ 32 → pools id ≡ None
     → ((i : ℕ) (q : Pool) → pools i ≡ Some q → q.name ≡ p.name → ⊥)
     → cell_pools_in (λ i. if i == id then Some p else pools i)
     ≡ with_cell_pool (cell_pools_in pools) p.name (cell_pool_of p)
 
--- one that goes has none,
+-- one that is deleted has none,
 abbrev pub GonePoolsHaveNoRow : Type 0
 GonePoolsHaveNoRow = (pools : ℕ → Option Pool) (id : ℕ) (p : Pool) → AreNamed pools → pools id ≡ Some p
     → cell_pools_in (λ i. if i == id then None else pools i) ≡ without_cell_pool (cell_pools_in pools) p.name
 
--- where all go that pass a test, the others have theirs,
+-- if all that pass a test are deleted, the others have theirs,
 abbrev pub RowsOfTheOthersStay : Type 0
 RowsOfTheOthersStay = (pools : ℕ → Option Pool) (test : Pool → Bool) (passes : CellPool → Bool) → AreNamed pools
     → ((p : Pool) → passes (cell_pool_of p) ≡ test p)
     → cell_pools_in (λ i. all_but test (pools i)) ≡ filter (λ row. not (passes row.1)) (cell_pools_in pools)
 
--- and where all change, and keep their names, each row does.
+-- and if all change, and keep their names, each row does.
 abbrev pub AllRowsChange : Type 0
 AllRowsChange = (pools : ℕ → Option Pool) (change : Pool → Pool) (row_change : CellPool → CellPool) → AreNamed pools
     → ((p : Pool) → (change p).name ≡ p.name) → ((p : Pool) → cell_pool_of (change p) ≡ row_change (cell_pool_of p))
@@ -69,7 +70,7 @@ RowsAreCounted = (pools : ℕ → Option Pool) (list : List Pool) → AreNamed p
     → ((id : ℕ) → pools id ≡ id_in id list) → AllPairs (λ p q. p.id ≢ q.id) list
     → length (cell_pools_in pools) ≡ length list
 
--- An area has a byte in common with an extent of the table just where it meets one of the cell pools.
+-- An area has a byte in common with an extent of the table exactly if it meets one of the cell pools.
 abbrev pub OverlapsAreMet : Type 0
 OverlapsAreMet = (pools : ℕ → Option Pool) (address length : ℕ) → AreNamed pools
     → (overlaps_table (cell_pools_in pools) address length ≡ true)

@@ -1,5 +1,5 @@
--- The table in the order of its names: which of its rows come behind a name, and which of them is the first.
--- Assembler Services Reference, CPOOL.
+-- The table in the order of its names: which of its rows follow a name, and which of them is the first. Assembler
+-- Services Reference, CPOOL.
 use Rattle.std.specs.Prelude.{◌≡◌, ℕ, true, false, Option, Some, None, List, [], ◌∷◌, filter}
 use Rattle.vsm_model.specs.CellPools.{CellPools}
 use Rattle.cell_pool.specs.Pools.{Pool}
@@ -7,21 +7,21 @@ use Rattle.cell_pool.specs.Order.{is_before, is_after}
 use Rattle.storage_changes.specs.NamedPools.{AreNamed}
 use Rattle.storage_changes.specs.PoolTable.{cell_pool_of, cell_pools_in}
 
--- the rows whose names come behind one that is given, or all of them where none is given
+-- the rows whose names follow one that is given, or all of them if none is given
 abbrev pub rows_behind : CellPools → Option (List ℕ) → CellPools
 rows_behind table behind = filter (λ row. is_after behind row.0) table
 
--- no cell pool's name comes behind
+-- no cell pool's name follows
 abbrev pub NoneIsBehind : (ℕ → Option Pool) → Option (List ℕ) → Type 0
 NoneIsBehind pools behind = (id : ℕ) (p : Pool) → pools id ≡ Some p → is_after behind p.name ≡ false
 
--- The name of the cell pool comes behind, and no name that does comes before it.
+-- The name of the cell pool follows, and no name that does is before it.
 pub record IsFirstBehind (pools : ℕ → Option Pool) (low : Option (List ℕ)) (p : Pool) : Type 0 where
   pub behind : is_after low p.name ≡ true
   pub first : (id : ℕ) (q : Pool) → pools id ≡ Some q → is_after low q.name ≡ true → is_before q.name p.name ≡ false
 
--- Where none is given all rows come behind; where no cell pool's name does, none does; and else the row of the first
--- cell pool that does comes in front of those behind its name.
+-- If none is given all rows follow; if no cell pool's name does, none does; otherwise the row of the first cell pool
+-- that does is before those that follow its name.
 pub record ComesInOrder (pools : ℕ → Option Pool) (behind : Option (List ℕ)) : Type 0 where
   pub all : rows_behind (cell_pools_in pools) None ≡ cell_pools_in pools
   pub none : NoneIsBehind pools behind → rows_behind (cell_pools_in pools) behind ≡ []

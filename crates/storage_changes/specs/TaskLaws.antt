@@ -17,7 +17,7 @@ use Rattle.storage_changes.specs.Attaching.{attach_records, attach_blanks, with_
 use Rattle.storage_changes.specs.Ending.{ended_below, owned_by_these, end_records, end_blanks, with_turn}
 use Rattle.storage_changes.specs.Ending.{extents_ended, sights_ended, weight_ended, AreSubtasksFirst, CanEnd}
 
--- A task comes, with its subpools, and registers of the current task are set;
+-- A task is attached, with its subpools, and registers of the current task are set;
 abbrev pub AttachingLeads : Type 0
 AttachingLeads =
     (settings : Settings) (m : StorageState) (task : ℕ) (shares_zero : Bool) (gifts shares : List ℕ)
@@ -49,16 +49,16 @@ EndingLeads =
     (end_records m ended next ++ register_records (with_turn m next) rows) (end_blanks m ended))
     (with_registers (without_tasks (record (model_of m) { current = next }) (is_in ended)) rows)
 
--- A subtree's tasks come in an order in which they can end, and are just those that are looked for.
+-- A subtree's tasks are in an order in which they can end, and are exactly those that are looked for.
 abbrev pub EndsAreInOrder : Type 0
 EndsAreInOrder =
     (s : State) (top : ℕ) → TasksAreSound s → is_task s top ≡ true →
     AreSubtasksFirst s.parents [] (ended_below s.parents top)
     × ((task : ℕ) → is_in (ended_below s.parents top) task ≡ is_in_subtree s top task)
 
--- Tasks that end take five records each, two for each of their subpools, one for each extent of these and for each row
--- of sight that goes besides, and one for the turn. With the blank elements, a subpool that is parked for each that
--- goes, and one record more for a register, that's fewer than 32 elements, and 8 for each of what leaves.
+-- Tasks that end take five records each, two for each of their subpools, one for each extent of these and for each
+-- other row of sight that is removed, and one for the turn. With the blank elements, a parked subpool for each that is
+-- removed, and one more record for a register, that's fewer than 32 elements, and 8 for each thing that leaves.
 abbrev pub EndsAreShort : Type 0
 EndsAreShort =
     (m : StorageState) (ended : List ℕ) (next : ℕ) →

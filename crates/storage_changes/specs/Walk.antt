@@ -16,7 +16,7 @@ pub record Walk : Type 0 where
 abbrev pub flip : Walk → Walk
 flip w = record w { brought = w.given; given = w.brought }
 
--- the blank elements once a run joined a set of whose numbers beside it so many are in the set,
+-- the blank elements once a run joined a set that has this many of the numbers next to it,
 abbrev pub spare_joined : ℕ → ℕ → ℕ
 spare_joined spare n = spare + n - 1
 

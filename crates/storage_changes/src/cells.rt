@@ -17,7 +17,7 @@ pub fn handing_out_leads()
     first_cell_is_used();
 }
 
-/// A cell pool without a free cell has a further extent, and hands out its first cell.
+/// A cell pool without a free cell gets another extent, and hands out that extent's first cell.
 pub fn extending_leads()
     ensures { ExtendingLeads }
 {
@@ -32,14 +32,14 @@ pub fn giving_back_cells_leads()
     changed_pools_have_their_row();
 }
 
-/// A cell pool comes, with its first extent.
+/// A cell pool is created, with its first extent.
 pub fn building_leads()
     ensures { BuildingLeads }
 {
     new_pools_have_a_row();
 }
 
-/// A cell pool goes, with its extents.
+/// A cell pool is deleted, with its extents.
 pub fn deleting_leads()
     ensures { DeletingLeads }
 {

@@ -1,5 +1,5 @@
-//! Records of the two kinds that most changes have, read in the words that they stand in, and written there: one word
-//! changes when such a record is turned.
+//! Records of the two most frequent kinds, read from and written to the words of an element: turning such a record
+//! changes one word.
 
 ghost use Rattle.std.specs.Prelude.{◌≡◌, ◌≢◌, IfSome, IfNone};
 ghost use Rattle.storage_changes.specs.declared.record.Record.TheVariants.{Area, Register};
@@ -11,7 +11,7 @@ use crate::record::{AREA, AreaRecord, REGISTER, RegisterRecord, area_of, registe
 
 #[tactic(auto, unfolding(crate::specs::Records::record_of))]
 impl AreaRecord {
-    /// The record in the words of an element, where it's one of an area.
+    /// The record in the words of an element, if it's one of an area.
     pub fn in_words(words: [u32; 7]) -> Option<AreaRecord>
         ensures kind { IfSome result (λ _. Records.word words 0 ≡ 0) }
         ensures read { IfSome result (λ r. r ≡ area_in words) }
@@ -38,7 +38,7 @@ impl AreaRecord {
 
 #[tactic(auto, unfolding(crate::specs::Records::record_of))]
 impl RegisterRecord {
-    /// The record in the words of an element, where it's one of a register.
+    /// The record in the words of an element, if it's one of a register.
     pub fn in_words(words: [u32; 7]) -> Option<RegisterRecord>
         ensures kind { IfSome result (λ _. Records.word words 0 ≡ 5) }
         ensures read { IfSome result (λ r. r ≡ register_in words) }

@@ -10,7 +10,7 @@ ghost use Rattle.storage_changes.specs.MapTotals.{PagesAreCounted, BytesAreCount
 use crate::tables::pools_are_found;
 
 /// The extents and the free areas of a subpool are those that the plain machine has in the region below the line, and
-/// then those above it; and none of them ends behind the regions.
+/// then those above it; and none of them ends past the regions.
 pub fn runs_are_shown()
     ensures extents { ExtentsAreShown }
     ensures areas { FreeAreasAreShown }
@@ -19,7 +19,7 @@ pub fn runs_are_shown()
 {}
 
 /// The runs of unassigned pages are those that the plain machine has in the region below the line, and then those above
-/// it; none of them ends behind the regions; and no other list has just the maximal runs of these pages.
+/// it; none of them ends past the regions; and no other list has exactly the maximal runs of these pages.
 pub fn unassigned_are_shown()
     ensures shown { UnassignedAreShown }
     ensures end { UnassignedEndInRegions }
@@ -33,14 +33,14 @@ pub fn subpools_are_shown()
 {}
 
 /// The totals are sums over the subpools: of the pages of their extents, and of the doublewords of their free areas;
-/// and they are no more than there can be.
+/// and they are no more than is possible.
 pub fn totals_are_sums()
     ensures pages { PagesAreCounted }
     ensures bytes { BytesAreCounted }
     ensures few { TotalsAreFew }
 {}
 
-/// No extent of a cell pool ends behind the regions.
+/// No extent of a cell pool ends past the regions.
 pub fn cell_extents_end()
     ensures { CellExtentsEndInRegions }
 {

@@ -3,7 +3,7 @@
 
 ghost use Rattle.storage_changes.specs.TableOrder.{RowsComeInOrder};
 
-/// The rows behind a name begin with that of the cell pool whose name comes next, and go on with those behind that one.
+/// The rows after a name begin with that of the cell pool whose name is next, followed by those after that one.
 pub fn rows_come_in_order()
     ensures { RowsComeInOrder }
 {}

@@ -33,7 +33,7 @@ pub struct PagesRecord {
     pub assigned: bool,
 }
 
-/// An empty subpool is there, which its owner alone sees, or it is gone.
+/// An empty subpool exists, which only its owner sees, or it is gone.
 #[derive(Clone, Copy)]
 pub struct OwnRecord {
     pub subpool: Subpool,
@@ -55,7 +55,7 @@ pub struct RegisterRecord {
     pub word: u32,
 }
 
-/// Four registers of a task, from one on, get these words.
+/// Four registers of a task, from a first one on, get these words.
 #[derive(Clone, Copy)]
 pub struct RegistersRecord {
     pub task: u8,
@@ -71,7 +71,7 @@ pub struct BytesRecord {
     pub bytes: [u8; 16],
 }
 
-/// A task is there, below its parent and with registers of zeros, or it is gone.
+/// A task exists, below its parent and with registers of zeros, or it is gone.
 #[derive(Clone, Copy)]
 pub struct TaskRecord {
     pub task: u8,
@@ -85,7 +85,7 @@ pub struct TurnRecord {
     pub task: u8,
 }
 
-/// A task sees a subpool besides its owner, or doesn't any more.
+/// A task also sees a subpool of another owner, or no longer does.
 #[derive(Clone, Copy)]
 pub struct SharerRecord {
     pub subpool: Subpool,
@@ -100,15 +100,15 @@ pub struct PassRecord {
     pub to: u8,
 }
 
-/// A cell pool is there, with its extents and its cells, or it is gone: it changes places with what the change has
-/// parked under its id.
+/// A cell pool exists, with its extents and its cells, or it is gone: it changes places with what the change has parked
+/// under its id.
 #[derive(Clone, Copy)]
 pub struct CellPoolRecord {
     pub pool: CellId,
     pub present: bool,
 }
 
-/// A cell pool has an extent more, or its last one is gone.
+/// A cell pool has another extent, or its last one is gone.
 #[derive(Clone, Copy)]
 pub struct CellExtentRecord {
     pub pool: CellId,
@@ -119,7 +119,7 @@ pub struct CellExtentRecord {
     pub present: bool,
 }
 
-/// A cell of a cell pool is its first free one, or it isn't free any more.
+/// A cell of a cell pool is its first free one, or it is no longer free.
 #[derive(Clone, Copy)]
 pub struct CellRecord {
     pub pool: CellId,
@@ -187,13 +187,13 @@ const BYTES: u32 = 13;
 
 const REGISTERS: u32 = 14;
 
-/// What stands in the words of a record that names no subpool,
+/// What the words of a record that names no subpool contain,
 const NO_SUBPOOL: Subpool = Subpool {
     number: 0,
     owner: 0,
 };
 
-/// and in those of one that has no run.
+/// and those of one that has no run.
 const NO_RUN: Run = Run { start: 0, len: 0 };
 
 #[tactic(auto, unfolding(crate::specs::Records::record_of))]
@@ -229,7 +229,7 @@ impl Record {
         }
     }
 
-    /// The record that stands in the seven words of an element. Words of no kind are taken for bytes.
+    /// The record in the seven words of an element. Words of no kind are taken for bytes.
     pub fn from_words(words: [u32; 7]) -> Record
         ensures { result ≡ record_of words }
     {
@@ -350,7 +350,7 @@ fn task_words(r: TaskRecord) -> [u32; 7]
     ]
 }
 
-/// A task, where the words of a record have a run.
+/// A task, in the place where the words of a record have a run.
 fn one_task(task: u8) -> Run
     ensures { result ≡ record { start = task; len = 0 } }
 {
@@ -368,7 +368,7 @@ fn cell_words(kind: u32, pool: CellId, cells: Run, value: bool) -> [u32; 7]
     [kind, pool, 0, cells.start, cells.len, value, 0]
 }
 
-/// The cells of an extent, where the words of a record have a run.
+/// The cells of an extent, in the place where the words of a record have a run.
 fn cells_from(r: CellExtentRecord) -> Run
     ensures { result ≡ record { start = r.start; len = r.count } }
 {
@@ -378,7 +378,7 @@ fn cells_from(r: CellExtentRecord) -> Run
     }
 }
 
-/// A cell, where the words of a record have a run.
+/// A cell, in the place where the words of a record have a run.
 fn one_cell(cell: u32) -> Run
     ensures { result ≡ record { start = cell; len = 0 } }
 {

@@ -1,5 +1,5 @@
 //! Each action's records fit, and lead to its effect. Each law is the contract of a function that does nothing: of any
-//! sound storage, where the action's effect on the plain machine is a well-formed state.
+//! sound storage, if the action's effect on the plain machine is a well-formed state.
 
 ghost use Rattle.storage_changes.specs.StorageLaws.{
   EmptiedPagesAreARun,
@@ -31,21 +31,21 @@ pub fn giving_back_leads()
     ensures { GivingBackLeads }
 {}
 
-/// The pages that it empties are a run: those that it has whole, and the first and the last one that it touches where
+/// The pages that it empties are a run: those that it has whole, and the first and the last one that it touches if
 /// their other doublewords are free.
 pub fn emptied_pages_are_a_run()
     ensures { EmptiedPagesAreARun }
 {}
 
-/// The pages, the free storage and the cell pools of a subpool go over into the change as they stand, and its pages are
-/// unassigned; registers are set. One blank element is enough besides one for each of its extents.
+/// The pages, the free storage and the cell pools of a subpool move into the change as they are, and its pages become
+/// unassigned; registers are set. One blank element is enough in addition to one for each of its extents.
 pub fn emptying_leads()
     ensures { EmptyingLeads }
 {
     rows_of_the_others_stay();
 }
 
-/// Bytes are written, where each address has one. It takes no element.
+/// Bytes are written, if each address has one. It takes no element.
 pub fn writing_leads()
     ensures { WritingLeads }
 {}

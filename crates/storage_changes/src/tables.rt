@@ -26,22 +26,22 @@ pub fn changed_pools_have_their_row()
     ensures { ChangedPoolsHaveTheirRow }
 {}
 
-/// A cell pool that comes has a row.
+/// A cell pool that is created has a row.
 pub fn new_pools_have_a_row()
     ensures { NewPoolsHaveARow }
 {}
 
-/// A cell pool that goes has none.
+/// A cell pool that is deleted has none.
 pub fn gone_pools_have_no_row()
     ensures { GonePoolsHaveNoRow }
 {}
 
-/// Where cell pools go, the others have their rows.
+/// If cell pools are deleted, the others keep their rows.
 pub fn rows_of_the_others_stay()
     ensures { RowsOfTheOthersStay }
 {}
 
-/// Where all cell pools change, each row does.
+/// If all cell pools change, each row does.
 pub fn all_rows_change()
     ensures { AllRowsChange }
 {}
@@ -51,7 +51,7 @@ pub fn rows_are_counted()
     ensures { RowsAreCounted }
 {}
 
-/// An area overlaps an extent of the table just where it meets a cell pool.
+/// An area overlaps an extent of the table exactly if it meets a cell pool.
 pub fn overlaps_are_met()
     ensures { OverlapsAreMet }
 {}

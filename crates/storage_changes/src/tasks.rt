@@ -1,14 +1,14 @@
 //! The records of each action on tasks fit, and lead to its effect. Each law is the contract of a function that does
-//! nothing: of any sound storage, where the action's effect on the plain machine is a well-formed state.
+//! nothing: of any sound storage, if the action's effect on the plain machine is a well-formed state.
 
 ghost use Rattle.storage_changes.specs.TaskLaws.{AttachingLeads, EndingLeads, EndsAreInOrder, EndsAreShort};
 ghost use Rattle.storage_changes.specs.TaskLaws.{TurningLeads};
 
 use crate::tables::{all_rows_change, pools_are_found, rows_of_the_others_stay};
 
-/// A task comes, below the current one: it shares subpool 0 or has one of its own, it is given subpools, and it shares
-/// others; and registers of the current task are set. Seven blank elements are enough, and two more for each number
-/// that is given or shared.
+/// A task is attached below the current one: it shares subpool 0 or has one of its own, it is given subpools, and it
+/// shares others; and registers of the current task are set. Seven blank elements are enough, and two more for each
+/// number that is given or shared.
 pub fn attaching_leads()
     ensures { AttachingLeads }
 {
@@ -21,9 +21,9 @@ pub fn turning_leads()
     ensures { TurningLeads }
 {}
 
-/// Tasks end, each behind those below it: the subpools that they own go over into the change with all that they have,
-/// and their rows of sight and their registers become records; and registers are set of the task whose turn it is then.
-/// One blank element is enough besides those for the subpools and their extents.
+/// Tasks end, each after those below it: the subpools that they own move into the change with all that they have, and
+/// their rows of sight and their registers become records; and registers are set of the task whose turn it is then. One
+/// blank element is enough in addition to those for the subpools and their extents.
 pub fn ending_leads()
     ensures { EndingLeads }
 {
@@ -37,8 +37,8 @@ pub fn ends_are_in_order()
 {}
 
 /// Tasks that end take five records each, two for each subpool that they own, one for each extent of these and for each
-/// row of sight that goes besides, and one for the turn. With their blank elements and what is parked that's fewer than
-/// 32 elements, and 8 for each of what leaves.
+/// other row of sight that is removed, and one for the turn. With their blank elements and what is parked that's fewer
+/// than 32 elements, and 8 for each thing that leaves.
 pub fn ends_are_short()
     ensures { EndsAreShort }
 {}

@@ -1,4 +1,4 @@
--- How many elements the change of a cell pool that goes has.
+-- How many elements the change of a deleted cell pool has.
 use Rattle.std.proofs.Common.{◌+◌, ◌≤◌, Result, Ok, Err, IfOk, arith}
 use Rattle.storage_changes.specs.State.{StorageState}
 use Rattle.storage_swap.specs.declared.storage.Parts.{Parts}

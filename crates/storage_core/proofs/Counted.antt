@@ -53,7 +53,7 @@ few_answered p t m emptied records blanks fresh (Ok c) made few =
     omega (arith, few_from m emptied records blanks fresh few, reserved_count p t (change_from m emptied records blanks fresh) c made)
 few_answered p t m emptied records blanks fresh (Err e) made few = made
 
--- of one of records alone
+-- of one with only records
 pub few_records : {E : Type 0} (p t : Parts) (records : List Record) (r : Result Change E) → IfOk r (λ c. Reserves p (change_of records 0 no_pages) c t) → length records ≤ 17 → IfOk r (λ c. c.records.count + c.blanks.count ≤ 17)
 few_records p t records (Ok c) made few = omega (arith, few, reserved_count p t (change_of records 0 no_pages) c made)
 few_records p t records (Err e) made few = made
@@ -63,15 +63,15 @@ pub needed_for : (m : Subpools) (emptied : Option Subpool) (n blanks : ℕ) → 
 needed_for m None n blanks few = let h : n + blanks ≤ 25 + blanks + 8 * 0 = omega (arith, few) in h
 needed_for m (Some p) n blanks few = omega (arith, few)
 
--- of what is used no more is said than that it's within a bound
+-- of what is used, only that it's within a bound
 pub uses_within : {E C : Type 0} (old new n most : ℕ) → n ≤ most → (r : Result C E) → IfOk r (λ _. old ≤ new + n) → IfOk r (λ _. old ≤ new + most)
 uses_within old new n most within (Ok c) used = omega (arith, within, used)
 uses_within old new n most within (Err e) used = used
 
--- so it is of what is made
+-- the same of what is made
 pub makes_within : (old new : Store) (n most : ℕ) → n ≤ most → MakesElements old new n → MakesElements old new most
 makes_within old new n most within made = omega (arith, within, made)
 
--- of a region that stays no frame is made
+-- no frame is made of a region that stays
 pub no_frame_made : (old new : Pages) → new ≡ old → MakesFrames old new 0
 no_frame_made old new same = let h : new.made ≡ old.made = ap (λ (z : Pages). z.made) same in omega (arith, h)

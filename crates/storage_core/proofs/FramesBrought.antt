@@ -1,4 +1,4 @@
--- A page that comes to be assigned is one of those that the plan's change has frames for.
+-- A page that becomes assigned is one of those that the plan's change has frames for.
 use Rattle.std.proofs.Common.{◌≡◌, ℕ, ◌*◌, ◌/◌, Bool, true, false, if◌then◌else◌, Option, Some, None, IsSome, refl, sym, ap, ◌∙◌, subst, arith}
 use Rattle.std.proofs.Props.{props}
 use mathlib.Core.Logic.{∥∥₁_elim}
@@ -42,6 +42,6 @@ only_by settings names_full m x id plan reply planned page free none =
     ∥∥₁_elim planned (hlevel props)
     (λ k. sym (ap (λ (x : ℕ). inside x (fresh_pages plan)) first) ∙ frames_for m id plan (4096 * page) (assigned-brought m (change_for m id plan) page k.fits free none))
 
--- and each page that it has a frame for comes to be assigned, where those of the plan do
+-- and each page that it has a frame for becomes assigned, if those of the plan do
 pub assigns_frames : (m : StorageState) (id : ℕ) (plan : Plan) → Assigns m (change_for m id plan) (fresh_pages plan) → AssignsItsFrames m (change_for m id plan)
 assigns_frames m id plan its a some = its (a / 4096) (frames_for m id plan a some)

@@ -1,4 +1,4 @@
--- The pages that a plan's change comes to assign are just those that the plain machine newly assigns.
+-- The pages that a plan's change assigns are exactly those that the plain machine newly assigns.
 use Rattle.std.proofs.Common.{◌≡◌, ℕ, true, Option, Some, None, refl, arith, sym, ◌∙◌, true≢false}
 use Rattle.std.proofs.Props.{props}
 use mathlib.Core.Logic.{∥∥₁_elim}

@@ -1,4 +1,4 @@
--- Where the frames come from that a change has once it was exchanged.
+-- Where the frames of a change come from once it was exchanged.
 use Rattle.std.proofs.Common.{◌≡◌, ℕ, ◌/◌, ◌⊎◌, inl, inr, Bool, true, false, not, if◌then◌else◌, List, [], ◌∷◌, Option, Some, None, IsSome, refl, sym, ap, ◌∙◌, subst}
 use Rattle.run_set.specs.Runs.{inside}
 use Rattle.storage_changes.specs.declared.record.PagesRecord.{PagesRecord}
@@ -23,7 +23,7 @@ true-false : (b : Bool) → b ≡ true → b ≡ false → ⊥
 true-false true t f = cc
 true-false false t f = cc
 
--- No frame of the page is to come, and where one was given, the page is unassigned.
+-- No further frame of the page is brought, and if one was given, the page is unassigned.
 pub record IsPast (w : Walk) (a : ℕ) : Type 0 where
   pub none : w.brought a ≡ None
   pub gone : IsSome (w.given a) → w.state.unassigned (a / 4096) ≡ true
@@ -67,7 +67,8 @@ stays-past w (CellExtent r ∷ rs) a h past some = stays-past (step w (CellExten
 stays-past w (Cell r ∷ rs) a h past some = stays-past (step w (Cell r)) rs a h.1 (record { none = past.none; gone = past.gone }) some
 stays-past w (Bytes r ∷ rs) a h past some = stays-past (step w (Bytes r)) rs a h.1 (record { none = past.none; gone = past.gone }) some
 
--- A frame that was given at last was in the tables, was given before, or was brought, and its page is unassigned then.
+-- A frame that is given in the end was in the tables, was given before, or was brought, and its page is then
+-- unassigned.
 abbrev CameFrom : Walk → ℕ → Bool → Type 0
 CameFrom w a last = (w.state.unassigned (a / 4096) ≡ false) ⊎ (IsSome (w.given a) ⊎ (IsSome (w.brought a) × (last ≡ true)))
 

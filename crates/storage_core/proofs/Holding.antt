@@ -1,4 +1,4 @@
--- What is held of the first storage, and of one whose state stayed.
+-- What holds of the first storage, and of one whose state stayed.
 use Rattle.std.proofs.Common.{◌≡◌, ℕ, Bool, true, false, ◌&&◌, not, is_some, IsTrue, Option, None, Result, Ok, Err, IfOk, IfErr, [], ◌∷◌, refl, sym, ap, ◌∙◌, subst, arith}
 use Rattle.std.proofs.Math.Bool.{Bool-set}
 use mathlib.Core.Logic.{∥∥₁_elim}
@@ -30,7 +30,7 @@ use Rattle.storage_core.proofs.Staying.{grown_stays}
 
 -- the first storage
 
--- nobody has a page of it
+-- no subpool has a page of it
 no-page : (settings : Settings) (page : ℕ) → subpool_of (first_storage settings).subpools page ≡ None
 no-page settings page =
     first-nothing Subpool (λ p. (first_storage settings).subpools.pages p page) (λ p. refl) all_subpools

@@ -1,4 +1,4 @@
--- A change that was made, as that of a plan, under the id that a cell pool which comes has.
+-- A change that was made of a plan, under the id of a new cell pool.
 use Rattle.std.proofs.Common.{◌≡◌, ℕ, Result, Ok, Err, IfOk, subst}
 use Rattle.storage_changes.specs.Changes.{Change as Meaning}
 use Rattle.storage_changes.specs.State.{StorageState}
@@ -12,7 +12,7 @@ use Rattle.storage_core.specs.Planned.{IsIdFor, change_for}
 abbrev pub IsMadeOf : {E : Type 0} → Parts → StorageState → Plan → Parts → Result Change E → Type 0
 IsMadeOf p m plan t r = IfOk r (λ c. (id : ℕ) × IsIdFor m plan id × Reserves p (change_for m id plan) c t)
 
--- that of a plan which can have any
+-- that of a plan that can have any id
 pub made_of : {E : Type 0} (p t : Parts) (m : StorageState) (plan : Plan) (d : Meaning) → IsIdFor m plan 0 → d ≡ change_for m 0 plan
     → (r : Result Change E) → IfOk r (λ c. Reserves p d c t) → IsMadeOf p m plan t r
 made_of p t m plan d free same (Ok c) made =

@@ -1,4 +1,4 @@
--- What is made for a change, and what is made no more once it's there.
+-- What is made for a change, and what is no longer made once it exists.
 use Rattle.std.proofs.Common.{ℕ, ◌≤◌, refl, ◌∙◌, arith}
 use Rattle.storage_swap.specs.declared.storage.Parts.{Parts}
 use Rattle.storage_swap.specs.declared.change.Change.{Change}

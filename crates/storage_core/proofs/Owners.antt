@@ -1,4 +1,4 @@
--- Whose a page is, by the queues of the subpools.
+-- The owner of a page, by the queues of the subpools.
 use Rattle.std.proofs.Common.{◌≡◌, ℕ, false, true, Some, None, sym}
 use Rattle.std.proofs.Props.{props}
 use mathlib.Core.Logic.{∥∥₁_elim}

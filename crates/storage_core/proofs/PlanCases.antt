@@ -30,7 +30,7 @@ use Rattle.storage_core.specs.Weight.{weight, cells_weight}
 use Rattle.storage_core.proofs.FramesBrought.{only_by}
 use Rattle.storage_core.specs.Planned.{Assigns, CanCarryOut, HasRecords, IsAccepted, IsPlanned, change_for, extents_leaving, reply_of, storage_elements}
 
--- whether an outcome is an accepted one is a question with one answer
+-- an outcome is accepted in at most one way
 accepted-prop : {S R C : Type 0} (o : Outcome S R C) → IsProp (outcome.IsAccepted o)
 accepted-prop (Accepted t r) = hlevel props
 accepted-prop (Refused cause) = hlevel props

@@ -1,4 +1,4 @@
--- What a change that was made and discarded leaves, and one that could not be made: all as it was.
+-- A change that was made and discarded, or that could not be made, leaves all as it was.
 use Rattle.std.proofs.Common.{◌≡◌, ℕ, [], ◌∷◌, List, IsSome, Option, Result, Ok, Err, IfErr, OnErr, refl, ap, sym, subst, ◌∙◌, arith}
 use Rattle.vsm_elements.specs.declared.element.Element.{Element}
 use Rattle.vsm_elements.specs.Owners.{Moves}

@@ -1,4 +1,4 @@
--- How many elements the change of a task that comes has, and that of tasks that end.
+-- How many elements the change of a new task has, and that of tasks that end.
 use Rattle.std.proofs.Common.{ℕ, ◌+◌, ◌*◌, ◌≤◌, Bool, true, false, List, [], ◌∷◌, ◌++◌, length, Option, Some, None, Result, Ok, Err, IfOk, arith}
 use Rattle.std.specs.List.{flat_map}
 use Rattle.std.proofs.lemmas.List.{length-append}
@@ -27,7 +27,7 @@ few-answered : {E : Type 0} (p t : Parts) (d : Meaning) (most : ℕ) (r : Result
 few-answered p t d most (Ok c) made few = omega (arith, reserved_count p t d c made, few)
 few-answered p t d most (Err e) made few = made
 
--- a list of lists of which none is longer than two
+-- a list of lists, none longer than two
 flat-short : (f : ℕ → List Record) → ((n : ℕ) → length (f n) ≤ 2) → (ns : List ℕ) → length (flat_map f ns) ≤ 2 * length ns
 flat-short f short [] = omega arith
 flat-short f short (n ∷ ns) = omega (arith, length-append (f n) (flat_map f ns), short n, flat-short f short ns)

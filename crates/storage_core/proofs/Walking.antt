@@ -1,4 +1,4 @@
--- Extents and free areas that are walked over: where one ends, and that none comes behind the last.
+-- Extents and free areas in a walk: where one ends, and that none follows the last.
 use Rattle.std.proofs.Common.{◌≡◌, ℕ, zero, suc, ◌+◌, ◌^◌, ◌<◌, ◌≤◌, List, [], ◌∷◌, Some, None, refl, sym, ap, ◌∙◌, arith}
 use Rattle.std.proofs.Props.{props}
 use Rattle.std.specs.Prelude.{slice_get}
@@ -18,7 +18,7 @@ use Rattle.storage_core.specs.declared.walks.FreeAreaPlace.{FreeAreaPlace}
 use Rattle.storage_core.specs.Meaning.{state_in_place, settings_of}
 use Rattle.storage_core.specs.Walks.{IsExtentPlace, IsFreeAreaPlace}
 
--- behind a position without an item there is none
+-- after a position without an item there is none
 pub none_behind : {A : Type 0} (xs : List A) (j i : ℕ) → slice_get xs j ≡ None → j ≤ i → slice_get xs i ≡ None
 none_behind [] j i none behind = refl
 none_behind (x ∷ xs) zero i none behind = cc
@@ -31,7 +31,7 @@ module _ (law : ExtentsEndInRegions) (s : Storage) where
   extent_end p i r e = ∥∥₁_elim s.held.sound (hlevel props)
       (λ sound. law (settings_of s) (state_in_place s) p i r s.held.valid sound e)
 
-  -- the extent behind a place ends before the last page
+  -- the extent after a place ends before the last page
   pub extent_ends : (w : ExtentPlace) → (p : Subpool) × (i : ℕ) × IsExtentPlace s p w i → (r : Run)
       → Some r ≡ slice_get (queue.extents s.parts.elements w.extents) (place_index w.place) → r.start + r.len < 2 ^ 20
   extent_ends w (p, i, place) r e =
@@ -45,7 +45,7 @@ module _ (law : FreeAreasEndInRegions) (s : Storage) where
   area_end p i r e = ∥∥₁_elim s.held.sound (hlevel props)
       (λ sound. law (settings_of s) (state_in_place s) p i r s.held.valid sound e)
 
-  -- the free area behind a place ends before the last doubleword
+  -- the free area after a place ends before the last doubleword
   pub area_ends : (w : FreeAreaPlace) → (p : Subpool) × (i : ℕ) × IsFreeAreaPlace s p w i → (r : Run)
       → Some r ≡ slice_get (free_queue.areas s.parts.elements w.areas) (place_index w.place) → r.start + r.len < 2 ^ 29
   area_ends w (p, i, place) r e =

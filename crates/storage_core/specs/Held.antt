@@ -1,4 +1,4 @@
--- What holds of every storage that there is.
+-- What holds of every storage.
 use Rattle.std.specs.Prelude.{◌≡◌, ℕ, ◌≤◌, true, IsTrue}
 use Rattle.raw_region.specs.Pages.{has_segment}
 use Rattle.vsm_model.specs.declared.limits.Settings.{Settings}
@@ -9,8 +9,8 @@ use Rattle.storage_swap.specs.Storage.{hold, state_of, Stand, IsFrameless}
 use Rattle.storage_swap.specs.Props.{Stand-prop, IsFrameless-prop}
 use Rattle.std.proofs.Props.{props}
 
--- Its parts stand, no element is two parts', an unassigned page has no frame, each page of the regions can have a
--- table, and the state is a sound one at the settings.
+-- Its parts are well-formed, no element is in two parts, an unassigned page has no frame, each page of the regions can
+-- have a table, and the state is sound at the settings.
 pub record IsHeld (settings : Settings) (p : Parts) : Type 0 where
   pub valid : settings_valid settings ≡ true
   pub stands : Stand p
@@ -19,6 +19,6 @@ pub record IsHeld (settings : Settings) (p : Parts) : Type 0 where
   pub segments : (page : ℕ) → in_a_region settings page ≡ true → IsTrue (has_segment p.region page)
   pub sound : ∥ IsSound settings (state_of p) ∥₁
 
--- whether it's held is a question with one answer
+-- it is held in at most one way
 pub IsHeld-prop : (settings : Settings) (p : Parts) → IsProp (IsHeld settings p)
 IsHeld-prop settings p = hlevel (Stand-prop p, IsFrameless-prop p, props)

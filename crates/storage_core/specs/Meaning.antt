@@ -1,4 +1,4 @@
--- What a storage stands for: its state in place, the state of the plain machine, and the settings.
+-- What a storage represents: its state in place, the state of the plain machine, and the settings.
 use Rattle.vsm_model.specs.declared.limits.Settings.{Settings}
 use Rattle.vsm_model.specs.State.{State}
 use Rattle.storage_changes.specs.State.{StorageState}
@@ -6,7 +6,7 @@ use Rattle.storage_changes.specs.Meaning.{model_of}
 use Rattle.storage_swap.specs.Storage as parts
 use Rattle.storage_core.specs.declared.storage.Storage.{Storage}
 
--- pages, free storage and bytes, as records of changes speak of them
+-- pages, free storage and bytes, in the terms of records of changes
 abbrev pub state_in_place : Storage → StorageState
 state_in_place s = parts.state_of s.parts
 

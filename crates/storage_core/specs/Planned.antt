@@ -1,4 +1,4 @@
--- Which services can be planned, what their plans come to, and which plans can be made into changes.
+-- Which services can be planned, what their plans lead to, and which plans can be made into changes.
 use Rattle.std.specs.Prelude.{◌≡◌, ℕ, ◌+◌, ◌*◌, ◌^◌, ◌<◌, ◌≤◌, Bool, IfSome, length, Option, Some, None, ⊤}
 use Rattle.std.specs.Prelude.{Result, Ok, Err}
 use Rattle.raw_region.specs.Pages.{HaveTables}
@@ -33,9 +33,9 @@ use Rattle.storage_core.specs.Weight.{weight}
 use Rattle.storage_core.specs.declared.plans.Plan.{Plan}
 use Rattle.storage_core.specs.declared.plans.Plan.TheVariants.{Storage, Store, Attach, End, Build, Delete}
 
--- An obtain, with a register of the sixteen where one is named; a release of an area or of a whole subpool; a store of
--- at most 256 bytes; a service on tasks; or one on a cell pool, whose name has at most 63 bytes and whose header at
--- most 24.
+-- An obtain, with a register of the sixteen if one is named; a release of an area or of a whole subpool; a store of at
+-- most 256 bytes; a service on tasks; or one on a cell pool, whose name has at most 63 bytes and whose header at most
+-- 24.
 abbrev pub CanBePlanned : Service → Type 0
 CanBePlanned (obtain o) = IfSome o.register (λ r. r < 16)
 CanBePlanned (release r) = ⊤
@@ -73,7 +73,7 @@ reply_of (End plan) = plan.reply
 reply_of (Build plan) = plan.reply
 reply_of (Delete plan) = Returned 0
 
--- a cell pool that comes can have this id: none has it
+-- a new cell pool can have this id: none has it
 abbrev pub IsIdFor : StorageState → Plan → ℕ → Type 0
 IsIdFor m (Storage plan) id = ⊤
 IsIdFor m (Store plan) id = ⊤
@@ -82,7 +82,7 @@ IsIdFor m (End plan) id = ⊤
 IsIdFor m (Build plan) id = (id < 2 ^ 32) × (m.subpools.cells id ≡ None)
 IsIdFor m (Delete plan) id = ⊤
 
--- the change that carries it out, where a cell pool that comes has this id
+-- the change that carries it out, if a new cell pool has this id
 abbrev pub change_for : StorageState → ℕ → Plan → Change
 change_for m id (Storage plan) = change_in m plan
 change_for m id (Store plan) = store_change m plan
@@ -91,7 +91,7 @@ change_for m id (End plan) = end_change m plan
 change_for m id (Build plan) = build_change plan id
 change_for m id (Delete plan) = delete_change m plan
 
--- the pages that come to be assigned
+-- the pages that become assigned
 abbrev pub fresh_pages : Plan → Run
 fresh_pages (Storage plan) = plan.fresh
 fresh_pages (Store plan) = no_pages
@@ -109,10 +109,10 @@ pages_assigned plan = (fresh_pages plan).len
 abbrev pub storage_elements : StorageState → StoragePlan → ℕ
 storage_elements m plan = 25 + plan.blanks + 8 * extents_leaving m.subpools plan.emptied
 
--- The change of a plan takes at most so many elements, those that it has parked among them: of a store 17, one for each
--- block that it touches; of a new task 32, and 4 for each number that is given or shared; of tasks that end 32, and 8
--- for each task, subpool, extent and row of sight that leaves; of a cell pool that comes 31, and those of its cells;
--- and of one that goes 32, and 8 for it and for each of its extents.
+-- The most elements that the change of a plan takes, with those that it has parked: for a store 17, one for each block
+-- that it touches; for a new task 32, and 4 for each number that is given or shared; for tasks that end 32, and 8 for
+-- each task, subpool, extent and row of sight that leaves; for a new cell pool 31, and those of its cells; and for a
+-- deleted one 32, and 8 for it and for each of its extents.
 abbrev pub elements_needed : StorageState → Plan → ℕ
 elements_needed m (Storage plan) = storage_elements m plan
 elements_needed m (Store plan) = 17
@@ -122,7 +122,7 @@ elements_needed m (End plan) = 32 + 8 * weight_ended m.subpools (ended_below m.t
 elements_needed m (Build plan) = 31 + plan.settings.primary
 elements_needed m (Delete plan) = 32 + 8 * (1 + extents_of_pool (m.subpools.cells plan.pool))
 
--- As many elements are spare, and a frame for each of these pages; and the pages have tables.
+-- At least this many elements are spare, and a frame for each of these pages; and the pages have tables.
 pub record IsSpareFor (p : Parts) (most : ℕ) (fresh : Run) : Type 0 where
   pub elements : most ≤ p.elements.spare
   pub frames : fresh.len ≤ p.region.spare
@@ -132,9 +132,9 @@ pub record IsSpareFor (p : Parts) (most : ℕ) (fresh : Run) : Type 0 where
 abbrev pub IsSpare : Parts → StorageState → Plan → Type 0
 IsSpare p m plan = IsSpareFor p (elements_needed m plan) (fresh_pages plan)
 
--- The service is accepted, with the plan's reply, in the state that its change leads to, whatever id a cell pool that
--- comes has; the change can be made, takes no more elements than the service's weight allows, and has frames for just
--- the pages that come to be assigned.
+-- The service is accepted, with the plan's reply, in the state that its change leads to, whatever id a new cell pool
+-- has; the change can be made, takes no more elements than the service's weight allows, and has frames for exactly the
+-- pages that become assigned.
 pub record CanCarryOut (settings : Settings) (names_full : Bool) (m : StorageState) (x : Service) (plan : Plan)
     : Type 0 where
   pub accepts : outcome.IsAccepted (step settings names_full (model_of m) x)
@@ -146,7 +146,7 @@ pub record CanCarryOut (settings : Settings) (names_full : Bool) (m : StorageSta
   pub assigned : (id : ℕ) → Assigns m (change_for m id plan) (fresh_pages plan)
   pub only : (id : ℕ) → IsIdFor m plan id → AssignsOnly m (change_for m id plan) (fresh_pages plan)
 
--- a service was planned; or it's refused for this cause
+-- a service was planned, or it's refused for this cause
 abbrev pub IsPlanned : Settings → Bool → StorageState → Service → Result Plan Cause → Type 0
 IsPlanned settings names_full m x (Ok plan) = CanCarryOut settings names_full m x plan
 IsPlanned settings names_full m x (Err cause) = step settings names_full (model_of m) x ≡ Refused cause

@@ -10,8 +10,8 @@ use Rattle.storage_core.specs.declared.storage.Storage.{Storage}
 use Rattle.storage_core.specs.Meaning.{settings_of}
 use Rattle.storage_core.specs.Stays.{Stays}
 
--- It is this one, of at most so many elements and a frame for each of these pages. Where memory is refused, which is
--- never where enough is spare, the storage stays. Either way at most a block of elements is made beyond these, and no
+-- It is this one, of at most this many elements and a frame for each of these pages. If memory is refused, which never
+-- happens if enough is spare, the storage stays. Either way at most a block of elements is made beyond these, and no
 -- frame.
 pub record IsReserved (s : Storage) (d : Change) (most pages : ℕ) (enough : Type 0) (t : Storage)
     (result : Result TheChange AllocError) : Type 0 where

@@ -14,32 +14,32 @@ use Rattle.storage_core.specs.declared.walks.ExtentPlace.{ExtentPlace}
 use Rattle.storage_core.specs.declared.walks.FreeAreaPlace.{FreeAreaPlace}
 use Rattle.storage_core.specs.Meaning.{state_in_place}
 
--- the place is before, between or behind the subpools, and these are behind it
+-- the place is before, between or after the subpools, and these are after it
 abbrev pub IsSubpoolPlace : Storage → SubpoolPlace → Type 0
 IsSubpoolPlace s place = subpools.IsSubpoolPlace s.parts.elements s.parts.subpools place
 
 abbrev pub subpools_left : Storage → SubpoolPlace → List Subpool
 subpools_left s place = subpools.subpools_left s.parts.elements s.parts.subpools place
 
--- the place is behind a subpool that was read, and this is that subpool
+-- the place is after a subpool that was read, and this is that subpool
 abbrev pub IsBehindSubpool : Storage → SubpoolPlace → Type 0
 IsBehindSubpool s place = subpools.IsBehindSubpool s.parts.elements s.parts.subpools place
 
 abbrev pub subpool_before : Storage → SubpoolPlace → Subpool
 subpool_before s place = subpools.subpool_before s.parts.elements place
 
--- the tasks behind the place that see the subpool besides its owner
+-- the tasks after the place that see the subpool without owning it
 abbrev pub sharers_left : Storage → SharerPlace → Subpool → List ℕ
 sharers_left s place p = subpools.sharers_left s.parts.elements s.parts.subpools place p
 
--- the place stands before the extent of this index, from 0 on, of the subpool
+-- the place is before the extent of this index, from 0 on, of the subpool
 pub record IsExtentPlace (s : Storage) (p : Subpool) (w : ExtentPlace) (i : ℕ) : Type 0 where
   pub stands : queue.IsExtents s.parts.elements w.extents
   pub extents : queue.extents s.parts.elements w.extents ≡ extents (state_in_place s).subpools p
   pub place : queue.IsPlace s.parts.elements w.extents w.place
   pub index : place_index w.place ≡ i
 
--- the place stands before the free area of this index of the subpool
+-- the place is before the free area of this index of the subpool
 pub record IsFreeAreaPlace (s : Storage) (p : Subpool) (w : FreeAreaPlace) (i : ℕ) : Type 0 where
   pub stands : free_queue.IsFreeQueue s.parts.elements w.areas
   pub areas : free_queue.areas s.parts.elements w.areas ≡ free_areas (state_in_place s).subpools p

@@ -1,4 +1,4 @@
--- How much a service makes and lets go: its change takes at most 32 elements, and 8 for each. Assembler Services Guide,
+-- How much a service makes and removes: its change takes at most 32 elements, and 8 for each. Assembler Services Guide,
 -- "Virtual storage management", "Subpool handling"; Assembler Services Reference, ATTACH, DETACH and CPOOL.
 use Rattle.std.specs.Prelude.{ℕ, ◌+◌, length}
 use Rattle.vsm_model.specs.Services.{Service, obtain, release, whole, attach, detach, end_task, run, store, build, get}
@@ -26,7 +26,7 @@ extents_weight m (free name cell) = 0
 extents_weight m (delete name) = 0
 
 -- The subpools that are given or shared, the cells that are made, and the tasks, subpools, rows of sight, extents, cell
--- pools and extents of cell pools that leave. Of what leaves with a subpool its cell pools aren't counted, and of a
--- store, and of pages that a release empties, nothing: they take no more than the 32.
+-- pools and extents of cell pools that leave. The cell pools that leave with a subpool aren't counted, nor is anything
+-- of a store or of pages that a release empties: they take at most the 32.
 abbrev pub weight : StorageState → Service → ℕ
 weight m x = extents_weight m x + (tasks_weight m x + cells_weight m x)

@@ -1,4 +1,4 @@
-//! The changes by which bytes are stored, and by which a cell pool comes.
+//! The changes that store bytes, and that create a cell pool.
 ghost use Rattle.std.specs.Prelude.{◌≡◌, ℕ, None, ◌+◌, ◌^◌, ◌<◌, ◌≤◌, length, IsOk, OnErr, IfOk};
 ghost use Rattle.vsm_elements.specs.Store.{live_count};
 ghost use Rattle.storage_swap.specs.Growth.{MakesElements, MakesFrames};
@@ -18,7 +18,7 @@ use storage_plans::{StorePlan, block_records};
 use storage_swap::{Change, ReservedCellPool};
 
 impl Storage {
-    // The change by which bytes are stored. Its records are made here, and so a plan has no room for them.
+    // The change that stores bytes. Its records are made here, so a plan has no room for them.
     #[inline(never)]
     pub(crate) fn reserve_store(&mut self, plan: StorePlan) -> Result<Change, AllocError>
         requires { CanBeStored (state_in_place self.old) plan }
@@ -29,7 +29,7 @@ impl Storage {
         Change::reserve(&mut self.parts, None, records.as_slice(), 0, NO_PAGES)
     }
 
-    // The change by which a cell pool comes, under an id that none has.
+    // The change that creates a cell pool, under an id that no cell pool has.
     pub(crate) fn reserve_building(&mut self, plan: BuildPlan) -> Result<Change, AllocError>
         requires { CanBeBuilt (state_in_place self.old) plan }
         ensures ok { IfOk result (λ change. (id : ℕ)

@@ -26,18 +26,18 @@ use task_plans::{AttachPlan, EndPlan};
 
 impl Storage {
     /// The change that carries out the plan, with all the memory that it needs: elements, and a frame and a place in a
-    /// table for each page that comes to be assigned. The storage stays as it is, whatever the answer.
+    /// table for each page that becomes assigned. The storage stays as it is, whatever the answer.
     ///
     /// It takes at most 25 elements and its plan's blank ones, and 8 for each extent that leaves with a whole subpool
-    /// that is emptied. That of a store takes 17 at most; that of a new task 32, and 4 for each number that it is given
-    /// or shares; that of tasks that end 32, and 8 for each task, subpool, extent and row of sight that leaves; that of
-    /// a cell pool that comes 30, and those of its cells; and that of one that goes 32, and 8 for it and for each of
+    /// that is emptied. The change of a store takes at most 17; that of a new task 32, and 4 for each number that it is
+    /// given or shares; that of tasks that end 32, and 8 for each task, subpool, extent and row of sight that leaves;
+    /// that of a new cell pool 30, and those of its cells; and that of a deleted one 32, and 8 for it and for each of
     /// its extents. These are its records, its blank elements and what it has parked: an element for each empty
-    /// subpool, or the elements of a cell pool that comes. It has just as many frames as pages come to be assigned.
+    /// subpool, or the elements of a new cell pool. It has exactly as many frames as pages become assigned.
     ///
-    /// `AllocError` where memory is refused: that can be only where fewer elements or frames are spare, or a table
-    /// isn't there. What was made before that stays, as spare elements and frames. Whatever the answer, at most a block
-    /// of elements is made beyond what the change takes, and no frame.
+    /// `AllocError` if memory is refused, which is possible only if fewer elements or frames are spare, or a table is
+    /// missing. What was made before that stays, as spare elements and frames. Whatever the answer, at most a block of
+    /// elements is made beyond what the change takes, and no frame.
     pub fn reserve(&mut self, plan: Plan) -> Result<Change, AllocError>
         requires { CanBeReserved (state_in_place self.old) plan }
         ensures ok { IfOk result (λ change. (id : ℕ) × IsIdFor (state_in_place self.old) plan id
@@ -102,7 +102,7 @@ impl Storage {
         plan.reserve(&mut self.parts)
     }
 
-    // The change of a cell pool that goes.
+    // The change of a cell pool that is deleted.
     fn reserve_delete(&mut self, plan: DeletePlan) -> Result<Change, AllocError>
         requires { CanBeDeleted (state_in_place self.old) plan }
         ensures { IsReserved self.old (delete_change (state_in_place self.old) plan)
@@ -112,8 +112,7 @@ impl Storage {
         plan.reserve(&mut self.parts)
     }
 
-    /// Exchanges a change with the storage, and leaves in its place the one that takes it back. Takes no memory, and
-    /// never fails.
+    /// Exchanges a change with the storage, and leaves in its place its inverse. Takes no memory, and never fails.
     pub fn swap(&mut self, change: &mut Change)
         requires ready { Ready self.old.parts change.old }
         requires fits { Fit (state_in_place self.old) (means self.old.parts.elements change.old) }
@@ -125,7 +124,7 @@ impl Storage {
         change.swap(&mut self.parts);
     }
 
-    /// Gives up a change that is not needed any more: its elements and its frames are spare again.
+    /// Discards a change that is no longer needed: its elements and its frames are spare again.
     pub fn discard(&mut self, change: Change)
         requires { Ready self.old.parts change }
         ensures discards { Discards self.old.parts change self.new.parts }

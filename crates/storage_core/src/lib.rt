@@ -1,8 +1,7 @@
 //! The private storage of a bench, in elements and frames: plans of services, and changes that are made in place.
 //!
-//! A plan is found by reading alone. `Storage::reserve` makes a change of it, which takes all the memory that is
-//! needed, and `Storage::swap` exchanges the change with the storage, and leaves in its place the one that takes it
-//! back.
+//! A plan is found by only reading. `Storage::reserve` makes a change of it, which takes all the memory that is needed,
+//! and `Storage::swap` exchanges the change with the storage, and leaves in its place its inverse.
 #![tactic(auto)]
 
 mod building;

@@ -18,20 +18,20 @@ use storage_plans::{StoragePlan, StorePlan, plan_obtain, plan_release, plan_stor
 use task_plans::{AttachPlan, EndPlan, plan_attach, plan_detach, plan_end_task, plan_run};
 use vsm_model::{Build, Cause, Get, Obtain, Release, Reply, Service};
 
-/// What an accepted request will do. It was found by reading alone, and nothing is changed yet.
+/// What an accepted request will do. It was found by only reading, and nothing has changed yet.
 #[derive(Drop)]
 pub enum Plan {
-    /// Storage that is obtained or released, a cell that is handed out or given back, or a turn.
+    /// Storage that is obtained or released, a cell that is given out or returned, or a turn.
     Storage(StoragePlan),
     /// Bytes that are stored.
     Store(StorePlan),
-    /// A task that comes, with its subpools.
+    /// A new task, with its subpools.
     Attach(AttachPlan),
     /// Tasks that end.
     End(EndPlan),
-    /// A cell pool that comes.
+    /// A new cell pool.
     Build(BuildPlan),
-    /// A cell pool that goes.
+    /// A cell pool that is deleted.
     Delete(DeletePlan),
 }
 
@@ -75,7 +75,7 @@ fn store_planned(planned: Result<StorePlan, Cause>) -> Result<Plan, Cause>
     }
 }
 
-// The plan of a task that comes.
+// The plan of a new task.
 fn attach_planned(planned: Result<AttachPlan, Cause>) -> Result<Plan, Cause>
     ensures { (settings : Settings) (names_full : Bool) (m : StorageState) (x : Asked)
         → IsAttachPlanned settings names_full m x planned → IsPlanned settings names_full m x result }
@@ -97,7 +97,7 @@ fn end_planned(planned: Result<EndPlan, Cause>) -> Result<Plan, Cause>
     }
 }
 
-// The plan of a cell that is handed out or given back.
+// The plan of a cell that is given out or returned.
 fn cell_planned(planned: Result<StoragePlan, Cause>) -> Result<Plan, Cause>
     ensures { (settings : Settings) (names_full : Bool) (m : StorageState) (x : Asked)
         → IsCellPlanned settings names_full m x planned → IsPlanned settings names_full m x result }
@@ -108,7 +108,7 @@ fn cell_planned(planned: Result<StoragePlan, Cause>) -> Result<Plan, Cause>
     }
 }
 
-// The plan of a cell pool that comes.
+// The plan of a new cell pool.
 fn build_planned(planned: Result<BuildPlan, Cause>) -> Result<Plan, Cause>
     ensures { (settings : Settings) (names_full : Bool) (m : StorageState) (x : Asked)
         → IsBuildPlanned settings names_full m x planned → IsPlanned settings names_full m x result }
@@ -119,7 +119,7 @@ fn build_planned(planned: Result<BuildPlan, Cause>) -> Result<Plan, Cause>
     }
 }
 
-// The plan of a cell pool that goes.
+// The plan of a cell pool that is deleted.
 fn delete_planned(planned: Result<DeletePlan, Cause>) -> Result<Plan, Cause>
     ensures { (settings : Settings) (names_full : Bool) (m : StorageState) (x : Asked)
         → IsDeletePlanned settings names_full m x planned → IsPlanned settings names_full m x result }
@@ -132,8 +132,8 @@ fn delete_planned(planned: Result<DeletePlan, Cause>) -> Result<Plan, Cause>
 
 impl Storage {
     /// A plan for the service, or the first cause that refuses it. `names_full` says that the statement defines a name
-    /// for which there is no room. Reads alone, and takes no memory. The name of a cell pool has at most 63 bytes, and
-    /// its header 24.
+    /// for which there is no room. It only reads, and takes no memory. The name of a cell pool has at most 63 bytes,
+    /// and its header 24.
     ///
     /// The causes of each service and their order are those of `plan_obtain`, `plan_release`, `plan_whole`,
     /// `plan_store`, `plan_attach`, `plan_detach`, `plan_end_task`, `plan_run`, `plan_build`, `plan_get`, `plan_free`
@@ -163,8 +163,8 @@ impl Storage {
         }
     }
 
-    // Each of the services whose plans are large is planned by a call of its own, so that a statement makes room for
-    // the answer of its service alone.
+    // Each service with a large plan is planned by a call of its own, so that a statement makes room only for the
+    // answer of its service.
 
     #[inline(never)]
     fn plan_obtain(&self, o: Obtain, names_full: bool) -> Result<Plan, Cause>

@@ -1,5 +1,5 @@
 //! What a storage holds by position: the item of an index, from 0 on, in the order of the storage map, and none past
-//! the last. Each walks to its item; [`Storage::next_extent`] and the like go on from where they are.
+//! the last. Each walks to its item; [`Storage::next_extent`] and the like go on from their place.
 ghost use Rattle.std.specs.Prelude.{◌≡◌, slice_get};
 ghost use Rattle.task_tree.specs.Tasks.{tasks_in};
 ghost use Rattle.subpool_set.specs.Pools.{sharers};
@@ -27,7 +27,7 @@ impl Storage {
         self.parts.subpools.subpool_at(&self.parts.elements, i)
     }
 
-    /// The sharer of this index of a subpool, in ascending order. The owner is none.
+    /// The sharer of this index of a subpool, in ascending order. The owner isn't a sharer.
     pub fn sharer_at(&self, subpool: Subpool, i: u32) -> Option<u8>
         ensures { result ≡ slice_get (sharers (state_in_place self.now).subpools.sight
             subpool.number subpool.owner) i }

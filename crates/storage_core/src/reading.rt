@@ -11,8 +11,8 @@ use vsm_elements::Elements;
 use vsm_model::Cause;
 
 impl Storage {
-    /// Reads the bytes from the address on. Refused with `NotAssigned` where one of them doesn't lie in an assigned
-    /// page, and `out` is then as it was. Takes no memory.
+    /// Reads the bytes from the address on. Refused with `NotAssigned` if one of them doesn't lie in an assigned page;
+    /// `out` is then unchanged. Takes no memory.
     pub fn load(&self, address: u32, out: &mut [u8]) -> Result<(), Cause>
         ensures ok { OnOk result (load (state_of self.now) address (length out.old) ≡ Some out.new) }
         ensures err { OnErr result (load (state_of self.now) address (length out.old) ≡ None) }
@@ -22,7 +22,7 @@ impl Storage {
         plans::load(&self.parts, address, out)
     }
 
-    /// The word of a register of the task: 0 where there is no such task, and for a number past 15.
+    /// The word of a register of the task: 0 if no such task exists, and for a number past 15.
     pub fn register(&self, task: u8, register: u8) -> u32
         ensures { result ≡ (state_of self.now).words task register }
     {
@@ -36,7 +36,7 @@ impl Storage {
         self.parts.tasks.current()
     }
 
-    /// The cell pools, to be read in [`Storage::elements`], as long as the storage stays as it is.
+    /// The cell pools, to be read in [`Storage::elements`], as long as the storage doesn't change.
     pub fn cell_pools(&self) -> CellPools
         ensures stands { IsCellPools self.now.parts.elements result }
         ensures pools { (id : ℕ) → by_id self.now.parts.elements result id
@@ -45,7 +45,7 @@ impl Storage {
         self.parts.subpools.cell_pools(&self.parts.elements)
     }
 
-    /// The elements that the storage stands in, to be read.
+    /// The elements that hold the storage, to be read.
     pub fn elements(&self) -> &Elements
         ensures { result.now ≡ self.now.parts.elements }
     {

@@ -1,5 +1,5 @@
-//! Why an area goes where it goes, or has no place; and whose a page, or a subpool that a task sees, is. Reads alone,
-//! and takes no memory.
+//! Why an area goes where it goes, or has no place; and who owns a page, or a subpool that a task sees. All of it only
+//! reads, and takes no memory.
 ghost use Rattle.std.specs.Prelude.{◌≡◌, ◌*◌, ◌^◌, ◌<◌, ◌≤◌, ◌↔◌, true, None, IfSome, unwrap_or};
 ghost use Rattle.vsm_model.specs.declared.limits.Residence.TheVariants.{Below};
 ghost use Rattle.vsm_model.specs.Areas.{is_nowhere, place};
@@ -7,7 +7,7 @@ ghost use Rattle.vsm_model.specs.Obtaining.{longest, place_for};
 ghost use Rattle.vsm_model.specs.Regions.{regions_for, doublewords};
 ghost use Rattle.vsm_model.specs.Services.{maximum, minimum};
 ghost use Rattle.storage_plans.specs.Reasons.{IsReason, reasons_place};
-ghost use Rattle.storage_core.specs.Meaning.{settings_of, state_of};
+ghost use Rattle.storage_core.specs.Meaning.{settings_of, state_in_place, state_of};
 
 use crate::storage::Storage;
 use storage_plans::areas::subpool_for;
@@ -15,8 +15,8 @@ use storage_plans::reasons::{Sides, obtain_reasons, reasons};
 use vsm_model::{Obtain, Residence, Subpool};
 
 impl Storage {
-    /// What each side of the line that is looked at has for an area of `count` doublewords of the subpool, on a
-    /// boundary of `spacing` doublewords: above the line first, where it may be there.
+    /// What each side of the line that is searched has for an area of `count` doublewords of the subpool, on a boundary
+    /// of `spacing` doublewords: above the line first, if it may lie there.
     pub fn area_reasons(&self, side: Residence, subpool: Subpool, count: u32, spacing: u32) -> Sides
         requires { (0 < count) × (count ≤ 2 ^ 29) × (0 < spacing) × (spacing ≤ 512) }
         ensures first { IsReason (settings_of self.now) (state_of self.now) side subpool count spacing result.0 }
@@ -28,9 +28,9 @@ impl Storage {
         reasons(&self.parts, self.settings, side, subpool, count, spacing)
     }
 
-    /// How many doublewords a request for storage is given, and why they go where they go: as many as have a place, from
-    /// its rounded minimum to its rounded maximum; the minimum if that has none, which is just if the request wants
-    /// storage.
+    /// How many doublewords a request for storage is given, and why they go where they go: the most that have a place,
+    /// from its rounded minimum to its rounded maximum; the minimum if that has none, which is so exactly if there is
+    /// no storage for the request.
     pub fn obtain_reasons(&self, o: Obtain) -> (u32, Sides)
         requires number { o.number ≤ 127 }
         requires some { 0 < minimum o.lengths }
@@ -45,7 +45,7 @@ impl Storage {
         obtain_reasons(&self.parts, self.settings, o, subpool)
     }
 
-    /// The owner of the subpool that the task sees at the number; `None` where it sees none.
+    /// The owner of the subpool that the task sees at the number; `None` if it sees none.
     pub fn owner_seen(&self, task: u8, number: u8) -> Option<u8>
         ensures { result ≡ (state_of self.now).sight task number }
     {
@@ -54,7 +54,7 @@ impl Storage {
             .owner_seen(&self.parts.elements, task, number)
     }
 
-    /// The subpool that a page is assigned to; `None` where it isn't assigned. A page is an address divided by 4,096.
+    /// The subpool that a page is assigned to; `None` if it isn't assigned. A page is an address divided by 4,096.
     pub fn subpool_of_page(&self, page: u32) -> Option<Subpool>
         ensures { result ≡ (state_of self.now).pages page }
     {
@@ -66,5 +66,15 @@ impl Storage {
             Some(subpool) => Some(subpool),
             None => None,
         }
+    }
+
+    /// Whether a doubleword is free storage of the subpool; the walk goes down one tree, whatever is free.
+    pub fn is_free(&self, subpool: Subpool, doubleword: u32) -> bool
+        ensures { result ≡ (state_in_place self.now).subpools.free subpool doubleword }
+    {
+        self.parts
+            .subpools
+            .free_areas(&self.parts.elements, subpool)
+            .contains(&self.parts.elements, doubleword)
     }
 }

@@ -12,8 +12,8 @@ use vsm_model::Settings;
 /// Subpools, pages, doublewords and bytes of the regions below and above the 16 MB line (*Assembler Services Guide*,
 /// "Virtual storage management"), and the registers of the tasks.
 ///
-/// A contract sees it by two words of `specs/Meaning.antt`: `state_of`, the state of the plain machine that it is in,
-/// and `settings_of`, the settings that lay out its regions.
+/// A contract sees it through two definitions of `specs/Meaning.antt`: `state_of`, the state of the plain machine that
+/// it is in, and `settings_of`, the settings that lay out its regions.
 #[derive(Drop)]
 pub struct Storage {
     pub(crate) parts: Parts,
@@ -27,7 +27,7 @@ impl Storage {
     /// The storage of the regions that the settings lay out: task 1 is current, and owns and sees an empty subpool 0.
     /// At most a block of elements is made for it, and no frame.
     ///
-    /// `AllocError` where the memory for it isn't there.
+    /// `AllocError` if there is no memory for it.
     pub fn new(alloc: Global, settings: Settings) -> Result<Storage, AllocError>
         requires { settings_valid settings ≡ true }
         ensures state { IfOk result (λ s. state_in_place s ≡ first_storage settings) }

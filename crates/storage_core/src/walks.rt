@@ -23,14 +23,14 @@ use vsm_model::Subpool;
 use vsm_model::geometry::{LINE_DOUBLEWORD, LINE_PAGE};
 
 /// A place among the extents of a subpool, from which [`Storage::next_extent`] goes on at the cost of one element. It
-/// is one as long as the storage stays as it is.
+/// is valid as long as the storage doesn't change.
 #[derive(Clone, Copy, Debug, PartialEq, Eq)]
 pub struct ExtentPlace {
     extents: Extents,
     place: RunPlace,
 }
 
-/// A place among the free areas of a subpool, from which [`Storage::next_free_area`] goes on likewise.
+/// A place among the free areas of a subpool, from which [`Storage::next_free_area`] goes on in the same way.
 #[derive(Clone, Copy, Debug, PartialEq, Eq)]
 pub struct FreeAreaPlace {
     areas: FreeQueue,
@@ -38,14 +38,14 @@ pub struct FreeAreaPlace {
 }
 
 impl Storage {
-    /// The parent of a task, which is 0 of task 1; `None` where there is no such task.
+    /// The parent of a task, which is 0 for task 1; `None` if no such task exists.
     pub fn parent(&self, task: u8) -> Option<u8>
         ensures { result ≡ (state_of self.now).parents task }
     {
         self.parts.tasks.parent_of(&self.parts.elements, task)
     }
 
-    /// The place before the first subpool of any storage. A place is one as long as the storage stays as it is.
+    /// The place before the first subpool of any storage. A place is valid as long as the storage doesn't change.
     pub fn first_subpool_place() -> SubpoolPlace
         ensures place { (s : Storage) → IsSubpoolPlace s result }
         ensures all { (s : Storage) → subpools_left s result ≡ subpools_in_order (state_in_place s).subpools }
@@ -53,8 +53,8 @@ impl Storage {
         SubpoolStorage::first_subpool_place()
     }
 
-    /// The subpool behind the place, and the place behind that subpool; `None` behind the last. From the first place
-    /// on, the subpools come by number and then by owner. (z/OS MVS Programming: Assembler Services Guide, "Subpool
+    /// The subpool after the place, and the place after that subpool; `None` after the last. From the first place on,
+    /// the subpools are ordered by number and then by owner. (z/OS MVS Programming: Assembler Services Guide, "Subpool
     /// handling".)
     pub fn next_subpool(&self, place: SubpoolPlace) -> Option<(Subpool, SubpoolPlace)>
         requires { IsSubpoolPlace self.now place }
@@ -78,9 +78,9 @@ impl Storage {
         SubpoolStorage::first_sharer_place()
     }
 
-    /// The task behind the place that sees the subpool besides its owner, and the place behind that task; `None` behind
-    /// the last. From the first place on, the tasks come in ascending order. (z/OS MVS Programming: Assembler Services
-    /// Guide, "Subpool handling".)
+    /// The task after the place that sees the subpool without owning it, and the place after that task; `None` after
+    /// the last. From the first place on, the tasks ascend. (z/OS MVS Programming: Assembler Services Guide, "Subpool
+    /// handling".)
     pub fn next_sharer(&self, subpool: Subpool, place: SharerPlace) -> Option<(u8, SharerPlace)>
         ensures none { IfNone result (sharers_left self.now place subpool ≡ []) }
         ensures next { IfSome result (λ r. sharers_left self.now place subpool
@@ -91,7 +91,7 @@ impl Storage {
             .next_sharer(&self.parts.elements, subpool, place)
     }
 
-    /// The place before the first extent of the subpool before the place, with no look-up.
+    /// The place before the first extent of the subpool before the place, without a look-up.
     pub fn first_extent_at(&self, place: SubpoolPlace) -> ExtentPlace
         requires { IsBehindSubpool self.now place }
         ensures { IsExtentPlace self.now (subpool_before self.now place) result 0 }
@@ -102,7 +102,7 @@ impl Storage {
         }
     }
 
-    /// The place before the first free area of the subpool before the place, with no look-up.
+    /// The place before the first free area of the subpool before the place, without a look-up.
     pub fn first_free_area_at(&self, place: SubpoolPlace) -> FreeAreaPlace
         requires { IsBehindSubpool self.now place }
         ensures { IsFreeAreaPlace self.now (subpool_before self.now place) result 0 }
@@ -126,8 +126,8 @@ impl Storage {
         }
     }
 
-    /// The extent behind the place, in pages of 4,096 bytes, and the place behind it; `None` behind the last. They
-    /// ascend, below and above the 16 MB line.
+    /// The extent after the place, in pages of 4,096 bytes, and the place after it; `None` after the last. They ascend,
+    /// below and above the 16 MB line.
     pub fn next_extent(&self, place: ExtentPlace) -> Option<(Run, ExtentPlace)>
         requires { (p : Named) × (i : ℕ) × IsExtentPlace self.now p place i }
         ensures is { (p : Named) (i : ℕ) → IsExtentPlace self.now p place i
@@ -142,8 +142,8 @@ impl Storage {
         Some((run, ExtentPlace { extents, place }))
     }
 
-    /// What the extents of the subpool that has the place come to, in pages, below and above the 16 MB line. It costs
-    /// some descents, however many extents there are.
+    /// The sums of the extents of the subpool of the place, in pages, below and above the 16 MB line. They cost a few
+    /// descents, however many extents there are.
     pub fn extent_sums(&self, place: ExtentPlace) -> SideSums
         requires { (p : Named) × (i : ℕ) × IsExtentPlace self.now p place i }
         ensures { (p : Named) (i : ℕ) → IsExtentPlace self.now p place i
@@ -165,8 +165,8 @@ impl Storage {
         }
     }
 
-    /// The free area behind the place, in doublewords, and the place behind it; `None` behind the last. They ascend,
-    /// below and above the 16 MB line.
+    /// The free area after the place, in doublewords, and the place after it; `None` after the last. They ascend, below
+    /// and above the 16 MB line.
     pub fn next_free_area(&self, place: FreeAreaPlace) -> Option<(Area, FreeAreaPlace)>
         requires { (p : Named) × (i : ℕ) × IsFreeAreaPlace self.now p place i }
         ensures is { (p : Named) (i : ℕ) → IsFreeAreaPlace self.now p place i
@@ -181,8 +181,8 @@ impl Storage {
         Some((area, FreeAreaPlace { areas, place }))
     }
 
-    /// What the free areas of the subpool that has the place come to, in doublewords, below and above the 16 MB line. It
-    /// costs some descents, however many areas there are.
+    /// The sums of the free areas of the subpool of the place, in doublewords, below and above the 16 MB line. They
+    /// cost a few descents, however many areas there are.
     pub fn free_area_sums(&self, place: FreeAreaPlace) -> SideSums
         requires { (p : Named) × (i : ℕ) × IsFreeAreaPlace self.now p place i }
         ensures { (p : Named) (i : ℕ) → IsFreeAreaPlace self.now p place i
@@ -191,7 +191,7 @@ impl Storage {
         place.areas.sums(&self.parts.elements, LINE_DOUBLEWORD)
     }
 
-    /// What the runs of unassigned pages come to, in pages, below and above the 16 MB line. It costs some descents,
+    /// The sums of the runs of unassigned pages, in pages, below and above the 16 MB line. They cost a few descents,
     /// however many runs there are.
     pub fn unassigned_sums(&self) -> SideSums
         ensures { IsSidesOf 4096 (unassigned_runs (state_in_place self.now)) result }

@@ -1,4 +1,4 @@
--- What the totals of a map are as sums, and how great these can be.
+-- The totals of a map as sums, and how great these can be.
 use Rattle.std.proofs.Common.{◌≡◌, ◌+◌, ◌*◌, ◌^◌, ◌≤◌, true, false}
 use Rattle.std.proofs.Props.{props}
 use mathlib.Core.Logic.{∥∥₁_elim}
@@ -9,7 +9,7 @@ use Rattle.vsm_model.specs.declared.limits.Settings.{Settings}
 use Rattle.vsm_model.specs.Regions.{settings_valid, low_region, high_region}
 use Rattle.vsm_model.specs.Map.{assigned_pages, total_bytes}
 
--- what the sums over a storage come to on the plain machine, and that they are few
+-- what the sums over a storage are on the plain machine, and that they are small
 pub record SumsAre (settings : Settings) (m : StorageState) : Type 0 where
   pub low : assigned_pages (model_of m) (low_region settings) ≡ all_pages m.subpools true
   pub high : assigned_pages (model_of m) (high_region settings) ≡ all_pages m.subpools false

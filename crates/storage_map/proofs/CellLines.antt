@@ -1,4 +1,4 @@
--- The lines of cell pools in parts, and what remains of them behind each cell pool.
+-- The lines of cell pools in parts, and what remains of them after each cell pool.
 use Rattle.std.proofs.Common.{◌≡◌, ℕ, ◌+◌, ◌*◌, ◌^◌, ◌<◌, true, false, List, [], ◌∷◌, ◌++◌, All, Option, Some, None, IsSome, Bor, length, flat_map, codes, refl, sym, ap, ◌∙◌, subst}
 use Rattle.std.specs.Prelude.{IfSome, option_map, option_copied}
 use Rattle.std.proofs.lemmas.List.Folds.{flat_map-map}
@@ -20,12 +20,12 @@ use Rattle.storage_map.proofs.Remaining.{Remains, remains_less, shorter}
 abbrev pub row_lines : List ℕ × CellPool → List ℕ
 row_lines row = cell_pool_lines row.0 row.1
 
--- all rows come behind no name
+-- if no name is given, all rows follow
 pub all_rows : (table : CellPools) → table ≡ rows_behind table None
 all_rows [] = refl
 all_rows (row ∷ table) = ap (λ (z : CellPools). row ∷ z) (all_rows table)
 
--- the name behind which the walk is
+-- the name after which the walk is
 pub low_is : (o : Option (Bor ArrayString)) (p : Option ArrayString) → option_copied o ≡ p
     → option_map (λ (n : Bor ArrayString). n.now.bytes) o ≡ option_map (λ (n : ArrayString). n.bytes) p
 low_is None p e = ap (option_map (λ (n : ArrayString). n.bytes)) e
@@ -68,7 +68,7 @@ pool_ends (Some p) settings extents there ends s x =
     let Q : List Extent → Type 0 = All (λ (x : Extent). x.start + rounded (x.count * p.settings.size) < 2 ^ 31) in
     subst P (sym s) (subst Q (sym x) ends)
 
--- Of the rows behind a name the first is that of the cell pool that comes next, and behind it are those behind its name.
+-- The first of the rows after a name is that of the next cell pool, and those after it are those after its name.
 module _ (table : CellPools) (low : Option (List ℕ)) (name : List ℕ) where
   abbrev IsNextRow : Pool → Type 0
   IsNextRow p = rows_behind table low ≡ (p.name, cell_pool_of p) ∷ rows_behind table (Some p.name)

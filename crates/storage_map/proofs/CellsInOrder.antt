@@ -1,4 +1,4 @@
--- Cell pools one after the other, and lists that are walked over: what comes next, and that none comes behind the last.
+-- Cell pools one after the other, and lists in a walk: what is next, and that nothing follows the last.
 use Rattle.std.proofs.Common.{◌≡◌, ℕ, ◌+◌, ◌≤◌, true, false, zero, suc, List, [], ◌∷◌, Option, Some, None, IsSome, length, drop, refl, sym, ap, ◌∙◌, subst, arith, length-drop}
 use Rattle.std.proofs.Props.{props}
 use Rattle.std.specs.Prelude.{slice_get, IfSome, IfNone}
@@ -20,7 +20,7 @@ use Rattle.storage_core.specs.declared.storage.Storage.{Storage}
 use Rattle.storage_map.specs.Cells.{cell_pool}
 use Rattle.storage_core.specs.Meaning.{state_in_place, settings_of}
 
--- Of two lists of which one is the other from an index on: what comes next, and where none does.
+-- Of two lists of which one is the other from an index on: what is next, and when nothing is.
 module _ {A : Type 0} (left all : List A) (k : ℕ) (is : left ≡ drop k all) where
   pub step_left : (x : A) (rest : List A) → left ≡ x ∷ rest → rest ≡ drop (k + 1) all
   step_left x rest next = ap (drop 1) (sym next ∙ is) ∙ drop-drop 1 k all
@@ -37,7 +37,7 @@ at_front (y ∷ all) (suc k) x rest e = at_front all k x rest e
 pub here_left : {A : Type 0} (left all : List A) (k : ℕ) (x : A) (rest : List A) → left ≡ drop k all → left ≡ x ∷ rest → slice_get all k ≡ Some x
 here_left left all k x rest is next = at_front all k x rest (sym is ∙ next)
 
--- what holds of a cell pool that is there
+-- what holds of a cell pool that exists
 pub of_some : (o : Option Pool) (P Q : Pool → Type 0) → ((p : Pool) → o ≡ Some p → P p → Q p) → IfSome o P → IfSome o Q
 of_some None P Q f h = h
 of_some (Some p) P Q f h = f p refl h
@@ -75,14 +75,14 @@ module _ (one : PoolsAreOne) (s : Store) (q : CellPools) (pools : ℕ → Option
   next_there None h = h
   next_there (Some id) h = let Q : Option Pool → Type 0 = IsSome in subst Q (same id) h
 
--- no extent of a cell pool ends behind the regions
+-- no extent of a cell pool ends past the regions
 pub ends_in_regions : CellExtentsEndInRegions → (s : Storage) → AreNamed (state_in_place s).subpools.cells → (id : ℕ) → IfSome (cell_pool s id) EndInRegions
 ends_in_regions law s named id = go (cell_pool s id) refl where
   go : (o : Option Pool) → cell_pool s id ≡ o → IfSome o EndInRegions
   go None e = tt
   go (Some p) e = ∥∥₁_elim s.held.sound (hlevel props) (λ sound. law (settings_of s) (state_in_place s) id p s.held.valid sound named e)
 
--- The rows behind the name of the cell pool whose row stands at an index are those from the next index on.
+-- The rows after the name of the cell pool whose row is at an index are those from the next index on.
 pub rows_left : (table : CellRows) (bytes : List ℕ) (k : ℕ) (o : Option Pool) → IsSome o
     → IfSome o (λ p. drop k table ≡ (p.name, cell_pool_of p) ∷ rows_behind table (Some p.name)) → IfSome o (λ p. bytes ≡ p.name)
     → rows_behind table (Some bytes) ≡ drop (k + 1) table

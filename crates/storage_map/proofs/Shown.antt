@@ -25,7 +25,7 @@ numbers_next k end h = (let e : end - k ≡ suc (end - (k + 1)) = omega (arith, 
 pub numbers_end : (k end : ℕ) → end ≤ k → numbers k end ≡ []
 numbers_end k end h = (let e : end - k ≡ 0 = omega (arith, h) in ap (cells_from 1 k) e)
 
--- the lines of a task that is there, and those of one that isn't
+-- the lines of a task that exists, and those of one that doesn't
 pub task_there : (s : State) (task parent : ℕ) → s.parents task ≡ Some parent →
     task_lines s task ≡ task_line s task parent ++ register_line s task (codes "  R0") 0 ++ register_line s task (codes "  R8") 8
 task_there s task parent e =
@@ -56,7 +56,7 @@ module _ (settings : Settings) (m : StorageState) (p : Subpool) (valid : setting
       (∥∥₁_elim sound (hlevel props) (λ h. law settings m p valid h))
       ∙ flat_map-map (λ (run : ℕ × ℕ). area_line (codes "  FREE") (8 * run.0) (8 * run.1)) pair_of (in_place.free_areas m.subpools p)
 
-  -- the lines of a subpool that is there
+  -- the lines of a subpool that exists
   pub subpool_there : ExtentsAreShown → FreeAreasAreShown → is_there m.subpools p ≡ true →
       subpool_lines settings (model_of m) p.number p.owner
       ≡ subpool_line (model_of m) p ++ flat_map extent_line (in_place.extents m.subpools p) ++ flat_map free_line (in_place.free_areas m.subpools p)

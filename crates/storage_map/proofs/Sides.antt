@@ -1,4 +1,4 @@
--- What runs come to on both sides of the 16 MB line, as the totals of a map add it up.
+-- The sums of runs on both sides of the 16 MB line, as the totals of a map add them up.
 use Rattle.std.proofs.Common.{◌≡◌, ℕ, ◌+◌, Bool, true, false, nat_lt, if◌then◌else◌, List, [], ◌∷◌, refl, ap, ◌∙◌, arith}
 use Rattle.run_set.specs.Runs.{Run}
 use Rattle.run_set.specs.Sums.{numbers_in, low_runs, high_runs, IsSidesOf}

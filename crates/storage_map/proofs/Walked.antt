@@ -10,7 +10,7 @@ use Rattle.storage_core.specs.Walks.{subpools_left, subpool_before, sharers_left
 use Rattle.vsm_model.specs.declared.Subpool.{Subpool}
 use Rattle.vsm_model.specs.Map.{sharers}
 
--- the next subpool is the one before the place behind it
+-- the next subpool is the one before the place after it
 pub next_before : (s : Storage) (at behind : SubpoolPlace) (p : Subpool) → subpools_left s at ≡ p ∷ subpools_left s behind → subpool_before s behind ≡ p
     → subpools_left s at ≡ subpool_before s behind ∷ subpools_left s behind
 next_before s at behind p next before = next ∙ ap (λ (q : Subpool). q ∷ subpools_left s behind) (sym before)

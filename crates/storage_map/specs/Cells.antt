@@ -13,14 +13,14 @@ use Rattle.storage_core.specs.Meaning.{state_in_place}
 abbrev pub cell_pool : Storage → ℕ → Option Pool
 cell_pool s id = (state_in_place s).subpools.cells id
 
--- the place is before, between or behind the extents of a cell pool, and these are behind it
+-- the place is before, between or after the extents of a cell pool, and these are after it
 abbrev pub IsExtentPlace : Storage → CellExtentPlace → Type 0
 IsExtentPlace s place = walks.IsExtentPlace s.parts.elements place
 
 abbrev pub extents_left : Storage → CellExtentPlace → List Extent
 extents_left s place = walks.extents_left s.parts.elements place
 
--- the place is before, between or behind the free cells of a cell pool, and these are behind it
+-- the place is before, between or after the free cells of a cell pool, and these are after it
 abbrev pub IsCellPlace : Storage → CellPlace → Type 0
 IsCellPlace s place = walks.IsCellPlace s.parts.elements place
 

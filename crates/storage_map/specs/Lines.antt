@@ -18,7 +18,7 @@ extent_line r = area_line (codes "  EXTENT") (4096 * r.start) (4096 * r.len)
 abbrev pub free_line : Run → List ℕ
 free_line r = area_line (codes "  FREE") (8 * r.start) (8 * r.len)
 
--- a further sharer
+-- another sharer
 abbrev pub sharer_text : ℕ → List ℕ
 sharer_text task = codes "," ++ decimal task
 

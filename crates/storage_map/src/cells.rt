@@ -29,7 +29,7 @@ fn put_location<W: Write>(gathered: &mut Gathered, writer: &mut W, location: Res
     }
 }
 
-/// Puts a header in quotes, and nothing where there is none.
+/// Puts a header in quotes, and nothing if there is none.
 fn put_header<W: Write>(gathered: &mut Gathered, writer: &mut W, header: &Option<CellPoolHeader>)
     ensures { Puts (W.contents writer.old) (W.contents writer.new) gathered.old gathered.new
         (header_text (option_map (λ h. h.items) header.now)) }
@@ -96,7 +96,7 @@ pub(crate) fn put_cell_extent<W: Write>(
     put_area(gathered, writer, b"  EXTENT", extent.start, length as u32);
 }
 
-/// Puts a line for each extent behind the place, in the order in which they were made.
+/// Puts a line for each extent after the place, in the order in which they were made.
 fn put_cell_extents<W: Write>(
     gathered: &mut Gathered,
     writer: &mut W,
@@ -127,7 +127,7 @@ pub(crate) fn put_free_cell<W: Write>(gathered: &mut Gathered, writer: &mut W, c
     gathered.put(writer, b"\n");
 }
 
-/// Puts a line for each free cell behind the place, in the order in which they are handed out.
+/// Puts a line for each free cell after the place, in the order in which they are given out.
 fn put_free_cells<W: Write>(
     gathered: &mut Gathered,
     writer: &mut W,

@@ -1,6 +1,6 @@
-//! What a storage comes to.
+//! The totals of a storage.
 
-/// What the storage comes to: pages of 4,096 bytes, and bytes.
+/// The totals of a storage: pages of 4,096 bytes, and bytes.
 #[derive(Clone, Copy, PartialEq, Eq)]
 pub struct Totals {
     /// The assigned pages below the 16 MB line.

@@ -55,7 +55,7 @@ pub fn put_map<W: Write>(gathered: &mut Gathered, writer: &mut W, storage: &Stor
     put_bytes(gathered, writer, totals);
 }
 
-/// Puts the line of a history: how many changes are kept, of how many that can be.
+/// Puts the line of a history: how many changes are kept, and how many can be.
 #[tactic(auto, using(text_output::proofs::Gathering::puts_both))]
 pub fn put_history<W: Write>(gathered: &mut Gathered, writer: &mut W, kept: u32, limit: u32)
     ensures { Puts (W.contents writer.old) (W.contents writer.new) gathered.old gathered.new
@@ -66,8 +66,8 @@ pub fn put_history<W: Write>(gathered: &mut Gathered, writer: &mut W, kept: u32,
     gathered.put(writer, b"\n");
 }
 
-/// Writes the map of a storage. After a fault what went out is a front of the text; a writer that takes nothing is
-/// answered by an error of the kind `WriteZero`. Takes no memory.
+/// Writes the map of a storage. After a fault what was written is a prefix of the text; a writer that takes nothing
+/// gives an error of the kind `WriteZero`. Takes no memory.
 pub fn write_map<W: Write>(storage: &Storage, writer: &mut W) -> Result<(), io::Error>
     ensures { Writes (W.contents writer.old) (W.contents writer.new)
         (storage_map (settings_of storage.now) (state_of storage.now)) result }
@@ -77,7 +77,7 @@ pub fn write_map<W: Write>(storage: &Storage, writer: &mut W) -> Result<(), io::
     gathered.finish(writer)
 }
 
-/// Writes the line of a history: how many changes are kept, of how many that can be. Faults are those of `write_map`.
+/// Writes the line of a history: how many changes are kept, and how many can be. Faults are those of `write_map`.
 pub fn write_history<W: Write>(kept: u32, limit: u32, writer: &mut W) -> Result<(), io::Error>
     ensures { Writes (W.contents writer.old) (W.contents writer.new) (history_line kept limit) result }
 {

@@ -11,8 +11,7 @@ use storage_changes::order::rows_come_in_order;
 use storage_core::Storage;
 use subpool_storage::laws::cell_pools_are_named;
 
-/// The cell pool whose name comes next behind this one in byte order, or comes first where none is given; `None`
-/// past the last.
+/// The cell pool whose name follows this one in byte order, or is the first if none is given; `None` past the last.
 ///
 /// It walks over all cell pools.
 pub fn next_cell_pool(storage: &Storage, behind: Option<&CellPoolName>) -> Option<CellId>
@@ -45,7 +44,7 @@ pub fn cell_pool_settings(storage: &Storage, id: CellId) -> CellSettings
     storage.cell_pools().settings(storage.elements(), id)
 }
 
-/// The header of a cell pool; `None` where it was built without one.
+/// The header of a cell pool; `None` if it was built without one.
 pub fn cell_pool_header(storage: &Storage, id: CellId) -> Option<CellPoolHeader>
     requires { IsSome (cell_pool storage.now id) }
     ensures { IfSome (cell_pool storage.now id) (λ p. option_map (λ h. h.items) result ≡ p.header) }

@@ -42,7 +42,7 @@ pub fn cell_extent_at(storage: &Storage, id: CellId, i: u32) -> Option<Extent>
     Some(extent)
 }
 
-/// The address of the free cell of this index of a cell pool, in the order in which they are handed out.
+/// The address of the free cell of this index of a cell pool, in the order in which they are given out.
 pub fn free_cell_at(storage: &Storage, id: CellId, i: u32) -> Option<u32>
     requires { IsSome (cell_pool storage.now id) }
     ensures { IfSome (cell_pool storage.now id) (λ p. result ≡ slice_get p.cells i) }

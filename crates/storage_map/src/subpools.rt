@@ -15,7 +15,7 @@ use storage_changes::maps::{runs_are_shown, subpools_are_shown};
 use storage_core::{Storage, Subpool, SubpoolPlace};
 use text_output::{Gathered, put_decimal};
 
-/// A subpool that a walk found, and the place behind it.
+/// A subpool that a walk found, and the place after it.
 #[derive(Clone, Copy)]
 pub(crate) struct FoundSubpool {
     subpool: Subpool,
@@ -31,7 +31,7 @@ fn put_sharer<W: Write>(gathered: &mut Gathered, writer: &mut W, task: u8)
     put_decimal(gathered, writer, u64::from(task));
 }
 
-/// Puts the tasks that see the subpool besides its owner, with commas between, or NONE.
+/// Puts the tasks that see the subpool without owning it, with commas between, or NONE.
 fn put_sharers<W: Write>(
     gathered: &mut Gathered,
     writer: &mut W,

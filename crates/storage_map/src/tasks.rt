@@ -19,7 +19,7 @@ struct RegisterRow {
     ghost within: { first ≤ 8 },
 }
 
-/// Puts that the task is the current one, and nothing where it isn't.
+/// Puts that the task is the current one, and nothing if it isn't.
 #[tactic(auto, using(text_output::proofs::Gathering::puts_none))]
 fn put_current<W: Write>(gathered: &mut Gathered, writer: &mut W, storage: &Storage, task: u8)
     ensures { Puts (W.contents writer.old) (W.contents writer.new) gathered.old gathered.new
@@ -75,7 +75,7 @@ fn put_registers<W: Write>(
     gathered.put(writer, b"\n");
 }
 
-/// Puts the lines of a task, and none where there is no such task.
+/// Puts the lines of a task, and none if no such task exists.
 fn put_task<W: Write>(gathered: &mut Gathered, writer: &mut W, storage: &Storage, task: u8)
     ensures { Puts (W.contents writer.old) (W.contents writer.new) gathered.old gathered.new
         (task_lines (state_of storage.now) task) }

@@ -8,7 +8,7 @@ use storage_changes::maps::cell_extents_end;
 use storage_core::Storage;
 use subpool_storage::laws::cell_pools_are_named;
 
-/// The place before the first extent of a cell pool. None of its extents ends behind the regions.
+/// The place before the first extent of a cell pool. None of its extents ends past the regions.
 pub fn first_cell_extent(storage: &Storage, id: CellId) -> CellExtentPlace
     requires { IsSome (cell_pool storage.now id) }
     ensures place { IsExtentPlace storage.now result }
@@ -20,8 +20,8 @@ pub fn first_cell_extent(storage: &Storage, id: CellId) -> CellExtentPlace
     storage.cell_pools().first_extent(storage.elements(), id)
 }
 
-/// The extent behind the place, and the place behind that extent; `None` behind the last. From the first place on,
-/// the extents come in the order in which they were made.
+/// The extent after the place, and the place after that extent; `None` after the last. From the first place on, the
+/// extents are in the order in which they were made.
 pub fn next_cell_extent(
     storage: &Storage,
     place: CellExtentPlace,
@@ -43,8 +43,8 @@ pub fn first_free_cell(storage: &Storage, id: CellId) -> CellPlace
     storage.cell_pools().first_cell(storage.elements(), id)
 }
 
-/// The address of the free cell behind the place, and the place behind that cell; `None` behind the last. From the
-/// first place on, the cells come in the order in which they are handed out.
+/// The address of the free cell after the place, and the place after that cell; `None` after the last. From the first
+/// place on, the cells are in the order in which they are given out.
 pub fn next_free_cell(storage: &Storage, place: CellPlace) -> Option<(u32, CellPlace)>
     requires { IsCellPlace storage.now place }
     ensures none { IfNone result (cells_left storage.now place ≡ []) }

@@ -38,7 +38,7 @@ number_allowed n rows h =
     skip ((n == 131) || (n == 132)) UnsupportedSubpool ((nat_lt 127 n, SubpoolNotAllowed) ∷ rows) (not_131 n h)
     ∙ skip (nat_lt 127 n) SubpoolNotAllowed rows (not_above n h)
 
--- The greatest count that passes, where just those up to a bound do, and the most doesn't.
+-- The greatest count that passes, if exactly those up to a bound do, and the most doesn't.
 module _ (f : ℕ → Bool) (least most top : ℕ) (some : 0 < least) (ordered : least ≤ most) (up_to : IsUpTo f top) (not_most : f most ≡ false) where
   less : top < most
   less =
@@ -62,7 +62,7 @@ module _ (f : ℕ → Bool) (least most top : ℕ) (some : 0 < least) (ordered :
   greatest_none : top < least → greatest f least (suc most - least) ≡ None
   greatest_none few = sym (greatest_by f least (suc most - least) None (λ k from below. too_long k (omega (arith, few, from))))
 
--- The most is the greatest where it passes.
+-- The most is the greatest if it passes.
 greatest_is_most : (f : ℕ → Bool) (least most : ℕ) → least ≤ most → f most ≡ true → greatest f least (suc most - least) ≡ Some most
 greatest_is_most f least most ordered e =
     sym (greatest_by f least (suc most - least) (Some most) (e, ordered, omega (arith, ordered), λ k above below. absurd (omega (arith, above, below, ordered))))
@@ -83,19 +83,19 @@ module _ (settings : Settings) (s : State) (o : Obtain) where
       ∙ ap (λ (z : Subpool). place s (regions_for settings (side settings o.location)) z count sp) is_subpool
       ∙ ap (λ (z : ℕ). place s (regions_for settings (side settings o.location)) (seen_or_own s o.number) count z) is_spacing
 
-  -- what is known of places on the side that is asked for, and so on, is known of the request's
+  -- what is known of places on the requested side, and so on, is known of the request's
   pub up_to_for : (sd : Residence) (p : Subpool) (sp top : ℕ) → sd ≡ side settings o.location → p ≡ seen_or_own s o.number → sp ≡ spacing o.boundary →
       IsUpTo (λ n. not (is_nowhere (place s (regions_for settings sd) p n sp))) top → IsUpTo (λ n. not (is_nowhere (place_for settings s o n))) top
   up_to_for sd p sp top is_side is_subpool is_spacing h n some =
       ap (λ (z : Place). not (is_nowhere z)) (sym (place_is sd p sp is_side is_subpool is_spacing n)) ∙ h n some
 
-  -- whether so many doublewords have a place
+  -- whether this many doublewords have a place
   pub has_place : (sd : Residence) (p : Subpool) (sp : ℕ) → sd ≡ side settings o.location → p ≡ seen_or_own s o.number → sp ≡ spacing o.boundary →
       (count : ℕ) (found : Option AreaPlace) → place_of found ≡ place s (regions_for settings sd) p count sp → not (is_nowhere (place_for settings s o count)) ≡ is_some found
   has_place sd p sp is_side is_subpool is_spacing count found e =
       ap (λ (z : Place). not (is_nowhere z)) (sym (e ∙ place_is sd p sp is_side is_subpool is_spacing count)) ∙ is_found found
 
-  -- The most that is asked for is the length where it has a place; and where it has none, the bound of those that have one is.
+  -- The length is the most requested if that has a place, and otherwise the bound of those that have one.
   module _ (most : ℕ) (is_most : most ≡ doublewords (maximum o.lengths)) (ordered : minimum o.lengths ≤ maximum o.lengths) where
     abbrev passes : ℕ → Bool
     passes n = not (is_nowhere (place_for settings s o n))
@@ -144,7 +144,7 @@ module _ (settings : Settings) (s : State) (o : Obtain) where
   from_not true e = refl
   from_not false e = absurd (true≢false e)
 
-  -- What is given: none if not even the fewest have a place, else as many as have one, at most the most.
+  -- What is given: none if not even the fewest have a place, otherwise as many as have one, at most the most.
   module _ (top : ℕ) (some : 0 < minimum o.lengths) (ordered : minimum o.lengths ≤ maximum o.lengths)
       (up_to : IsUpTo (λ n. not (is_nowhere (place_for settings s o n))) top) where
     abbrev bottom : ℕ

@@ -1,4 +1,4 @@
--- Pages for which a change has frames come to be assigned by its records.
+-- Pages for which a change has frames become assigned by its records.
 use Rattle.std.specs.Prelude.{⊤}
 use Rattle.std.proofs.Common.{◌≡◌, ℕ, zero, suc, ◌+◌, ◌-◌, ◌*◌, Bool, true, false, ◌==◌, if◌then◌else◌, List, [], ◌∷◌, ◌++◌, map, refl, ◌∙◌, arith}
 use Rattle.std.proofs.lemmas.Bool.{cond-true}
@@ -75,11 +75,11 @@ kept w (CellExtent r ∷ rs) keep k = kept (step w (CellExtent r)) rs keep.1 k
 kept w (Cell r ∷ rs) keep k = kept (step w (Cell r)) rs keep.1 k
 kept w (Bytes r ∷ rs) keep k = kept (step w (Bytes r)) rs keep.1 k
 
--- where there are no such pages
+-- if there are no such pages
 pub none_assigned : (unassigned : ℕ → Bool) (k : ℕ) → inside k (run_of 0 0) ≡ true → unassigned k ≡ false
 none_assigned unassigned k e = let at = inside_in 0 0 k e in absurd (omega (arith, at.1))
 
--- where an area is taken, with other records behind it
+-- if an area is taken, followed by other records
 pub place_assigns : (w : Walk) (p : Subpool) (count : ℕ) (to : AreaPlace) (rest : List Record) → KeepPages rest →
     (k : ℕ) → inside k (place_pages count to) ≡ true → (walk w (place_records p count to ++ rest)).state.unassigned k ≡ false
 place_assigns w p count (Inside d) rest keep k e = none_assigned (λ k. (walk w (place_records p count (Inside d) ++ rest)).state.unassigned k) k e

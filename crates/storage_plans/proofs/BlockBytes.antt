@@ -23,7 +23,7 @@ use Rattle.storage_plans.proofs.BytesRead.{byte_shown}
 among_in : (a n k : ℕ) → among a n k ≡ true → (a ≤ k) × (k < a + n)
 among_in a n k e = grind (arith, nat_tests)
 
--- before place k the bytes of the store stand over those held, and from it on none do
+-- before place k the bytes of the store replace those held, and from it on none do
 pub record PutBefore (held now : List ℕ) (first address : ℕ) (bytes : List ℕ) (k : ℕ) : Type 0 where
   pub same_length : length now ≡ length held
   pub before : (j : ℕ) → j < k → slice_index_or now j 0 ≡ put_at held first address bytes j

@@ -19,7 +19,7 @@ same_place a = omega arith
 next_place : (a i : ℕ) → suc a + i ≡ a + suc i
 next_place a i = omega arith
 
--- a list is what is read where each of its places has the byte of an address
+-- a list is what is read if each of its places has the byte of an address
 bytes_got : (n : ℕ) (xs : List ℕ) (s : State) (a : ℕ) → length xs ≡ n → ((i : ℕ) → i < n → s.bytes (a + i) ≡ Some (slice_index_or xs i 0)) → bytes_from s a n ≡ xs
 bytes_got zero [] s a e h = refl
 bytes_got zero (x ∷ xs) s a e h = cc
@@ -58,7 +58,7 @@ module _ (p : Parts) (frameless : IsFrameless p) where
         there = all_pass_from (λ a. is_some (s.bytes a)) address (length had)
             (λ k low high. ap (λ a. is_some (s.bytes a)) (back k low) ∙ ap is_some (got (k - address) (omega (arith, low, high))))
 
-  -- what isn't there isn't loaded
+  -- what doesn't exist isn't loaded
   pub not_loaded : (count address page : ℕ) → IsLowest p.region address count page → load s address count ≡ None
   not_loaded count address page low =
       cond-false (are_there s address count) (Some (bytes_from s address count)) None (sym (all_pass_stops (λ a. is_some (s.bytes a)) address count low.place low.inside (ap is_some none))) where

@@ -31,7 +31,7 @@ use Rattle.storage_plans.proofs.Assigning.{none_assigned}
 pub no_registers : AreRegisters []
 no_registers = let below : (ℕ × ℕ) → Type 0 = λ row. row.0 < 16 in All-nil below
 
--- one more register
+-- another register
 pub register_and : (register word : ℕ) (rows : List (ℕ × ℕ)) → register < 16 → AreRegisters rows → AreRegisters ((register, word) ∷ rows)
 register_and register word rows is are = let below : (ℕ × ℕ) → Type 0 = λ row. row.0 < 16 in All-cons below (register, word) rows is are
 
@@ -72,7 +72,7 @@ module _ (settings : Settings) (names_full : Bool) (m : StorageState) (x : Servi
   carries_out plan records blanks fresh t is_emptied is_records is_blanks is_fresh accepted leads few range unassigned assigned =
       carries_out_from plan None records blanks fresh t is_emptied is_records is_blanks is_fresh accepted leads tt few range unassigned assigned
 
-  -- what comes of a service whose first cause this is
+  -- the outcome of a service whose first cause this is
   by_cause : (cause : Cause) → first_cause (causes settings names_full (model_of m) x) ≡ Some cause →
       step settings names_full (model_of m) x ≡ (if is_conditional x && answers_four cause then replied x (model_of m, Returned 4) else Refused cause)
   by_cause cause first = ap (answered settings (model_of m) x) first

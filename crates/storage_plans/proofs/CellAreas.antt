@@ -12,7 +12,7 @@ use Rattle.storage_changes.specs.TableLaws.{OverlapsAreMet, overlaps_table}
 use Rattle.storage_changes.specs.NamedPools.{AreNamed}
 use Rattle.storage_changes.specs.PoolTable.{cell_pools_in}
 
--- Of cell pools that stand: those that are found by their ids are those that are found by their names.
+-- Of well-formed cell pools: those that are found by their ids are those that are found by their names.
 module _ (s : Store) (q : CellPools) (pools : ℕ → Option Pool) (met : OverlapsAreMet) (one : AreOne s q) (named : AreNamed pools)
     (same : (id : ℕ) → by_id s q id ≡ pools id) (address length : ℕ) where
   pub meets_one : Meets (pool s q) address length → overlaps_table (cell_pools_in pools) address length ≡ true

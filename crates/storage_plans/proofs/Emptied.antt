@@ -40,14 +40,14 @@ module _ (settings : Settings) (names_full : Bool) (m : StorageState) (number : 
   abbrev own : Subpool
   own = seen_or_own s number
 
-  -- the state behind the release
+  -- the state after the release
   abbrev after : State
   after = with_registers (without_storage s (same_subpool own)) ((15, 0) ∷ [])
 
   accepted : step settings names_full s (whole number) ≡ Accepted after (Returned 0)
   accepted = ap (answered settings s (whole number)) none
 
-  -- a subpool that is seen is there
+  -- a subpool that is seen exists
   seen_is_there : IsSound settings m → is_there m.subpools own ≡ true
   seen_is_there sound =
       let (owner, at) = some_from (s.sight s.current number) (whole_allowed s number none).seen in

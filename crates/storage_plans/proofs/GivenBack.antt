@@ -70,7 +70,7 @@ module _ (settings : Settings) (s : State) (p : Subpool) (d count : ℕ) where
   is_on_cells_first : foreign ≡ false → not_taken ≡ false → on_cells ≡ true → first_cause (area_causes settings s p d count) ≡ Some OverlapsCells
   is_on_cells_first e f g = behind_free e f ∙ stop on_cells OverlapsCells [] g
 
-  -- so it's the cause that an answer names, where the answer is that of its cells
+  -- so it's the cause that an answer names, if the answer is that of its cells
   pub caused : {A : Type 0} (answer : Result A Cause) → foreign ≡ false → not_taken ≡ false → IfErr answer (λ cause. (cause ≡ OverlapsCells) × (on_cells ≡ true))
       → IfErr answer (λ cause. first_cause (area_causes settings s p d count) ≡ Some cause)
   caused (Ok x) e f none = tt
@@ -83,7 +83,7 @@ module _ (settings : Settings) (m : StorageState) (r : Release) where
   abbrev s : State
   s = model_of m
 
-  -- the causes of its area, where cell pools are looked at from this address on
+  -- the causes of its area, when cell pools are looked at from this address on
   abbrev rows_at : ℕ → Causes
   rows_at address =
       (some_pass (is_foreign settings s (seen_or_own s r.number)) (r.address / 8) (doublewords r.length), NotInSubpool)

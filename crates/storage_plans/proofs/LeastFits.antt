@@ -24,7 +24,7 @@ in_run n r e = let parts = and_parts (nat_le r.start n) (nat_lt n (r.start + r.l
 abbrev pub is_held : (ℕ → Bool) → Run → ℕ → Bool
 is_held set region k = inside k region && set k
 
--- so many of them begin there, on the boundary
+-- this many of them begin there, on the boundary
 abbrev pub is_place : (ℕ → Bool) → Run → ℕ → ℕ → ℕ → Bool
 is_place set region len boundary d = ((d % boundary) == 0) && all_pass (is_held set region) d len
 
@@ -57,7 +57,7 @@ module _ (set : ℕ → Bool) (region : Run) (len boundary : ℕ) where
         λ k low below. false_from_ne_true (is_place set region len boundary k) (λ e. fit.least k below (fits_from k e)),
       )
 
-  -- one is found just where so many are not more than the longest
+  -- one is found exactly if this many are not more than the longest
   found_up_to : 0 < len → (most : ℕ) → IsLongest set region most boundary → is_some (least (is_place set region len boundary) region.start region.len) ≡ nat_le len most
   found_up_to some most longest =
       let f : ℕ → Bool = is_place set region len boundary in
@@ -86,7 +86,7 @@ same_tests true false f g = sym (f refl)
 same_tests false true f g = g refl
 same_tests false false f g = refl
 
--- where the first tests agree, and the second ones as long as these hold, both together do
+-- if the first tests agree, and the second ones as long as these hold, both together do
 same_both : (a b c d : Bool) → a ≡ b → (b ≡ true → c ≡ d) → (a && c) ≡ (b && d)
 same_both a true c d e h = ap (λ x. x && c) e ∙ h refl
 same_both a false c d e h = ap (λ x. x && c) e
@@ -109,7 +109,7 @@ module _ (r : Region) (area : Run) (start : area.start ≡ r.first * 512) (len :
   same_page : (k : ℕ) → inside k area ≡ within r (k / 512)
   same_page k = same_tests (inside k area) (within r (k / 512)) (to_page k) (from_page k)
 
--- What is an equation of tests holds also where it's only said that the storage is sound.
+-- What is an equation of tests also holds if it's only stated that the storage is sound.
 
 pub free_in : (settings : Settings) (m : StorageState) → ∥ IsSound settings m ∥₁ → (p : Subpool) (d : ℕ) → is_free (model_of m) p d ≡ m.subpools.free p d
 free_in settings m sound p d = ∥∥₁_elim sound (Bool-set _ _) (λ h. free_storage_is_free settings m h p d)

@@ -96,7 +96,7 @@ module _ (settings : Settings) (m : StorageState) (o : Obtain) where
   abbrev p : Subpool
   p = seen_or_own s o.number
 
-  -- the subpool that is seen is there, and another can be made
+  -- the subpool that is seen exists, and another can be made
   module _ (sound : IsSound settings m) where
     owner_new : sees_one s o.number ≡ false → p.owner ≡ s.current
     owner_new e = ap (λ seen. unwrap_or seen s.current) (none_from (s.sight s.current o.number) e)
@@ -188,7 +188,7 @@ module _ (settings : Settings) (names_full : Bool) (m : StorageState) (o : Obtai
   abbrev rows : List (ℕ × ℕ)
   rows = reply_registers o.lengths o.register (place_address found.place) (8 * found.count)
 
-  -- the state behind the request
+  -- the state after the request
   abbrev after : State
   after = with_registers (with_area (with_new (model_of m) own found.is_new) own found.count goes) rows
 

@@ -41,7 +41,7 @@ pub not_one : (f : ℕ → Bool) (first count k : ℕ) → some_pass f first cou
 not_one f first count k e low high =
     not-true (f k) (all_pass_at (λ j. not (f j)) first count k (not-false (all_pass (λ j. not (f j)) first count) e) low high)
 
--- one of them passes where it isn't so that none does
+-- one of them passes if it's false that none does
 some_from : (f : ℕ → Bool) (first count : ℕ) → (((k : ℕ) → first ≤ k → k < first + count → f k ≡ false) → ⊥) → some_pass f first count ≡ true
 some_from f first count h = true_from_ne_false (some_pass f first count) (λ e. h (λ k low high. not_one f first count k e low high))
 
@@ -178,7 +178,7 @@ run_outside settings run up down valid some up_first up_count down_first down_co
     run_away settings run.start run.len some (low_pages settings valid) (begins_or_ends 32768 run.start (run.start + run.len) (32768 + settings.high_k / 4) above)
     (begins_or_ends 6 run.start (run.start + run.len) (6 + settings.low_k / 4) below)
 
--- what lies in neither is a test's answer
+-- if it isn't in the one, a test of the other is a test of both
 pub run_tested : (settings : Settings) (run up down : Run) → settings_valid settings ≡ true → 0 < run.len →
     up.start ≡ (region_on settings Above).first → up.len ≡ (region_on settings Above).count → down.start ≡ (region_on settings Below).first → down.len ≡ (region_on settings Below).count →
     (nat_le up.start run.start && nat_le (run.start + run.len) (up.start + up.len)) ≡ false →
@@ -206,7 +206,7 @@ module _ (settings : Settings) (m : StorageState) (sound : IsSound settings m) w
       (λ has. ap (holds (same_subpool p)) (sound.named p page has) ∙ same-self p)
       (λ is. (named_pages_are_there m.subpools page).0 p (is_this p (owner_of page) is))
 
-  -- it has a byte where it's assigned
+  -- it has a byte if it's assigned
   has_byte : (page : ℕ) → is_some (m.bytes (4096 * page)) ≡ is_some (owner_of page)
   has_byte page =
       let at : (4096 * page) / 4096 ≡ page = omega arith in
@@ -232,7 +232,7 @@ module _ (settings : Settings) (s : Parts) (frameless : IsFrameless s) (sound : 
   pub is_others : (is_some (bytes_at s.region page) && not ((state_of s).subpools.pages p page)) ≡ holds (λ q. not (same_subpool p q)) (subpool_of (state_of s).subpools page)
   is_others = ∥∥₁_elim sound (Bool-set _ _) (λ h. is_others_in h)
 
--- where the page has no frame, it's nobody's
+-- if the page has no frame, it's nobody's
 pub not_others : (settings : Settings) (s : Parts) → IsFrameless s → ∥ IsSound settings (state_of s) ∥₁ → (p : Subpool) (page : ℕ) → is_some (bytes_at s.region page) ≡ false
     → false ≡ holds (λ q. not (same_subpool p q)) (subpool_of (state_of s).subpools page)
 not_others settings s frameless sound p page e =
@@ -276,7 +276,7 @@ module _ (area pages : Run) (some : 0 < area.len) (start : pages.start ≡ area.
     foreign_in : (k : ℕ) → in_a_region settings (k / 512) ≡ true → foreign k ≡ others (k / 512)
     foreign_in k e = ap (λ b. not b || others (k / 512)) e
 
-    -- in the regions a doubleword is foreign where its page is another subpool's
+    -- in the regions a doubleword is foreign if its page is another subpool's
     pub foreign_where : all_pass (in_a_region settings) pages.start pages.len ≡ true → some_pass others pages.start pages.len ≡ some_pass foreign area.start area.len
     foreign_where e =
         let at_page : (k : ℕ) → area.start ≤ k → k < area.start + area.len → foreign k ≡ others (k / 512) =

@@ -19,7 +19,7 @@ pub of_a_region : (settings : Settings) (side : Residence) (page : ℕ) → with
 of_a_region settings Below page e = or_right (within (high_region settings) page) (within (low_region settings) page || false) (or_left (within (low_region settings) page) false e)
 of_a_region settings Above page e = or_left (within (high_region settings) page) (within (low_region settings) page || false) e
 
--- no place behind the last region
+-- no place after the last region
 or_nowhere : (x : Place) → or_place x Nowhere ≡ x
 or_nowhere (Inside d) = refl
 or_nowhere (Fresh page) = refl
@@ -43,7 +43,7 @@ module _ (settings : Settings) (s : State) where
   place_above Above p count spacing o x is has e =
       first_found x (place_in s p count spacing (high_region settings)) (place s (low_region settings ∷ []) p count spacing) (ap place_of (sym has) ∙ e)
 
-  -- and where there is none, one in the low region is.
+  -- and if there is none, one in the low region is.
   pub place_behind : (side : Residence) (p : Subpool) (count spacing : ℕ) (o later : Option AreaPlace) → side ≡ Above → o ≡ None →
       place_of o ≡ place_in s p count spacing (region_on settings side) → place_of later ≡ place_in s p count spacing (region_on settings Below) →
       place_of later ≡ place s (regions_for settings side) p count spacing

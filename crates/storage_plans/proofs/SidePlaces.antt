@@ -1,4 +1,4 @@
--- What the sides of the line have for an area, and the place that comes of it.
+-- What the sides of the line have for an area, and the place that results.
 use Rattle.std.proofs.Common.{◌≡◌, ℕ, ◌-◌, Option, Some, None, refl, ap, ◌∙◌}
 use Rattle.vsm_model.specs.declared.Subpool.{Subpool}
 use Rattle.vsm_model.specs.declared.limits.Residence.{Residence}

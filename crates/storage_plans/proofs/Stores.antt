@@ -1,4 +1,4 @@
--- What a store needs of the storage, and what its plan comes to.
+-- What a store needs of the storage, and what its plan leads to.
 use Rattle.std.proofs.Common.{◌≡◌, ℕ, suc, zero, ◌+◌, ◌-◌, ◌*◌, ◌<◌, ◌≤◌, ◌/◌, Bool, true, false, not, List, [], ◌∷◌, length, slice_index_or, Some, None, Ok, IsSome, is_some, if◌then◌else◌, sym, ◌∙◌, ap, subst, arith, inl, inr}
 use Rattle.std.specs.List.{All}
 use Rattle.std.proofs.Math.Logic.{∥∥₁_map}
@@ -56,7 +56,7 @@ module _ (p : Parts) (frameless : IsFrameless p) where
   by_page : (a : ℕ) → has_byte a ≡ has_page (a / 4096)
   by_page a = ap is_some (byte_shown p frameless a) ∙ byte_at-assigned p.region a
 
-  -- Bytes that aren't more than a page has are there where the first is and the last.
+  -- Bytes that aren't more than a page has exist if the first and the last one do.
   pub both_ends : (address n : ℕ) (last : Bool) → 0 < n → n ≤ 256 → has_page (address / 4096) ≡ true → last ≡ has_page ((address + n - 1) / 4096) → last ≡ are_there s address n
   both_ends address n true some few first last = sym (all_pass_from has_byte address n each) where
     each : (k : ℕ) → address ≤ k → k < address + n → has_byte k ≡ true
@@ -81,7 +81,7 @@ module _ (p : Parts) (frameless : IsFrameless p) where
       let page : a / 4096 ≡ y / 4096 = omega (arith, same, is) in
       by_page a ∙ ap has_page page ∙ sym (by_page y) ∙ all_pass_at has_byte address n y there from below
 
--- a store whose bytes are there is accepted
+-- a store whose bytes exist is accepted
 pub store_accepted :
     (settings : Settings) (names_full : Bool) (s : State) (address : ℕ) (bytes : List ℕ) → are_there s address (length bytes) ≡ true
     → step settings names_full s (store address bytes) ≡ Accepted (with_bytes s address bytes) Stored

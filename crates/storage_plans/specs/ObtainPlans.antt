@@ -23,7 +23,7 @@ use Rattle.storage_plans.specs.declared.places.AreaPlace.TheVariants.{Inside, Fr
 use Rattle.storage_plans.specs.Places.{place_of}
 
 -- What is found for a request that has no cause: its subpool, the most doublewords that it can be given, and where they
--- go.
+-- are placed.
 pub record IsFound (settings : Settings) (names_full : Bool) (m : StorageState) (o : Obtain) (found : FoundArea)
     : Type 0 where
   pub none : first_cause (obtain_causes settings names_full (model_of m) o) ≡ None
@@ -41,12 +41,12 @@ abbrev pub place_records : Subpool → ℕ → AreaPlace → List Record
 place_records p count (Inside doubleword) = take_records p doubleword count
 place_records p count (Fresh page) = take_fresh_records p page count
 
--- with so many blank elements,
+-- with this many blank elements,
 abbrev pub place_blanks : AreaPlace → ℕ
 place_blanks (Inside doubleword) = 3
 place_blanks (Fresh page) = 5
 
--- and these pages come to be assigned.
+-- and these pages become assigned.
 abbrev pub place_pages : ℕ → AreaPlace → Run
 place_pages count (Inside doubleword) = run_of 0 0
 place_pages count (Fresh page) = run_of page (pages_for count)

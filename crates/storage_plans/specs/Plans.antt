@@ -1,4 +1,4 @@
--- What the plan of a request comes to on the plain machine. Assembler Services Guide, "Virtual storage management",
+-- What the plan of a request leads to on the plain machine. Assembler Services Guide, "Virtual storage management",
 -- "Explicit requests for virtual storage" and "Subpool handling"; Assembler Services Reference, STORAGE, GETMAIN and
 -- FREEMAIN.
 use Rattle.std.specs.Prelude.{◌≡◌, ℕ, ◌+◌, ◌^◌, ◌≤◌, Bool, true, false, IfSome, Result, Ok, Err}
@@ -15,12 +15,12 @@ use Rattle.storage_changes.specs.Changes.{Change, change_from, Fit, overlay}
 use Rattle.storage_changes.specs.Meaning.{model_of, IsSound}
 use Rattle.storage_plans.specs.declared.plan.StoragePlan.{StoragePlan}
 
--- the change of its records behind those that empty its subpool, if it has one, with its blank elements, and frames of
--- zeros for the pages that come to be assigned
+-- the change of its records after those that empty its subpool, if it has one, with its blank elements, and frames of
+-- zeros for the pages that become assigned
 abbrev pub change_in : StorageState → StoragePlan → Change
 change_in m plan = change_from m.subpools plan.emptied plan.records.items plan.blanks plan.fresh
 
--- each page of the run comes to be assigned by the change
+-- each page of the run becomes assigned by the change
 abbrev pub Assigns : StorageState → Change → Run → Type 0
 Assigns m d run = (page : ℕ) → inside page run ≡ true → (overlay m d).unassigned page ≡ false
 
@@ -38,7 +38,7 @@ pub record IsAccepted (settings : Settings) (names_full : Bool) (m : StorageStat
   pub sound : IsSound settings (overlay m d)
 
 -- The service is accepted with the plan's reply, in the state that the plan's change leads to. The change fits, and
--- leads to a sound storage, in which each page that it has a frame for came to be assigned.
+-- leads to a sound storage, in which each page that it has a frame for became assigned.
 pub record CarriesOut (settings : Settings) (names_full : Bool) (m : StorageState) (x : Service) (plan : StoragePlan)
     : Type 0 where
   pub accepted : step settings names_full (model_of m) x ≡ Accepted (model_of (overlay m (change_in m plan))) plan.reply

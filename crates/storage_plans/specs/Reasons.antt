@@ -1,4 +1,4 @@
--- Why an area goes where it goes, in terms of the plain machine.
+-- Why an area is placed where it is, in terms of the plain machine.
 use Rattle.std.specs.Prelude.{◌≡◌, ℕ, Option, Some, None, is_some}
 use Rattle.vsm_model.specs.declared.Subpool.{Subpool}
 use Rattle.vsm_model.specs.declared.limits.Residence.{Residence}

@@ -1,5 +1,5 @@
--- What of a release depends on where its area lies. Assembler Services Guide, "Virtual storage management", "Subpool
--- handling"; Assembler Services Reference, STORAGE, RELEASE, and FREEMAIN.
+-- The part of a release that depends on where its area lies. Assembler Services Guide, "Virtual storage management",
+-- "Subpool handling"; Assembler Services Reference, STORAGE, RELEASE, and FREEMAIN.
 use Rattle.std.specs.Prelude.{◌≡◌, ℕ, ◌*◌, Option, None, List, [], ◌∷◌, ◌++◌}
 use Rattle.run_set.specs.Runs.{Run}
 use Rattle.vsm_model.specs.declared.Subpool.{Subpool}
@@ -23,7 +23,7 @@ use Rattle.storage_plans.specs.declared.release.GivenBack.{GivenBack}
 abbrev pub release_cause : Settings → StorageState → Release → Option Cause
 release_cause settings m r = first_cause (release_causes settings (model_of m) r)
 
--- the last of a release's causes, those of an area of so many doublewords from this one on
+-- the last of a release's causes, those of an area of this many doublewords from this one on
 abbrev pub area_causes : Settings → State → Subpool → ℕ → ℕ → Causes
 area_causes settings s p d count =
     (some_pass (is_foreign settings s p) d count, NotInSubpool)

@@ -1,4 +1,4 @@
--- What the plan of a store comes to on the plain machine.
+-- What the plan of a store leads to on the plain machine.
 use Rattle.std.specs.Prelude.{◌≡◌, Bool, true, length, Result, Ok, Err}
 use Rattle.vsm_model.specs.declared.causes.Cause.{Cause}
 use Rattle.vsm_model.specs.declared.limits.Settings.{Settings}

@@ -1,4 +1,4 @@
-//! The area that a request for storage asks for, or why there is none.
+//! The area that a request for storage asks for, or why none exists.
 ghost use Rattle.std.specs.Prelude.{◌≡◌, ◌≤◌, ◌<◌, not, None, Some, IfOk, IfErr, IfNone, IfSome, OnOk, OnErr};
 ghost use Rattle.vsm_model.specs.Areas.{spacing};
 ghost use Rattle.vsm_model.specs.Causes.{first_cause, number_causes};
@@ -31,7 +31,7 @@ pub(crate) struct FoundArea {
 /// The area that a request gets, or the first cause that refuses it.
 pub(crate) type AreaOrCause = Result<FoundArea, Cause>;
 
-// How many doublewords an area has, and where it goes.
+// How many doublewords an area has, and where it is placed.
 type Placed = (u32, AreaPlace);
 
 /// The subpool number, or the cause that refuses it.
@@ -48,7 +48,7 @@ pub fn check_number(number: u32) -> Result<u8, Cause>
     }
 }
 
-/// The side of the line that is asked for.
+/// The side of the line that the request asks for.
 pub fn side_of(settings: Settings, location: Location) -> Residence
     ensures { result ≡ side settings location }
 {
@@ -88,7 +88,7 @@ pub fn subpool_for(storage: &Parts, settings: Settings, number: u8) -> (Subpool,
     (subpool, seen.is_none())
 }
 
-// The least length in bytes that will do, as it was asked for: that of a fixed length is itself.
+// The least accepted length in bytes, as requested: that of a fixed length is the length itself.
 pub(crate) fn minimum_of(lengths: Lengths) -> u32
     ensures { result ≡ minimum lengths }
 {
@@ -98,8 +98,8 @@ pub(crate) fn minimum_of(lengths: Lengths) -> u32
     }
 }
 
-// The most doublewords that the request can be given, between its rounded bounds, and where they go; `None` where not
-// even the fewest have a place. The maximum is tried first: a fixed length that has a place is looked for once.
+// The most doublewords that the request can be given, between its rounded bounds, and where they are placed; `None` if
+// not even the fewest have a place. The maximum is tried first: a fixed length that has a place is looked for once.
 fn find_place(storage: &Parts, settings: Settings, o: Obtain, subpool: Subpool) -> Option<Placed>
     requires stands { StandsAt settings storage.now }
     requires subpool { subpool ≡ seen_or_own (model_of (state_of storage.now)) o.number }
@@ -128,11 +128,11 @@ fn find_place(storage: &Parts, settings: Settings, o: Obtain, subpool: Subpool) 
 }
 
 /// The area that a request gets, or the first cause that refuses it: as many doublewords as have a place, from its
-/// rounded minimum to its rounded maximum. A fixed length is both. Reads alone, and takes no memory. `names_full` says
+/// rounded minimum to its rounded maximum. A fixed length is both. Only reads, and takes no memory. `names_full` says
 /// that the statement defines a name for which there is no room.
 ///
-/// The causes, in order: a number above 127 (`UnsupportedSubpool` for 131 and 132, else `SubpoolNotAllowed`),
-/// `BadLength` for a minimum of zero bytes or one above the maximum, `TooManyNames`, and `NoStorage` where not even the
+/// The causes, in order: a number above 127 (`UnsupportedSubpool` for 131 and 132, otherwise `SubpoolNotAllowed`),
+/// `BadLength` for a minimum of zero bytes or one above the maximum, `TooManyNames`, and `NoStorage` if not even the
 /// minimum has a place.
 pub(crate) fn find_area(
     storage: &Parts,

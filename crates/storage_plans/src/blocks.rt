@@ -13,7 +13,7 @@ use storage_swap::Parts;
 /// The bytes of a block.
 pub(crate) const BLOCK_BYTES: usize = 16;
 
-// Puts the bytes from `address` on over these, which are those from `first` on.
+// Puts the bytes from `address` on over these, which begin at `first`.
 fn put_over(held: &mut [u8], first: usize, address: usize, bytes: &[u8])
     requires { first + length held.old < 2 ^ 64 }
     ensures length { length held.new ≡ length held.old }

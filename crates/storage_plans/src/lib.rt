@@ -1,4 +1,4 @@
-//! What services will do to the storage, found by reading it alone, as the records of a change; and readings of bytes
+//! What services will do to the storage, found only by reading it, as the records of a change; and readings of bytes
 //! and registers.
 #![tactic(auto)]
 

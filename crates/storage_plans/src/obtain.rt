@@ -25,7 +25,7 @@ use storage_swap::Parts;
 use vsm_model::geometry::{PAGE_BYTES, PAGE_DOUBLEWORDS};
 use vsm_model::{Cause, Lengths, Obtain, Reply, Settings, Subpool};
 
-/// One more record where the subpool is new: it's made.
+/// One more record if the subpool is new: it's made.
 pub fn push_own(records: &mut PlanRecords, subpool: Subpool, is_new: bool)
     requires { array_vec_len records.old < 8 }
     ensures records { records.new.items ≡ records.old.items ++ own_records subpool is_new }
@@ -93,7 +93,7 @@ pub fn push_place(records: &mut PlanRecords, subpool: Subpool, place: AreaPlace,
 }
 
 // Up to four more records: the return code 0 if register 15 has another word, the address in register 1 and in the one
-// that is named, and the length in register 0 where it was asked for by bounds.
+// that is named, and the length in register 0 if it was requested by bounds.
 fn push_reply(records: &mut PlanRecords, storage: &Parts, o: Obtain, address: u32, length: u32)
     requires few { array_vec_len records.old ≤ 4 }
     requires stands { Stand storage.now }
@@ -123,8 +123,8 @@ pub fn address_of(place: AreaPlace) -> u32
     }
 }
 
-/// The blank elements that it takes to take an area of `count` doublewords at its place, and the pages of 4,096 bytes
-/// that come to be assigned.
+/// The blank elements needed to take an area of `count` doublewords at its place, and the pages of 4,096 bytes that
+/// become assigned.
 pub fn needs_of(place: AreaPlace, count: u32) -> (u32, Run)
     ensures blanks { result.0 ≡ place_blanks place }
     ensures fresh { result.1 ≡ place_pages count place }
@@ -162,14 +162,14 @@ fn plan_area(storage: &Parts, found: FoundArea, o: Obtain) -> StoragePlan
 }
 
 /// A plan for an area (*Assembler Services Reference*, GETMAIN and STORAGE): as many doublewords as have a place, from
-/// the rounded minimum to the rounded maximum, of which a fixed length is both. It goes to the subpool that the current
-/// task sees at the number, or to a new one of its own. Its address goes into register 1, and into the one that is
-/// named; register 15 gets 0; and where bounds were asked for, register 0 gets the length in bytes. Reads alone, and
-/// takes no memory. `names_full` says that the statement defines a name for which there is no room.
+/// the rounded minimum to the rounded maximum, of which a fixed length is both. It is placed in the subpool that the
+/// current task sees at the number, or in a new one of its own. Its address goes into register 1, and into the one that
+/// is named; register 15 gets 0; and if bounds were given, register 0 gets the length in bytes. Only reads, and takes
+/// no memory. `names_full` says that the statement defines a name for which there is no room.
 ///
-/// The causes that refuse it, in order: a number above 127 (`UnsupportedSubpool` for 131 and 132, else
+/// The causes that refuse it, in order: a number above 127 (`UnsupportedSubpool` for 131 and 132, otherwise
 /// `SubpoolNotAllowed`), `BadLength` for a minimum of zero bytes or one above the maximum, `TooManyNames`, and
-/// `NoStorage` where not even the minimum has a place. A conditional form has in place of `NoStorage` a plan that sets
+/// `NoStorage` if not even the minimum has a place. Instead of `NoStorage` a conditional form has a plan that sets
 /// register 15 to 4, and nothing else.
 #[inline(never)]
 pub fn plan_obtain(

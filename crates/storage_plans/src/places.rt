@@ -1,4 +1,4 @@
-//! Where an area goes.
+//! Where an area is placed.
 ghost use Rattle.std.specs.Prelude.{◌≡◌, ◌^◌, ◌<◌, ◌≤◌, true, not};
 ghost use Rattle.vsm_model.specs.Areas.{is_nowhere, place, place_in};
 ghost use Rattle.vsm_model.specs.Regions.{regions_for, settings_valid};
@@ -20,7 +20,7 @@ pub enum AreaPlace {
     Fresh(u32),
 }
 
-// The place in the region on one side of the line: the subpool's own free storage comes first.
+// The place in the region on one side of the line: the subpool's own free storage is first.
 fn place_on(
     storage: &Parts,
     settings: Settings,
@@ -42,11 +42,11 @@ fn place_on(
     Some(AreaPlace::Fresh(page))
 }
 
-/// Where an area of `count` doublewords goes in the subpool, on a boundary of `spacing` doublewords: 1, or 512 for a
-/// page. `None` where it has no place. Reads alone, and takes no memory.
+/// Where an area of `count` doublewords is placed in the subpool, on a boundary of `spacing` doublewords: 1, or 512 for
+/// a page. `None` if it has no place. Only reads, and takes no memory.
 ///
-/// On the side above the line the high region comes before the low one; below it the low one is the only one. In a
-/// region the subpool's own free storage comes before unassigned pages, each time at the lowest address.
+/// On the side above the line the high region is before the low one; below it the low one is the only one. In a region
+/// the subpool's own free storage is before unassigned pages, each time at the lowest address.
 pub fn area_place(
     storage: &Parts,
     settings: Settings,
@@ -90,7 +90,7 @@ fn longest_on(
 }
 
 /// The most doublewords that have a place in the subpool, on a boundary of `spacing` doublewords: 1, or 512 for a page;
-/// 0 where not even one has. Each smaller number has a place too. Reads alone, and takes no memory.
+/// 0 if not even one has. Each smaller number also has a place. Only reads, and takes no memory.
 pub(crate) fn longest_place(
     storage: &Parts,
     settings: Settings,

@@ -24,22 +24,22 @@ pub const PLAN_RECORDS: usize = 8;
 /// The records of a plan, in the order in which they are exchanged.
 pub type PlanRecords = ArrayVec<Record, PLAN_RECORDS>;
 
-/// What an accepted request will do. It was found by reading alone, and nothing is changed yet.
+/// What an accepted request will do. It was found only by reading, and nothing is changed yet.
 #[derive(Drop)]
 pub struct StoragePlan {
-    /// The subpool whose pages and free storage go over into the change as they stand, before its records; `None` where
-    /// there is none.
+    /// The subpool whose pages and free storage move into the change as they are, before its records; `None` if there
+    /// is none.
     pub emptied: Option<Subpool>,
     /// The records of its change.
     pub records: PlanRecords,
-    /// How many blank elements the change needs: at most 5, or 4,121 for a further extent of a cell pool.
+    /// How many blank elements the change needs: at most 5, or 4,121 for another extent of a cell pool.
     pub blanks: u32,
-    /// The pages of 4,096 bytes that come to be assigned; an empty run where there is none.
+    /// The pages of 4,096 bytes that become assigned; an empty run if there is none.
     pub fresh: Run,
     pub reply: Reply,
 }
 
-/// What a request comes to: its plan, or the first cause that refuses it.
+/// The outcome of a request: its plan, or the first cause that refuses it.
 pub type PlannedStorage = Result<StoragePlan, Cause>;
 
 /// The empty run.
@@ -109,8 +109,8 @@ pub fn answer_four(storage: &Parts) -> StoragePlan
     }
 }
 
-/// What a request is answered of which this is the first cause: a plan that sets register 15 to 4, where it is
-/// conditional and the cause is one of those that such a form answers so; else the cause refuses it.
+/// What a request with this first cause gets: a plan that sets register 15 to 4, if it is conditional and the cause is
+/// one of those that such a form answers that way; otherwise the cause refuses it.
 pub fn answer_cause(storage: &Parts, cause: Cause, conditional: bool) -> PlannedStorage
     requires { Stand storage.now }
     ensures emptied { IfOk result (λ plan. plan.emptied ≡ None) }

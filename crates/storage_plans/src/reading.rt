@@ -7,8 +7,8 @@ ghost use Rattle.storage_swap.specs.Storage.{state_of, Stand, IsFrameless};
 use storage_swap::Parts;
 use vsm_model::Cause;
 
-/// Reads the bytes from the address on. Refused with `NotAssigned` where one of them doesn't lie in an assigned page,
-/// and `out` is then as it was. Takes no memory.
+/// Reads the bytes from the address on. Refused with `NotAssigned` if one of them doesn't lie in an assigned page, and
+/// `out` is then unchanged. Takes no memory.
 pub fn load(storage: &Parts, address: u32, out: &mut [u8]) -> Result<(), Cause>
     requires { IsFrameless storage.now }
     ensures ok { OnOk result (load (model_of (state_of storage.now)) address (length out.old) ≡ Some out.new) }
@@ -22,7 +22,7 @@ pub fn load(storage: &Parts, address: u32, out: &mut [u8]) -> Result<(), Cause>
     }
 }
 
-/// The word of a register of the task: 0 where there is no such task, and for a number past 15.
+/// The word of a register of the task: 0 if no such task exists, and for a number past 15.
 pub fn register(storage: &Parts, task: u8, number: u8) -> u32
     requires { Stand storage.now }
     ensures { result ≡ (model_of (state_of storage.now)).words task number }

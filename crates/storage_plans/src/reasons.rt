@@ -1,4 +1,4 @@
-//! Why an area goes where it goes, or has no place: what each side of the line has for it.
+//! Why an area is placed where it is, or has no place: what each side of the line has for it.
 ghost use Rattle.std.specs.Prelude.{◌≡◌, ◌*◌, ◌^◌, ◌<◌, ◌≤◌, ◌↔◌, true, None, IfSome, unwrap_or};
 ghost use Rattle.vsm_model.specs.declared.limits.Residence.TheVariants.{Below};
 ghost use Rattle.vsm_model.specs.Areas.{is_nowhere, place, spacing};
@@ -26,13 +26,13 @@ pub struct SideReason {
     pub inside: Option<u32>,
     /// The first page of the least run of unassigned pages that is long enough.
     pub fresh: Option<u32>,
-    /// The most doublewords that fit in the subpool's free storage, on the boundary that is asked for.
+    /// The most doublewords that fit in the subpool's free storage, on the requested boundary.
     pub longest_inside: u32,
     /// The most unassigned pages in a row.
     pub longest_run: u32,
 }
 
-/// What the sides that are looked at have: one of them, and the other one where there are two.
+/// What the sides that are looked at have: one of them, and the other one if there are two.
 pub type Sides = (SideReason, Option<SideReason>);
 
 /// What one side of the line has for an area of `count` doublewords of the subpool, on a boundary of `spacing`.
@@ -58,7 +58,7 @@ fn reason_on(
     }
 }
 
-/// What each side has that is looked at, in the order in which they are: above the line first, where it may be.
+/// What each side that is looked at has, in their order: above the line first, if allowed.
 pub fn reasons(
     storage: &Parts,
     settings: Settings,
@@ -85,8 +85,9 @@ pub fn reasons(
     }
 }
 
-/// How many doublewords a request for storage is given, and why they go where they go: as many as have a place, from its
-/// rounded minimum to its rounded maximum; the minimum if that has none, which is just if the request wants storage.
+/// How many doublewords a request for storage is given, and why they are placed where they are: as many as have a
+/// place, from its rounded minimum to its rounded maximum; the minimum if that has none, which is so exactly if there
+/// is no place for the request.
 pub fn obtain_reasons(
     storage: &Parts,
     settings: Settings,

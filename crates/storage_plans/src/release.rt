@@ -69,8 +69,8 @@ fn lies_in(run: Run, region: Run) -> bool
     region.start <= run.start && run.start + run.len <= region.start + region.len
 }
 
-// Whether each page of the run lies in a region. There are pages between the two regions, so the run lies in one of
-// them then.
+// Whether each page of the run lies in a region. There are pages between the two regions, so the run then lies in one
+// of them.
 fn lies_in_a_region(settings: Settings, pages: Run) -> bool
     requires valid { settings_valid settings ≡ true }
     requires some { 0 < pages.len }
@@ -99,7 +99,7 @@ fn has_pages(storage: &Parts, subpool: Subpool, pages: Run) -> bool
     true
 }
 
-// Whether the page is another subpool's. A page has a frame just where some subpool has the page.
+// Whether the page is another subpool's. A page has a frame exactly if some subpool has the page.
 fn is_others(storage: &Parts, settings: Settings, subpool: Subpool, page: Page) -> bool
     requires sound { StandsSound settings storage.now }
     requires frameless { IsFrameless storage.now }
@@ -279,7 +279,7 @@ fn push_returned(records: &mut PlanRecords, subpool: Subpool, run: Run)
     }));
 }
 
-// The area is given back with the pages that it empties: what of either lies beside the other becomes free, or taken.
+// The area is given back with the pages that it empties: what of either lies outside the other becomes free, or taken.
 fn push_given_back(records: &mut PlanRecords, found: GivenBack, pages: Run)
     requires none { records.old.items ≡ [] }
     requires range { found.area.start + found.area.len ≤ 2 ^ 29 }
@@ -324,15 +324,15 @@ fn give_back(storage: &Parts, found: GivenBack) -> StoragePlan
 }
 
 /// A plan for the release of an area (*Assembler Services Reference*, STORAGE): its doublewords are free again, and the
-/// pages that are left without a taken doubleword leave the subpool. Register 15 gets 0. Reads alone, and takes no
+/// pages that are left without a taken doubleword leave the subpool. Register 15 gets 0. Only reads, and takes no
 /// memory.
 ///
-/// The causes that refuse it, in order: a number above 127 (`UnsupportedSubpool` for 131 and 132, else
-/// `SubpoolNotAllowed`), `BadLength` for zero bytes, `Misaligned`, `NotInSubpool` where the task doesn't see the
-/// subpool or a doubleword of the area lies outside both regions or in a page of another subpool, `OverlapsFree` where
-/// one is free in the subpool or lies in a page that isn't assigned, and `OverlapsCells` where the area has a byte in
-/// common with an extent of a cell pool. A conditional form has in place of the last three a plan that sets register 15
-/// to 4, and nothing else.
+/// The causes that refuse it, in order: a number above 127 (`UnsupportedSubpool` for 131 and 132, otherwise
+/// `SubpoolNotAllowed`), `BadLength` for zero bytes, `Misaligned`, `NotInSubpool` if the task doesn't see the subpool
+/// or a doubleword of the area lies outside both regions or in a page of another subpool, `OverlapsFree` if one is free
+/// in the subpool or lies in a page that isn't assigned, and `OverlapsCells` if the area has a byte in common with an
+/// extent of a cell pool. Instead of the last three a conditional form has a plan that sets register 15 to 4, and
+/// nothing else.
 #[inline(never)]
 pub fn plan_release(storage: &Parts, settings: Settings, r: Release) -> PlannedStorage
     requires sound { StandsSound settings storage.now }

@@ -46,7 +46,7 @@ fn area_on(settings: Settings, side: Residence) -> Run
 }
 
 /// The least doubleword of the region on that side of the line from which `count` doublewords are free storage of the
-/// subpool, as a multiple of `spacing`. Reads alone.
+/// subpool, as a multiple of `spacing`. Only reads.
 pub(crate) fn least_area(
     storage: &Parts,
     settings: Settings,
@@ -65,7 +65,7 @@ pub(crate) fn least_area(
         .least_fit(&storage.elements, subpool, count, spacing, region)
 }
 
-/// The least page of the region on that side of the line from which `count` pages are nobody's. Reads alone.
+/// The least page of the region on that side of the line from which `count` pages are nobody's. Only reads.
 pub(crate) fn least_pages(
     storage: &Parts,
     settings: Settings,
@@ -83,7 +83,7 @@ pub(crate) fn least_pages(
 }
 
 /// The greatest number of doublewords of the region on that side of the line that are free storage of the subpool, from
-/// a multiple of `spacing` on; 0 where there is none. Reads alone.
+/// a multiple of `spacing` on; 0 if there is none. Only reads.
 pub(crate) fn longest_area(
     storage: &Parts,
     settings: Settings,
@@ -102,8 +102,8 @@ pub(crate) fn longest_area(
         .longest(&storage.elements, subpool, spacing, region)
 }
 
-/// The greatest number of pages in a row of the region on that side of the line that are nobody's; 0 where there is
-/// none. Reads alone.
+/// The greatest number of pages in a row of the region on that side of the line that are nobody's; 0 if there is none.
+/// Only reads.
 pub(crate) fn longest_pages(storage: &Parts, settings: Settings, side: Residence) -> u32
     requires { StandsAt settings storage.now }
     ensures up_to { IsUpTo (λ count. is_some

@@ -30,7 +30,7 @@ pub struct StorePlan {
     pub bytes: ArrayVec<u8, STORE_MOST>,
 }
 
-// Whether each of so many bytes from the address on lies in an assigned page. They lie in two pages at most: that of
+// Whether each of this many bytes from the address on lies in an assigned page. They lie in two pages at most: that of
 // the first and that of the last one.
 fn are_assigned(storage: &Parts, address: u32, count: usize) -> bool
     requires frameless { IsFrameless storage.now }
@@ -47,7 +47,7 @@ fn are_assigned(storage: &Parts, address: u32, count: usize) -> bool
     storage.region.assigned(first as u32) && storage.region.assigned(last as u32)
 }
 
-// How many blocks so many bytes from the address on touch.
+// How many blocks this many bytes from the address on touch.
 fn blocks_touched(address: u32, count: usize) -> u32
     requires { count ≤ 256 }
     ensures value { result ≡ blocks_for address count }
@@ -90,11 +90,11 @@ fn array_of(bytes: &[u8]) -> ArrayVec<u8, STORE_MOST>
     array
 }
 
-/// A plan for a store of at most 256 bytes at the address, in any subpool. It sets no register. Reads alone, and takes
+/// A plan for a store of at most 256 bytes at the address, in any subpool. It sets no register. Only reads, and takes
 /// no memory. The records of its change are made where memory is taken (`block_records`), so that a plan has no room
 /// for them.
 ///
-/// Refused with `NotAssigned` where one of the bytes doesn't lie in an assigned page.
+/// Refused with `NotAssigned` if one of the bytes doesn't lie in an assigned page.
 #[inline(never)]
 pub fn plan_store(storage: &Parts, address: u32, bytes: &[u8]) -> Result<StorePlan, Cause>
     requires frameless { IsFrameless storage.now }

@@ -21,7 +21,7 @@ use storage_swap::Parts;
 use subpool_storage::laws::cell_pools_are_named;
 use vsm_model::{Cause, Reply, Subpool};
 
-/// The blank elements that the release of a whole subpool needs besides one for each of its extents.
+/// The blank elements that the release of a whole subpool needs in addition to one for each of its extents.
 const WHOLE_BLANKS: u32 = 1;
 
 // The subpool that the current task sees at the number and owns, or the first cause that refuses its release.
@@ -71,12 +71,12 @@ fn empty(storage: &Parts, subpool: Subpool) -> StoragePlan
 
 /// A plan for the release of a whole subpool (*Assembler Services Reference*, FREEMAIN and STORAGE, RELEASE): its pages
 /// are unassigned again, with all that was obtained in them, its cell pools are gone, and the subpool stays, empty,
-/// with its owner and those who share it. Register 15 gets 0. Reads alone, and takes no memory, however many areas,
+/// with its owner and the tasks that share it. Register 15 gets 0. Only reads, and takes no memory, however many areas,
 /// extents and cell pools the subpool has.
 ///
-/// The causes that refuse it, in order: a number above 127 (`UnsupportedSubpool` for 131 and 132, else
-/// `SubpoolNotAllowed`), `WholeOfZero` for subpool 0, `NotInSubpool` where the task doesn't see the subpool, and
-/// `NotOwner` where it doesn't own it.
+/// The causes that refuse it, in order: a number above 127 (`UnsupportedSubpool` for 131 and 132, otherwise
+/// `SubpoolNotAllowed`), `WholeOfZero` for subpool 0, `NotInSubpool` if the task doesn't see the subpool, and
+/// `NotOwner` if it doesn't own it.
 #[inline(never)]
 pub fn plan_whole(storage: &Parts, number: u32) -> PlannedStorage
     requires { Stand storage.now }

@@ -1,4 +1,4 @@
--- Records are put behind one another into a chain.
+-- Records are put into a chain one after another.
 use Rattle.std.proofs.Common.{◌≡◌, ℕ, zero, suc, ◌+◌, ◌<◌, ◌≤◌, false, List, [], ◌∷◌, ◌++◌, length, map, take, drop, get_or, Option, Some, None, refl, sym, ap, ◌∙◌, arith, subst}
 use Rattle.std.specs.Prelude.{slice_get}
 use Rattle.std.proofs.lemmas.List.{take_all}
@@ -31,7 +31,7 @@ last-append : (first : ℕ) (ns : List Link) (n : Link) → last_or first (ns ++
 last-append first [] n = refl
 last-append first (m ∷ ns) n = last-append m.id ns n
 
--- what is put behind the last link
+-- what is put after the last link
 pub behind-all : (s : Store) (c : Chain) → IsChain s c → take c.count (links s c) ≡ links s c
 behind-all s c k = take_all c.count (links s c) (omega (arith, k.count))
 
@@ -62,14 +62,14 @@ append-three : (xs ys zs : List Record) → (xs ++ ys) ++ zs ≡ xs ++ (ys ++ zs
 append-three [] ys zs = refl
 append-three (x ∷ xs) ys zs = ap (λ (z : List Record). x ∷ z) (append-three xs ys zs)
 
--- one extent more
+-- another extent
 next-extent : (rs : List Run) (i : ℕ) (r : Run) → slice_get rs i ≡ Some r
     → unassigned_records (take (suc i) rs) ≡ unassigned_records (take i rs) ++ Pages (record { run = r; assigned = false }) ∷ []
 next-extent [] i r e = cc
 next-extent (x ∷ rs) zero r e = cc
 next-extent (x ∷ rs) (suc i) r e = ap (λ (z : List Record). Pages (record { run = x; assigned = false }) ∷ z) (next-extent rs i r e)
 
--- one record more
+-- another record
 next-record : (rs : List Record) (i : ℕ) (d : Record) → i < length rs → take (suc i) rs ≡ take i rs ++ get_or rs i d ∷ []
 next-record [] i d h = absurd (omega (arith, h))
 next-record (x ∷ rs) zero d h = refl
@@ -91,7 +91,7 @@ next-of front now new rs i d is less put =
     put ∙ ap (λ (z : List Record). z ++ get_or rs i d ∷ []) is ∙ append-three front (take i rs) (get_or rs i d ∷ []) ∙ ap (λ (z : List Record). front ++ z) (sym (next-record rs i d less))
     ∙ ap (λ (k : ℕ). front ++ take k rs) (one-more i)
 
--- there is none more
+-- no other one exists
 pub no-more : (rs : List Run) (i : ℕ) → slice_get rs i ≡ None → length rs ≤ i
 no-more [] i e = omega arith
 no-more (x ∷ rs) zero e = cc
@@ -105,7 +105,7 @@ more (x ∷ rs) (suc i) r e = (let k = more rs i r e in omega (arith, k))
 pub all-in : (front now : List Record) (rs : List Run) (i : ℕ) → now ≡ front ++ unassigned_records (take i rs) → slice_get rs i ≡ None → now ≡ front ++ unassigned_records rs
 all-in front now rs i is none = is ∙ ap (λ (z : List Run). front ++ unassigned_records z) (take_all i rs (no-more rs i none))
 
--- extents beside the chain
+-- extents next to the chain
 module _ (s e : Store) (had has : List ℕ) (q : Extents) (f : Leaves s e had has) (k : IsExtents s q) (apart : Apart had (Extents.owned s q)) where
   pub beside : IsExtents e q × (extents e q ≡ extents s q) × ((p : ℕ) → has_page e q p ≡ has_page s q p) × (Extents.owned e q ≡ Extents.owned s q)
   beside = extents_stay s e had has q f k apart
@@ -130,6 +130,6 @@ pub all-records : (p : Option Subpool) (a b c : List Record) (rs : List Run) (re
 all-records p a b c rs records first second third =
     third ∙ ap (λ (z : List Record). z ++ records) (second ∙ ap (λ (z : List Record). z ++ unassigned_records rs) first ∙ emptying-all p rs)
 
--- nothing stands apart from all
+-- nothing is apart from all
 pub none-apart : (xs : List ℕ) → Apart [] xs
 none-apart xs i h = cc

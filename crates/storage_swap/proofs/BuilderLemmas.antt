@@ -1,4 +1,4 @@
--- A change is made record by record beside the storage.
+-- A change is made record by record next to the storage.
 use Rattle.std.proofs.Common.{◌≡◌, ℕ, ◌+◌, ◌/◌, ◌<◌, ◌≤◌, max, if◌then◌else◌, List, [], ◌∷◌, ◌++◌, length, length-append, map, Some, None, Result, Ok, Err, IfOk, IfErr, IsSome, IsTrue, inl, inr, refl, sym, ap, ◌∙◌, arith, subst}
 use Rattle.std.proofs.lemmas.List.{append_assoc, append-nil}
 use Rattle.vsm_elements.specs.Store.{Store, SameElements, at, live_count, made}
@@ -29,7 +29,7 @@ use Rattle.storage_swap.proofs.FrameLemmas.{nowhere}
 use Rattle.storage_swap.proofs.ThreeLemmas.{no_ids}
 use Rattle.storage_swap.proofs.KeptLemmas.{over, holds-live, same-hold, same-stands, same-state, same-unassigned, kept-hold, kept-parked-hold, kept-stands, kept-state, kept-unassigned, kept-parked}
 
--- What was made for two reservations, one behind the other: m and n are how many elements each was for, and k is both.
+-- What was made for two reservations, one after the other: m and n are how many elements each was for, and k is both.
 pub makes-follow : (a b c live next m n k : ℕ) → b ≤ max a (live + m + 128) → next + n ≤ live + k → m ≤ k → c ≤ max b (next + n + 128) → c ≤ max a (live + k + 128)
 makes-follow a b c live next m n k first more within second = omega (arith, first, more, within, second)
 
@@ -46,7 +46,7 @@ pub if-refused : {R E : Type 0} (P : Type 0) (r : Result R E) → P → IfErr r 
 if-refused P (Ok x) h = tt
 if-refused P (Err e) h = h
 
--- one behind the other
+-- one after the other
 
 pub keeps-follow : (s t u : Parts) (f g h : ℕ → ℕ) → Keeps s t f g → Keeps t u g h → Keeps s u f h
 keeps-follow s t u f g h a b = record {
@@ -240,7 +240,7 @@ module _ (s : Parts) (a : ChangeBuilder) (h : IsBuilding s a) (e : Store) (same 
   pub grown-pushes : s.elements.spare ≤ e.spare → live_count e ≡ live_count s.elements → MakesElements s.elements e 0 → Pushes s a [] (over s e) a
   grown-pushes more live few = record { records = grown-records ∙ sym (append-nil (records_in s a)); parked = grown-parked; spare = omega (arith, more); live = omega (arith, live); made = few }
 
-  -- one record more, of a spare one
+  -- another record, from a spare element
   module _ (added : Record) (end : Store) (chain : Chain) (stand : IsChain end chain) (last : ℕ) (is-last : last ≡ last_or 0 (links end chain)) (put : records_of end chain ≡ records_of e a.records ++ added ∷ [])
       (f : Leaves e end (owned e a.records) (owned end chain)) where
     pub push-builds : Builds s a (over s end) (record { records = chain; last = last; parked = a.parked })
@@ -403,7 +403,7 @@ module _ (p t u : Parts) (a b : ChangeBuilder) (none : (i : ℕ) → builder_hol
         out = ap (λ (z : Tables). z.out) r;
       }
 
--- Of the records that are to come, these are left: so far the others came.
+-- Of the records that are to be added, these are left: the others have been added so far.
 pub record Leads (s : Parts) (a : ChangeBuilder) (all : List Record) (t : Parts) (b : ChangeBuilder) (left : List Record) : Type 0 where
   pub builds : Builds s a t b
   pub records : records_in t b ++ left ≡ records_in s a ++ all
@@ -416,7 +416,7 @@ pub leads-none : (s : Parts) (a : ChangeBuilder) (all : List Record) → IsBuild
 leads-none s a all h = record { builds = builds-none s a h; records = refl; parked = refl; spare = omega arith; live = omega arith; made = omega arith }
 
 module _ (s t : Parts) (a b : ChangeBuilder) (all left : List Record) (l : Leads s a all t b left) where
-  -- those in front come
+  -- the first ones of them are added
   pub leads-more : (u : Parts) (c : ChangeBuilder) (one rest : List Record) → left ≡ one ++ rest → Builds t b u c → Pushes t b one u c → Leads s a all u c rest
   leads-more u c one rest is k p = record {
     builds = builds-follow s t u a b c l.builds k;
@@ -427,12 +427,12 @@ module _ (s t : Parts) (a b : ChangeBuilder) (all left : List Record) (l : Leads
     made = makes-follow (made s.elements) (made t.elements) (made u.elements) (live_count s.elements) (live_count t.elements) (length all) (length one) (length all) l.made (omega (arith, l.live, ap length is, length-append one rest)) (omega arith) p.made;
   }
 
-  -- those in front are refused
+  -- the first ones of them are refused
   pub leads-refused : (u : Parts) (one rest : List Record) → left ≡ one ++ rest → MakesElements t.elements u.elements (length one) → MakesElements s.elements u.elements (length all)
   leads-refused u one rest is m =
       makes-follow (made s.elements) (made t.elements) (made u.elements) (live_count s.elements) (live_count t.elements) (length all) (length one) (length all) l.made (omega (arith, l.live, ap length is, length-append one rest)) (omega arith) m
 
-  -- all came
+  -- all were added
   pub leads-all : left ≡ [] → Pushes s a all t b
   leads-all is = record {
     records = sym (append-nil (records_in t b)) ∙ ap (λ (z : List Record). records_in t b ++ z) (sym is) ∙ l.records;

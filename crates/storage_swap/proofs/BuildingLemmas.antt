@@ -1,4 +1,4 @@
--- The id of a cell pool that comes is none's of the storage.
+-- The id of a cell pool that is created is none's of the storage.
 use Rattle.std.proofs.Common.{◌≡◌, ◌<◌, ◌==◌, Option, Some, None, refl, ap, ◌∙◌, arith}
 use Rattle.std.proofs.lemmas.Bool.{eq-eqb}
 use Rattle.cell_pool.specs.Pools.{Pool}
@@ -13,7 +13,7 @@ use Rattle.storage_swap.specs.Storage.{state_of}
 use Rattle.storage_swap.specs.declared.change.Change.{Change as TheChange}
 use Rattle.storage_swap.specs.Reserve.{Reserves}
 
--- Else both held its element.
+-- Otherwise both held its element.
 pub id-is-new : PoolsAreHeld → (p t : Parts) (d : Change) (c : TheChange) (pool : Pool) → Reserves p (change_building pool d) c t → (state_of p).subpools.cells pool.id ≡ None
 id-is-new held p t d c pool r = go ((state_of p).subpools.cells pool.id) refl where
   parked : (subpools_of t.elements c.parked).cells pool.id ≡ Some pool

@@ -27,7 +27,7 @@ same-place a = omega arith
 next-place : (a i : ℕ) → suc a + i ≡ a + suc i
 next-place a i = omega arith
 
--- a list is what is read where each of its places has the byte of an address
+-- a list is what is read if each of its places has the byte of an address
 list-read : (n : ℕ) (xs : List ℕ) (f : ℕ → Option ℕ) (a : ℕ) → length xs ≡ n → ((i : ℕ) → i < n → f (a + i) ≡ Some (slice_index_or xs i 0)) → xs ≡ read f a n
 list-read zero [] f a e h = refl
 list-read zero (x ∷ xs) f a e h = cc
@@ -63,7 +63,7 @@ module _ (p : Parts) (r : BytesRecord) (given : List PageFrame) (parked : Head) 
   from-first : (i : ℕ) → 16 * r.block + i ≡ 16 * r.block + (i - 0)
   from-first i = omega arith
 
-  -- what the list of as many bytes has then
+  -- what the list of the same number of bytes has then
   pub bytes-read : (region : Tables) (had new : List ℕ) → length had ≡ 16 → Swaps p.region region had new (16 * r.block) 0 (length had) → new ≡ read (state_of p).bytes (16 * r.block) 16
   bytes-read region had new sixteen swaps = list-read 16 new (state_of p).bytes (16 * r.block) (swaps.loads.same_length ∙ sixteen) at-place where
     at-place : (i : ℕ) → i < 16 → (state_of p).bytes (16 * r.block + i) ≡ Some (slice_index_or new i 0)

@@ -18,7 +18,7 @@ use Rattle.storage_swap.specs.Storage.{hold_with, StandsWith}
 use Rattle.storage_swap.specs.StructureKept.{PagesStay, SubpoolsStay, TasksStay, pages-stay, subpools-stay, tasks-stay, pages-live, pages-once, tasks-live, tasks-once, two-live, three-live}
 
 module _ (p : Parts) (parked : Subpools) (k : StandsWith p parked) (e : Store) where
-  -- whose an element was
+  -- who owned an element
 
   abbrev in_pages : ℕ → ℕ
   in_pages i = times i (Pages.owned p.elements p.unassigned)

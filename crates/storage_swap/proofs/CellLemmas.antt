@@ -1,4 +1,4 @@
--- A record of what one subpool has, of a cell pool, of an extent of its or of a cell, changed sides with the storage.
+-- A record of what one subpool has, of a cell pool, of its extent or of a cell, changed sides with the storage.
 use Rattle.std.proofs.Common.{◌≡◌, ℕ, ◌+◌, ◌-◌, ◌*◌, ◌/◌, ◌^◌, ◌≤◌, ◌⊎◌, inl, inr, Bool, true, false, Some, None, Option, IfSome, if◌then◌else◌, List, refl, ap, sym, subst, ◌∙◌, arith}
 use Rattle.std.specs.Prelude.{◌<◌, nat_lt, slice_get, IsSome}
 use Rattle.vsm_elements.specs.Store.{Store, made}
@@ -135,13 +135,13 @@ cell-extent-as r v e = λ i. CellExtent (record { pool = r.pool; start = r.start
 pub cell-as : (r : CellRecord) (v : Bool) → r.free ≡ v → Cell (record { pool = r.pool; cell = r.cell; free = v }) ≡ Cell r
 cell-as r v e = λ i. Cell (record { pool = r.pool; cell = r.cell; free = sym e i })
 
--- What the calls ask.
+-- What the calls require.
 
 if-found : (o : Option Pool) (P : Pool → Type 0) → ((p : Pool) → o ≡ Some p → P p) → IfSome o P
 if-found None P h = tt
 if-found (Some p) P h = h p refl
 
--- what follows from whichever is there, where one is
+-- what follows from whichever exists, if one does
 of-found : (o : Option Pool) (P : Type 0) → IsSome o → ((p : Pool) → o ≡ Some p → P) → P
 of-found None P there h = cc
 of-found (Some p) P there h = h p refl
@@ -150,7 +150,7 @@ room-for : (b : Bool) (n m : ℕ) → n ≤ m + (if b then 0 else n) → b ≡ t
 room-for true n m h e = omega (arith, h)
 room-for false n m h e = cc
 
--- one of two is there, and not the other one: what holds of it holds of what either is
+-- one of two exists, and not the other one: what holds of it holds of what either is
 of-either : (b : Bool) (x y : Option Pool) (P : Pool → Type 0) → (if b then y else x) ≡ None → ((p : Pool) → (if b then x else y) ≡ Some p → P p) → (p : Pool) → (y ≡ Some p) ⊎ (x ≡ Some p) → P p
 of-either true x y P none h p (inl e) = cc
 of-either true x y P none h p (inr e) = h p e
@@ -161,7 +161,7 @@ pub pool-single : (w : Walk) (r : CellPoolRecord) → CellPoolFits w r → (p : 
 pool-single w r h = of-either r.present (w.parked.cells r.pool) (w.state.subpools.cells r.pool) (λ p. IsSingle w.state.subpools w.parked r.pool p.name) h.not_there h.single
 
 module _ (w : Walk) (r : CellExtentRecord) (h : CellExtentFits w r) where
-  -- an extent that comes
+  -- an extent that is added
   module _ (come : r.present ≡ true) where
     comes : (p : Pool) → w.state.subpools.cells r.pool ≡ Some p → IsExtent r p p
     comes p e = let P : Pool → Type 0 = λ z. IsExtent r p z in subst P (cond-in r.present p (retracted r.count p) come) (h.extent p e)

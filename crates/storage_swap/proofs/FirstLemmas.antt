@@ -130,7 +130,7 @@ pub some-first : (s : Store) (first count : ℕ) (n : Link) → slice_get (follo
 some-first s first zero n e = cc
 some-first s first (suc k) n e = omega arith
 
--- where there are records, the first of them is at the head
+-- if there are records, the first of them is at the head
 pub first-is : (p : Parts) (given : List PageFrame) (q : SubpoolStorage) (c d : Chain) → BesideBoth p q c d
     → (r : Record) × (rs : List Record) × (kept : ℕ) × (kept ≤ p.elements.spare) × (records_of p.elements c ≡ r ∷ rs) × Fits (walk_of p given q kept) r
     → IsLink p.elements c 0 c.first
@@ -139,7 +139,7 @@ first-is p given q c d beside (r, rs, kept, le, l, fits) = (omega (arith, beside
   some [] e = cc
   some (n ∷ ns) e = omega arith
 
--- what the exchange of the first record asks
+-- what the exchange of the first record requires
 pub first-asks : (p : Parts) (given : List PageFrame) (q : SubpoolStorage) (c : Chain) (n : Link) → slice_get (links p.elements c) 0 ≡ Some n
     → (r : Record) × (rs : List Record) × (kept : ℕ) × (kept ≤ p.elements.spare) × (records_of p.elements c ≡ r ∷ rs) × Fits (walk_of p given q kept) r
     → (kept : ℕ) × (kept ≤ p.elements.spare) × Fits (walk_of p given q kept) (record_at n)

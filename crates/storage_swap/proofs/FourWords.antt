@@ -13,7 +13,7 @@ use Rattle.task_tree.specs.TaskTree
 use Rattle.storage_changes.specs.Turned.{four_words}
 use Rattle.storage_changes.proofs.Cases.{cond-in, cond-out, and-false}
 
--- so many registers of a task, from the first on, have words of a list
+-- this many registers of a task, from the first on, have words of a list
 abbrev pub FirstWritten : (ℕ → ℕ → ℕ) → (ℕ → ℕ → ℕ) → ℕ → ℕ → List ℕ → ℕ → Type 0
 FirstWritten old now task first ws count =
     (t k : ℕ) → k < 16 → now t k ≡ (if (t == task) && inside k (record { start = first; len = count }) then slice_index_or ws (k - first) 0 else old t k)
@@ -26,7 +26,7 @@ or-false : (b : Bool) → (b || false) ≡ b
 or-false true = refl
 or-false false = refl
 
--- one that is written besides
+-- another one that is written
 chosen : (t j e i : Bool) (v x o : ℕ) → j ≡ (i || e) → (e ≡ true → v ≡ x) → (if t && e then v else (if t && i then x else o)) ≡ (if t && j then x else o)
 chosen false j e i v x o is same = refl
 chosen true j true i v x o is same = same refl ∙ sym (cond-in j x o (is ∙ or-true i))
@@ -87,7 +87,7 @@ module _ (q : Tree) (s e f g t : Store) (task first : ℕ) (ws : List ℕ)
   pub all-written : FirstWritten (words-of s) (words-of t) task first ws 4
   all-written = next-written (words-of s) task first ws (words-of g) (words-of t) 3 (first + 3) (slice_index_or ws 3 0) refl refl behind-three four
 
-  -- the words that they answer are those that were there
+  -- the words that they return are those that were there before
   module _ (high : first + 4 ≤ 16) where
     abbrev register-had : ℕ → ℕ
     register-had k = if nat_lt k 16 then word s q task k else 0
@@ -107,7 +107,7 @@ module _ (q : Tree) (s e f g t : Store) (task first : ℕ) (ws : List ℕ)
         dt ∙ not-written (words-of s) task first ws (words-of g) 3 (first + 3) refl (omega (arith, high)) behind-three ∙ was-there (first + 3) (omega (arith, high)) in
         λ i. first-is i ∷ second-is i ∷ third-is i ∷ fourth-is i ∷ []
 
--- what they leave alone
+-- what they leave unchanged
 pub four-leave : (q : Tree) (s e f g t : Store) → Leaves s e (TaskTree.owned s q) (TaskTree.owned e q) → Leaves e f (TaskTree.owned e q) (TaskTree.owned f q)
     → Leaves f g (TaskTree.owned f q) (TaskTree.owned g q) → Leaves g t (TaskTree.owned g q) (TaskTree.owned t q) → Leaves s t (TaskTree.owned s q) (TaskTree.owned t q)
 four-leave q s e f g t one two three four =

@@ -44,7 +44,7 @@ held-some frames page h =
 pub byte-held-some : (frames : List PageFrame) (a : ℕ) → IsSome (byte_held frames a) → IsSome (held_at frames (a / 4096))
 byte-held-some frames a h = sym (byte-some (held_at frames (a / 4096)) (a % 4096)) ∙ h
 
--- where the page has the frame's bytes, the address has the frame's byte
+-- if the page has the frame's bytes, the address has the frame's byte
 pub byte-is-held : (s : Pages) (frames : List PageFrame) (a : ℕ) → bytes_at s (a / 4096) ≡ held_at frames (a / 4096) → byte_at s a ≡ byte_held frames a
 unfolding byte_at
 byte-is-held s frames a h = ap (λ (b : Option (List ℕ)). byte_of b (a % 4096)) h

@@ -1,4 +1,4 @@
--- The storage before the first request stands, and each live element is its own.
+-- The storage before the first request is well formed, and each live element is its own.
 use Rattle.std.proofs.Common.{◌≡◌, ℕ, ◌+◌, ◌*◌, ◌-◌, ◌/◌, ◌<◌, ◌≤◌, max, Bool, true, false, ◌||◌, ◌==◌, if◌then◌else◌, [], length, Option, Some, None, IsSome, inl, inr, refl, ◌∙◌, arith}
 use Rattle.std.specs.Prelude.{nat_lt}
 use Rattle.std.proofs.lemmas.Bool.{ltb-true}
@@ -35,7 +35,7 @@ use Rattle.storage_swap.proofs.Below.{trees-kept, storage-owns, storage-stays}
 abbrev no_ids : ℕ → ℕ
 no_ids i = 0
 
--- a block is all that is made for seven elements, where there were none
+-- a block is all that is made for seven elements, if there were none
 one-block : (n all spare : ℕ) → all ≡ 128 * n → spare ≤ 134 → all - spare ≡ 0 → all ≤ 128
 one-block n all spare is few live = omega arith
 
@@ -89,7 +89,7 @@ module _ (settings : Settings) (none first mid second end : Store) (region : Tab
   tree-live : (i : ℕ) → 0 < tree-ids i → IsSome (at mid i)
   tree-live i h = (trees_stand mid tree stand-tree).0.live i (some-from i (TaskTree.owned mid tree) h)
 
-  -- the subpools beside them
+  -- the subpools next to them
   abbrev both : ℕ → ℕ
   both i = subpool-ids i + tree-ids i
 
@@ -105,7 +105,7 @@ module _ (settings : Settings) (none first mid second end : Store) (region : Tab
     | inl z ↦ (trees_stand second tree tree-second.stand).0.live i (some-from i (TaskTree.owned second tree) (omega (arith, h, z, tree-second.held i)))
   ]
 
-  -- the pages beside both
+  -- the pages next to both
   pages-moved : Moves second end no_ids page-ids
   pages-moved = moves-of second end [] (Pages.owned end unassigned) pages-move
 
@@ -127,7 +127,7 @@ module _ (settings : Settings) (none first mid second end : Store) (region : Tab
   held : (i : ℕ) → hold p i ≡ page-ids i + (subpool-ids i + tree-ids i)
   held i = omega (arith, subpools-end.2 i, tree-end.held i, tree-second.held i)
 
-  -- all that is live came to be held
+  -- all that is live became held
   first-moves : Moves first mid no_ids tree-ids
   first-moves = moves-of first mid [] (TaskTree.owned mid tree) tree-moves
 

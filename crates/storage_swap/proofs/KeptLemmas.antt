@@ -81,7 +81,7 @@ module _ (p : Parts) (e : Store) (k : Stand p) (same : (i : ℕ) → 0 < hold p 
   same-state = state-same (state_of (over p e)) (state_of p) same-tasks subpools.1 same-unassigned
       (λ a. ap (λ (b : Bool). if b then None else byte_at p.region a) (same-unassigned (a / 4096)))
 
--- beside parked subpools, where a call on something else leaves both
+-- next to parked subpools, if a call on something else leaves both
 module _ (p : Parts) (q : TheParked) (e : Store) (k : StandsWith p q) (f g : ℕ → ℕ) (m : Moves p.elements e f g) (once : (i : ℕ) → f i + hold_with p q i ≤ 1) where
   same : (i : ℕ) → 0 < hold_with p q i → at e i ≡ at p.elements i
   same = rest-same p.elements e f g m (hold_with p q) once (with-live p q k)

@@ -19,7 +19,7 @@ use Rattle.storage_swap.specs.Storage.{state_of, walk_of}
 use Rattle.storage_swap.specs.Exchange.{HavePlaces, SameFrames}
 use Rattle.storage_swap.specs.Beside.{record_at, records_of, hold_beside, hold_both, Beside, BesideBoth, SwapsFirst, SwapsAll}
 
--- so far: the storage, the records to come and those that are done, from a storage p and its records c
+-- so far: the storage, the records to be exchanged and those that are done, from a storage p and its records c
 pub record Going (p : Parts) (given : List PageFrame) (q : SubpoolStorage) (c : Chain) (s : Parts) (given' : List PageFrame) (q' : SubpoolStorage) (rest done : Chain) : Type 0 where
   pub beside : BesideBoth s q' rest done
   pub moves : Moves p.elements s.elements (hold_beside p q c) (hold_both s q' rest done)
@@ -75,7 +75,7 @@ ends p s given given' q q' c rest done g count =
       places = g.places;
     }
 
--- what the first record's exchange asks
+-- what the first record's exchange requires
 pub first-fits : (p s : Parts) (given given' : List PageFrame) (q q' : SubpoolStorage) (c rest done : Chain) → Going p given q c s given' q' rest done → 0 < rest.count
     → (kept : ℕ) × (kept ≤ p.elements.spare) × FitInTurn (walk_of p given q kept) (records_of p.elements c)
     → (r : Record) × (rs : List Record) × (kept : ℕ) × (kept ≤ s.elements.spare) × (records_of s.elements rest ≡ r ∷ rs) × Fits (walk_of s given' q' kept) r

@@ -30,7 +30,7 @@ use Rattle.storage_swap.proofs.WalkLemmas.{walk-by-places, joined-if, left-if, n
 use Rattle.storage_swap.proofs.CallLemmas.{pages-subpools, pages-tasks, pages-parked, pages-stand, pages-move}
 use Rattle.storage_swap.proofs.SubpoolLemmas.{tables-same}
 
--- What a byte is, and whether a change brings it, by whether its page is unassigned before (o) and behind (x) a call on
+-- What a byte is, and whether a change brings it, by whether its page is unassigned before (o) and after (x) a call on
 -- a run of pages that has the page or not (b).
 
 masked-in : (x b o : Bool) (y : Option ℕ) → x ≡ (if b then false else o) → (b ≡ true → o ≡ true) → (if x then None else y) ≡ (if b then (if o then y else None) else (if o then None else y))

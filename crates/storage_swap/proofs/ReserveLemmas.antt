@@ -56,7 +56,7 @@ byte-fresh frames fresh held a = ap (λ (b : Option (List ℕ)). byte_of b (a % 
   go true = byte-zeros (a % 4096)
   go false = refl
 
--- over other elements, where a call on something else leaves the storage, and over another region with the same pages
+-- over other elements, if a call on something else leaves the storage, and over another region with the same pages
 module _ (p : Parts) (e : Store) (region : Tables) (k : Stand p) (one : (i : ℕ) → hold p i ≤ 1) (g : ℕ → ℕ) (m : Moves p.elements e no_ids g) (pages : SamePages p.region region) where
   abbrev u : Parts
   u = record p { elements = e; region = region }
@@ -80,7 +80,7 @@ module _ (p : Parts) (e : Store) (region : Tables) (k : Stand p) (one : (i : ℕ
   pub moved-frameless : IsFrameless p → IsFrameless u
   moved-frameless b page h = pages page ∙ b page (sym (ap (λ (z : StorageState). z.unassigned page) moved-state) ∙ h)
 
--- The change is put together of what it has taken, in elements where all of it stands.
+-- The change is put together of what it has taken, in elements in which all of it is well formed.
 module _ (p : Parts) (m : Change) (fresh : Run) (k : Stand p) (one : (i : ℕ) → hold p i ≤ 1) (frameless : IsFrameless p) (tables : HaveTables p.region fresh.start fresh.len)
     (bring : (a : ℕ) → m.frames a ≡ (if inside (a / 4096) fresh then Some 0 else None))
     (end : Store) (region : Tables) (c : TheChange) (moved : Moves p.elements end no_ids (change_holds end c)) (apart : (i : ℕ) → change_holds end c i + hold p i ≤ 1)
@@ -215,7 +215,7 @@ pub room-parked : (emptied : Option Subpool) (spare : ℕ) → length (emptying 
 room-parked None spare h = tt
 room-parked (Some p) spare h = omega (arith, h)
 
--- a subpool that is there has a name that one can have
+-- a subpool that exists has a possible name
 there-some : (m : Subpools) (p : Subpool) → is_there m p ≡ true → IsSome (m.sight p.owner p.number)
 there-some m p h = go (m.sight p.owner p.number) h where
   go : (o : Option ℕ) → holds (λ owner. owner == p.owner) o ≡ true → IsSome o

@@ -48,7 +48,7 @@ own-there number owner = go (owner == 1) (number == 0) refl where
   go false true e = refl
   go false false e = refl
 
--- where there is no cell pool, their table has no row
+-- if there is no cell pool, their table has no row
 no-rows : RowsAreCounted → cell_pools_in (λ id. None) ≡ []
 no-rows counted = go (cell_pools_in (λ id. None)) (counted (λ id. None) [] none-named (λ id. refl) (λ i j d before within. absurd (omega (arith, within)))) where
   none-named : AreNamed (λ id. None)

@@ -44,7 +44,8 @@ not-brought p c fit page e = none-if (held_at c.frames page) (λ h. not-false ((
 pub can-enter : (p : Parts) (c : TheChange) → Ready p c → Fit (state_of p) (means p.elements c) → CanEnter p.region c.frames
 can-enter p c r fit page h = (r.places page h, r.frameless page (fresh-page p c fit page h))
 
--- so many blank elements are given back that as many are spare as the change had, the others stay aside, and the frames stand in the tables
+-- blank elements are given back until as many are spare as the change had, the others stay aside, and the frames are in
+-- the tables
 module _ (p : Parts) (c : TheChange) (r : Ready p c) (fit : Fit (state_of p) (means p.elements c)) (e : Store) (aside : Chain) (region : Tables) (given : List PageFrame)
     (aside-chain : IsChain e aside) (f : Leaves p.elements e (owned p.elements c.blanks) (owned e aside)) (spares : aside.count + e.spare ≡ c.blanks.count + p.elements.spare) (enough : c.blanks.count ≤ e.spare)
     (pages : (x : ℕ) → bytes_at region x ≡ option_or (held_at c.frames x) (bytes_at p.region x)) (tables : SameTables p.region region) (out : region.out + length c.frames ≡ p.region.out) (empty : given ≡ []) (counts : SameFrames p.region region) where
@@ -120,7 +121,7 @@ module _ (p : Parts) (c : TheChange) (r : Ready p c) (fit : Fit (state_of p) (me
           | inr z ↦ with-live p c.parked r.stands i z
         ]
 
-  -- all records change sides, and as many elements are spare as before
+  -- all records change sides, and the same number of elements is spare as before
   module _ (s : Parts) (given' : List PageFrame) (parked' : TheParked) (records' : Chain) (w : SwapsAll m s given given' c.parked parked' c.records records') where
     steps : (kept ≤ s.elements.spare) × (walk_of s given' parked' kept ≡ walk (walk_of m given c.parked kept) (records_of e c.records)) × (records_of s.elements records' ≡ back_onto (walk_of m given c.parked kept) [] (records_of e c.records))
     steps = w.steps kept (omega arith) fit-here

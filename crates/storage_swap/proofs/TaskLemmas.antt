@@ -148,7 +148,7 @@ module _ (old new : ℕ → ℕ → ℕ) (t : ℕ) (zeros : (k : ℕ) → (if na
     go true e = no-words task k (ltb-true k 16 e) (task == t) refl
     go false e = refl
 
--- a task that comes or goes
+-- a task that is attached or removed
 module _ (p : Parts) (e : Store) (q : Tree) (task under : ℕ) (zeros : (k : ℕ) → (tasks_of p).words task k ≡ 0) (new : IsTaskTree e q)
     (is-current : current q ≡ current p.tasks)
     (words : (x k : ℕ) → k < 16 → word e q x k ≡ (if x == task then 0 else word p.elements p.tasks x k))

@@ -1,4 +1,4 @@
--- Three calls take elements beside the storage, one after the other.
+-- Three calls take elements next to the storage, one after the other.
 use Rattle.std.proofs.Common.{◌≡◌, ℕ, ◌+◌, ◌<◌, ◌≤◌, Option, IsSome, inl, inr, sym, subst, arith}
 use Rattle.vsm_elements.specs.Store.{Store, at}
 use Rattle.vsm_elements.specs.declared.element.Element.{Element}
@@ -11,7 +11,7 @@ use Rattle.storage_swap.proofs.KeptLemmas.{holds-live}
 abbrev pub no_ids : ℕ → ℕ
 no_ids i = 0
 
--- what is live, and what one call more took, is live
+-- what is live, and what another call took, is live
 live-after : (s t : Store) (f g : ℕ → ℕ) → ((i : ℕ) → 0 < f i → at t i ≡ at s i) → ((i : ℕ) → 0 < f i → IsSome (at s i)) → ((i : ℕ) → 0 < g i → IsSome (at t i)) → (i : ℕ) → 0 < g i + f i → IsSome (at t i)
 live-after s t f g same old new i n = elim (none-or-some (g i)) [
   | inl z ↦ (let w : 0 < f i = omega (arith, n, z) in let P : Option Element → Type 0 = λ o. IsSome o in subst P (sym (same i w)) (old i w))

@@ -24,7 +24,7 @@ pub left-if : (b o : Bool) → (not b && o) ≡ (if b then false else o)
 left-if true o = refl
 left-if false o = refl
 
--- a byte that is there is not masked
+-- a byte that exists is not masked
 pub not-masked : (b : Bool) (x : Option ℕ) → IsSome (if b then None else x) → (b ≡ false) × IsSome x
 not-masked true x h = cc
 not-masked false x h = (refl, h)

@@ -1,4 +1,4 @@
--- The storage and the changes of a history beside each other, by counts.
+-- The storage and the changes of a history next to each other, by counts.
 use Rattle.std.specs.Prelude.{◌≡◌, ℕ, ◌+◌, ◌<◌, ◌≤◌, List, [], ◌∷◌, length, IsSome}
 use Rattle.vsm_elements.specs.Store.{Store, at}
 use Rattle.vsm_elements.specs.Chain.{IsChain}
@@ -20,7 +20,7 @@ abbrev pub all_frames : List Change → ℕ
 all_frames [] = 0
 all_frames (c ∷ cs) = length c.frames + all_frames cs
 
--- a change's chains and its parked subpools stand, and its frames can stand in the tables
+-- a change's chains and its parked subpools are well formed, and its frames have places in the tables
 pub record ChangeStands (p : Parts) (c : Change) : Type 0 where
   pub records : IsChain p.elements c.records
   pub blanks : IsChain p.elements c.blanks
@@ -31,8 +31,8 @@ abbrev pub AllStand : Parts → List Change → Type 0
 AllStand p [] = Unit {0}
 AllStand p (c ∷ cs) = ChangeStands p c × AllStand p cs
 
--- The storage and the changes stand, no element is held twice by all of them together, an unassigned page has no frame,
--- and the frames of all changes are within those that are out.
+-- The storage and the changes are well formed, no element is held twice by all of them together, an unassigned page has
+-- no frame, and the frames of all changes are within those that are out.
 pub record AreApart (p : Parts) (cs : List Change) : Type 0 where
   pub storage : Stand p
   pub changes : AllStand p cs
@@ -40,17 +40,17 @@ pub record AreApart (p : Parts) (cs : List Change) : Type 0 where
   pub frameless : IsFrameless p
   pub out : all_frames cs ≤ p.region.out
 
--- Besides, each live element is held by one of them, and each frame that is out is a change's: nothing is lost.
+-- Also, each live element is held by one of them, and each frame that is out is a change's: nothing is lost.
 pub record AreWhole (p : Parts) (cs : List Change) : Type 0 where
   pub apart : AreApart p cs
   pub all : (i : ℕ) → IsSome (at p.elements i) → 0 < hold p i + all_hold p.elements cs i
   pub all_out : all_frames cs ≡ p.region.out
 
--- The change is beside the storage, and its records fit where they are applied.
+-- The change is next to the storage, and its records fit where they are applied.
 pub record CanSwap (p : Parts) (c : Change) : Type 0 where
   pub ready : Ready p c
   pub fits : Fit (state_of p) (means p.elements c)
 
--- what a change means, whose records stand in the elements of the storage
+-- what a change means, whose records are in the elements of the storage
 abbrev pub meaning : Parts → Change → Meaning
 meaning p c = means p.elements c

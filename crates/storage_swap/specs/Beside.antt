@@ -1,4 +1,4 @@
--- A chain of records beside the storage and parked subpools, and the exchange of its records.
+-- A chain of records next to the storage and parked subpools, and the exchange of its records.
 use Rattle.std.specs.Prelude.{◌≡◌, ℕ, ◌+◌, ◌≤◌, List, [], ◌∷◌, map, length}
 use Rattle.vsm_elements.specs.Store.{Store, made}
 use Rattle.vsm_elements.specs.Owners.{times, Moves}
@@ -27,7 +27,7 @@ records_of s c = map record_at (links s c)
 abbrev pub hold_beside : Parts → SubpoolStorage → Chain → ℕ → ℕ
 hold_beside p q c i = hold_with p q i + times i (owned p.elements c)
 
--- the storage stands with the parked subpools, and the chain beside them
+-- the storage is well formed with the parked subpools, and so is the chain next to them
 pub record Beside (p : Parts) (q : SubpoolStorage) (c : Chain) : Type 0 where
   pub stands : StandsWith p q
   pub chain : IsChain p.elements c
@@ -37,7 +37,7 @@ pub record Beside (p : Parts) (q : SubpoolStorage) (c : Chain) : Type 0 where
 abbrev pub hold_both : Parts → SubpoolStorage → Chain → Chain → ℕ → ℕ
 hold_both p q c d i = hold_with p q i + (times i (owned p.elements c) + times i (owned p.elements d))
 
--- the storage stands with the parked subpools, and two chains beside them
+-- the storage is well formed with the parked subpools, and so are two chains next to them
 pub record BesideBoth (p : Parts) (q : SubpoolStorage) (c d : Chain) : Type 0 where
   pub stands : StandsWith p q
   pub chain : IsChain p.elements c

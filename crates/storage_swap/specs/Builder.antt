@@ -1,4 +1,4 @@
--- A change that is being made: records behind one another, and the subpools that it has parked.
+-- A change that is being made: records one after another, and the subpools that it has parked.
 use Rattle.std.specs.Prelude.{◌≡◌, ℕ, ◌+◌, ◌<◌, ◌≤◌, true, List, [], ◌++◌, length}
 use Rattle.vsm_elements.specs.Store.{at, live_count}
 use Rattle.vsm_elements.specs.Owners.{Moves}
@@ -28,7 +28,7 @@ records_in p b = records_of p.elements b.records
 abbrev pub parked_in : Parts → ChangeBuilder → Subpools
 parked_in p b = subpools_of p.elements b.parked
 
--- what it means with so many blank elements and no frame
+-- what it means with this many blank elements and no frame
 abbrev pub meaning_with : Parts → ChangeBuilder → ℕ → Change
 meaning_with p b blanks = record (change_of (records_in p b) blanks no_pages) { parked = parked_in p b }
 
@@ -36,12 +36,13 @@ meaning_with p b blanks = record (change_of (records_in p b) blanks no_pages) { 
 abbrev pub builder_holds : Parts → ChangeBuilder → ℕ → ℕ
 builder_holds p b = change_holds p.elements (so_far b)
 
--- The change so far stands beside the storage, and its last record is known.
+-- The change so far is well formed next to the storage, and its last record is known.
 pub record IsBuilding (p : Parts) (b : ChangeBuilder) : Type 0 where
   pub ready : Ready p (so_far b)
   pub last : b.last ≡ last_or 0 (links p.elements b.records)
 
--- The storage is as it was. Beside it elements came and went: those that something had held, and those that it holds.
+-- The storage is as it was. Next to it elements were given back and taken: those that something had held, and those
+-- that it holds.
 pub record Keeps (s t : Parts) (had has : ℕ → ℕ) : Type 0 where
   pub same : t ≡ record s { elements = t.elements }
   pub shows : state_of t ≡ state_of s
@@ -54,7 +55,7 @@ pub record Builds (s : Parts) (a : ChangeBuilder) (t : Parts) (b : ChangeBuilder
   pub building : IsBuilding t b
   pub keeps : Keeps s t (builder_holds s a) (builder_holds t b)
 
--- These records came behind those that were there, each in one element.
+-- These records were added after the others, each in one element.
 pub record Pushes (s : Parts) (a : ChangeBuilder) (added : List Record) (t : Parts) (b : ChangeBuilder)
     : Type 0 where
   pub records : records_in t b ≡ records_in s a ++ added
@@ -71,7 +72,7 @@ pub record Parks (s : Parts) (a : ChangeBuilder) (subpool : Subpool) (t : Parts)
   pub live : live_count t.elements ≤ live_count s.elements + 1
   pub made : MakesElements s.elements t.elements 1
 
--- The change is made, with so many blank elements and no frame, and the storage is as it was.
+-- The change is made, with this many blank elements and no frame, and the storage is as it was.
 pub record Finishes (s : Parts) (b : ChangeBuilder) (blanks : ℕ) (t : Parts) (c : TheChange) : Type 0 where
   pub ready : Ready t c
   pub keeps : Keeps s t (builder_holds s b) (change_holds t.elements c)

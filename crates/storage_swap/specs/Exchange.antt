@@ -12,11 +12,11 @@ use Rattle.storage_changes.specs.Fits.{Fits}
 use Rattle.storage_swap.specs.declared.storage.Parts.{Parts}
 use Rattle.storage_swap.specs.Storage.{hold_with, walk_of, StandsWith}
 
--- each of the frames can stand in a table
+-- each of the frames has a place in a table
 abbrev pub HavePlaces : Parts → List PageFrame → Type 0
 HavePlaces p frames = (page : ℕ) → IsSome (held_at frames page) → IsTrue (has_table p.region page)
 
--- no frame is made, and as many are spare
+-- no frame is made, and the same number is spare
 pub record SameFrames (old new : Pages) : Type 0 where
   pub spare : new.spare ≡ old.spare
   pub made : new.made ≡ old.made

@@ -55,14 +55,14 @@ apart-live p cs h i n = elim (none-or-some (hold p i)) [
   | inr z ↦ storage-live p h.storage i z
 ]
 
--- a table that was there is there
+-- a table that existed exists
 pub tables-kept : (old new : Tables) → SameTables old new → (page : ℕ) → IsTrue (has_table old page)
     → IsTrue (has_table new page)
 tables-kept old new same page h =
     let P : Bool → Type 0 = λ z. IsTrue z in
     subst P (sym (same.tables page)) h
 
--- the storage over other elements and another region, where its own elements are as they were
+-- the storage over other elements and another region, if its own elements are as they were
 module _ (p : Parts) (e : Store) (region : Tables) (k : Stand p)
     (same : (i : ℕ) → 0 < hold p i → at e i ≡ at p.elements i)
   where
@@ -100,7 +100,7 @@ module _ (p : Parts) (e : Store) (region : Tables) (k : Stand p)
         ∙ ap (λ (o : Option ℕ). if (state_of p).unassigned (a / 4096) then None else o)
         (byte_at-same_pages p.region region bytes a))
 
--- changes that held nothing of what a call had, where no table was lost
+-- changes that held nothing of what a call had, if no table was lost
 module _ (p t : Parts) (f g : ℕ → ℕ) (m : Moves p.elements t.elements f g)
     (tables : (page : ℕ) → IsTrue (has_table p.region page) → IsTrue (has_table t.region page))
   where

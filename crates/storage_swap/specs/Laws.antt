@@ -1,4 +1,4 @@
--- Laws of changes beside the storage.
+-- Laws of changes next to the storage.
 use Rattle.std.specs.Prelude.{◌≡◌}
 use Rattle.storage_changes.specs.Changes.{Fit}
 use Rattle.storage_swap.specs.declared.storage.Parts.{Parts}

@@ -1,4 +1,4 @@
--- That a storage stands, and that a change stands ready beside it, has one proof at most.
+-- That a storage is well formed, and that a change next to it is ready, has one proof at most.
 use Rattle.std.specs.Prelude.{List}
 use Rattle.std.proofs.Props.{props}
 use Rattle.raw_region.specs.Frames.{PageFrame}

@@ -29,7 +29,7 @@ pub record Grown (p t : Parts) : Type 0 where
   pub tables : MoreTables p.region t.region
   pub out : t.region.out ≡ p.region.out
 
--- The change is there, the storage is as it was, and elements and frames are the change's that no one had.
+-- The change exists, the storage is as it was, and elements and frames that nobody had are the change's.
 pub record Reserves (p : Parts) (d : Change) (c : TheChange) (t : Parts) : Type 0 where
   pub ready : Ready t c
   pub shows : state_of t ≡ state_of p
@@ -39,18 +39,18 @@ pub record Reserves (p : Parts) (d : Change) (c : TheChange) (t : Parts) : Type 
   pub tables : MoreTables p.region t.region
   pub out : t.region.out ≡ p.region.out + length c.frames
 
--- How many elements a change takes, of so many records and blank elements: where a subpool is emptied, one more that
--- stands for it, and a record, and a record and a blank element for each of its extents.
+-- How many elements a change takes, with this many records and blank elements: if a subpool is emptied, one more for
+-- it, and a record, and a record and a blank element for each of its extents.
 abbrev pub elements_for : Subpools → Option Subpool → ℕ → ℕ → ℕ
 elements_for m None records blanks = records + blanks
 elements_for m (Some p) records blanks = 2 + 2 * length (extents m p) + (records + blanks)
 
--- the extents of the subpool that is emptied; none where none is
+-- the extents of the subpool that is emptied; none if none is
 abbrev pub emptied_extents : Subpools → Option Subpool → List Run
 emptied_extents m None = []
 emptied_extents m (Some p) = extents m p
 
--- the records that stand before those that are given, where the extents are these
+-- the records that precede those that are given, if the extents are these
 abbrev pub emptying : Option Subpool → List Run → List Record
 emptying None runs = unassigned_records runs
 emptying (Some p) runs = Queues (record { subpool = p }) ∷ unassigned_records runs

@@ -1,4 +1,4 @@
--- A change that was reserved, beside the changes of a history.
+-- A change that was reserved, next to the changes of a history.
 use Rattle.std.specs.Prelude.{◌≡◌, ℕ, ◌+◌, ◌<◌, ◌≤◌, List, [], ◌∷◌, IsSome}
 use Rattle.std.proofs.Common.{sym, subst, arith}
 use Rattle.vsm_elements.specs.Store.{at}
@@ -13,8 +13,8 @@ use Rattle.storage_swap.specs.Reserve.{Reserves}
 use Rattle.storage_swap.specs.Apart.{all_hold, AreApart, AreWhole}
 use Rattle.storage_swap.specs.HistoryKept.{apart-live, left, AllLeft, all-left}
 
--- Where a change that fits the state was reserved, it fits, and the others mean what they did. Where those were apart,
--- all are, and where those were whole with the storage, all are.
+-- If a change that fits the state was reserved, it fits, and the others mean what they did. If those were apart, all
+-- are, and if those were whole with the storage, all are.
 abbrev pub ReservedChangesFit : Type 0
 ReservedChangesFit =
     (p t : Parts) (d : Meaning) (c : Change) → Reserves p d c t → Fit (state_of p) d

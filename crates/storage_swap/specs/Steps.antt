@@ -16,7 +16,7 @@ use Rattle.storage_swap.specs.HistoryKept.{storage-live, all-live, apart-live, t
 use Rattle.storage_swap.specs.HistoryKept.{moved-unassigned, moved-state, left, AllLeft, all-left, hold-append}
 use Rattle.storage_swap.specs.HistoryKept.{frames-append, apart-pick, apart-put, apart-rest}
 
--- a change that is apart from the storage is beside it
+-- a change that is apart from the storage is next to it
 apart-ready : (p : Parts) (c : Change) (cs : List Change) → AreApart p (c ∷ cs) → Ready p c
 apart-ready p c cs h = record {
   stands = record {

@@ -22,7 +22,7 @@ hold p i =
     times i (Pages.owned p.elements p.unassigned) + SubpoolStorage.hold p.elements p.subpools i
     + times i (TaskTree.owned p.elements p.tasks)
 
--- each structure stands
+-- each structure is well formed
 pub record Stand (p : Parts) : Type 0 where
   pub unassigned : IsPages p.elements p.unassigned
   pub subpools : SubpoolStorage.Stands p.elements p.subpools
@@ -51,12 +51,12 @@ state_of p =
 abbrev pub IsFrameless : Parts → Type 0
 IsFrameless p = (page : ℕ) → (state_of p).unassigned page ≡ true → bytes_at p.region page ≡ None
 
--- the byte at an address, where its page's frame is among these
+-- the byte at an address, if its page's frame is among these
 abbrev pub byte_held : List PageFrame → ℕ → Option ℕ
 byte_held frames a = byte_of (held_at frames (a / 4096)) (a % 4096)
 
--- Among the records of a change, where `kept` elements are no blank ones of the change: the frames that are yet to be
--- brought stand in the tables at pages that are unassigned.
+-- Among the records of a change, if `kept` elements are no blank ones of the change: the frames that are yet to be
+-- brought are in the tables at pages that are unassigned.
 abbrev pub walk_of : Parts → List PageFrame → SubpoolStorage → ℕ → Walk
 walk_of p given parked kept =
     record {
@@ -71,7 +71,7 @@ walk_of p given parked kept =
 abbrev pub hold_with : Parts → SubpoolStorage → ℕ → ℕ
 hold_with p parked i = hold p i + SubpoolStorage.hold p.elements parked i
 
--- the storage stands, and parked subpools beside it, and no element has two owners
+-- the storage and the parked subpools next to it are well formed, and no element has two owners
 pub record StandsWith (p : Parts) (others : SubpoolStorage) : Type 0 where
   pub storage : Stand p
   pub parked : SubpoolStorage.Stands p.elements others

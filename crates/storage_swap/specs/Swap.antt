@@ -1,4 +1,4 @@
--- A change beside the storage, and its exchange.
+-- A change next to the storage, and its exchange.
 use Rattle.std.specs.Prelude.{◌≡◌, ℕ, ◌+◌, ◌≤◌, true, length, None}
 use Rattle.vsm_elements.specs.Store.{Store, made}
 use Rattle.vsm_elements.specs.Owners.{times, Moves}
@@ -40,8 +40,8 @@ change_holds s c i = held_by s c.records c.blanks c.parked i
 abbrev pub both_hold : Parts → TheChange → ℕ → ℕ
 both_hold p c i = hold p i + change_holds p.elements c i
 
--- A change beside the storage: both stand, no element has two owners, an unassigned page has no frame, and the change's
--- frames are out and can stand in the tables.
+-- A change next to the storage: both are well formed, no element has two owners, an unassigned page has no frame, and
+-- the change's frames are out and have places in the tables.
 pub record Ready (p : Parts) (c : TheChange) : Type 0 where
   pub stands : StandsWith p c.parked
   pub records : IsChain p.elements c.records
@@ -52,7 +52,7 @@ pub record Ready (p : Parts) (c : TheChange) : Type 0 where
   pub places : HavePlaces p c.frames
 
 -- The storage is what the change means, and the change the one that leads back. Elements and frames went from the one
--- to the other, and nothing else changed: as many elements and frames are spare, and none was made.
+-- to the other, and nothing else changed: the same number of elements and frames is spare, and none was made.
 pub record Swaps (p : Parts) (c : TheChange) (t : Parts) (d : TheChange) : Type 0 where
   pub before : Ready p c
   pub after : Ready t d
@@ -65,8 +65,8 @@ pub record Swaps (p : Parts) (c : TheChange) (t : Parts) (d : TheChange) : Type 
   pub tables : SameTables p.region t.region
   pub frames : SameFrames p.region t.region
 
--- The change's elements are spare and its frames too, and nothing else changed: just as many more of both are spare as
--- the change had, and none was made.
+-- The change's elements and frames are spare, and nothing else changed: exactly as many more of both are spare as the
+-- change had, and none was made.
 pub record Discards (p : Parts) (c : TheChange) (t : Parts) : Type 0 where
   pub before : Ready p c
   pub same : t ≡ record p { elements = t.elements; region = t.region }

@@ -24,10 +24,10 @@ use vsm_model::{Settings, Subpool};
 // Four for task 1, one for its subpool 0, and two for the runs of unassigned pages.
 const ELEMENTS: u32 = 7;
 
-/// The storage before the first request: task 1 alone, which is current and has zero registers, its empty subpool 0,
-/// and both regions without a frame. At most a block of elements is made for it, and no frame.
+/// The storage before the first request: only task 1, which is current and has zero registers, its empty subpool 0, and
+/// both regions without a frame. At most a block of elements is made for it, and no frame.
 ///
-/// It answers an error where memory is refused.
+/// It returns an error if memory is refused.
 pub fn fresh(alloc: Global, settings: Settings) -> Result<Parts, AllocError>
     requires { settings_valid settings ≡ true }
     ensures { IfOk result (λ storage. IsFresh settings storage) }

@@ -22,10 +22,10 @@ use subpool_storage::SubpoolStorage;
 use vsm_elements::{Chain, Id};
 use vsm_model::Subpool;
 
-/// A change that is being made: records behind one another, and the subpools that it has parked. Between two records
-/// the storage can be read: its state stays as it is.
+/// A change that is being made: records one after another, and the subpools that it has parked. Between two records the
+/// storage can be read: its state stays as it is.
 ///
-/// It ends by [`ChangeBuilder::finish`] or by [`ChangeBuilder::discard`] alone: its elements stay live until then.
+/// Only [`ChangeBuilder::finish`] or [`ChangeBuilder::discard`] ends it: its elements stay live until then.
 pub struct ChangeBuilder {
     records: Chain,
     // The id of the last record's element, or 0.
@@ -55,10 +55,10 @@ impl ChangeBuilder {
         self.records.count
     }
 
-    /// One record more, behind the last one. It takes one element.
+    /// Another record, after the last one. It takes one element.
     ///
-    /// `AllocError` where none is spare and memory is refused: the records then stay as they are, and at most a block
-    /// of elements is made.
+    /// `AllocError` if none is spare and memory is refused: the records then stay as they are, and at most a block of
+    /// elements is made.
     pub fn push(&mut self, storage: &mut Parts, added: Record) -> Result<(), AllocError>
         requires { IsBuilding storage.old self.old }
         ensures builds { Builds storage.old self.old storage.new self.new }
@@ -72,9 +72,9 @@ impl ChangeBuilder {
         Ok(())
     }
 
-    /// Register 15 of the task gets the return code: one record more, and none if it has that already.
+    /// Register 15 of the task gets the return code: one more record, and none if it has that already.
     ///
-    /// `AllocError` where no element is spare and memory is refused: the records then stay as they are, and at most a
+    /// `AllocError` if no element is spare and memory is refused: the records then stay as they are, and at most a
     /// block of elements is made.
     pub fn push_return(
         &mut self,
@@ -105,7 +105,7 @@ impl ChangeBuilder {
     /// Parks an empty subpool of this name, whose storage a record of the change can take over. None of this name may
     /// be parked already. It takes one element.
     ///
-    /// `AllocError` where none is spare and memory is refused: nothing more is parked then, and at most a block of
+    /// `AllocError` if none is spare and memory is refused: then no other subpool is parked, and at most a block of
     /// elements is made.
     pub fn park(&mut self, storage: &mut Parts, subpool: Subpool) -> Result<(), AllocError>
         requires building { IsBuilding storage.old self.old }
@@ -122,11 +122,11 @@ impl ChangeBuilder {
         Ok(())
     }
 
-    /// The change, with so many blank elements and no frame. The state of the storage stays as it is.
+    /// The change, with this many blank elements and no frame. The state of the storage stays as it is.
     ///
     /// Each call on a queue takes one blank element at most, and one has to be left.
     ///
-    /// `AllocError` where fewer are spare and memory is refused: all that it had is spare then, and at most a block of
+    /// `AllocError` if fewer are spare and memory is refused: all that it had is spare then, and at most a block of
     /// elements is made beyond what is needed.
     pub fn finish(self, storage: &mut Parts, blanks: u32) -> Result<Change, AllocError>
         requires { IsBuilding storage.old self }
@@ -156,7 +156,7 @@ impl ChangeBuilder {
         })
     }
 
-    /// Gives back every element, those of the subpools that it has parked among them. The storage stays as it is.
+    /// Gives back every element, including those of the subpools that it has parked. The storage stays as it is.
     pub fn discard(self, storage: &mut Parts)
         requires { IsBuilding storage.old self }
         ensures keeps { Keeps storage.old storage.new (builder_holds storage.old self) (λ i. 0) }

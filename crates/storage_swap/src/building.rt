@@ -1,4 +1,4 @@
-//! Changes by which a cell pool comes.
+//! Changes that create a cell pool.
 
 ghost use Rattle.std.specs.Prelude.{◌≡◌, ℕ, ◌+◌, ◌*◌, ◌^◌, ◌<◌, ◌≤◌, ◌∷◌, true, None, length, option_map, IsTrue, IsOk};
 ghost use Rattle.std.specs.Prelude.{IfOk, IfErr};
@@ -25,7 +25,7 @@ use subpool_storage::laws::pools_are_held;
 use subpool_storage::{CellId, CellPoolHeader, CellPoolName, CellSettings, SubpoolStorage};
 use vsm_elements::Elements;
 
-/// A cell pool that comes, with its first extent, whose cells are all free.
+/// A cell pool to be created, with its first extent, whose cells are all free.
 #[derive(Clone, Copy)]
 pub struct ReservedCellPool<'a> {
     pub name: &'a CellPoolName,
@@ -38,16 +38,16 @@ pub struct ReservedCellPool<'a> {
 }
 
 impl Change {
-    /// A change of these records behind one by which a new cell pool comes, with its first extent, under the id that is
-    /// answered. It has so many blank elements, and frames of zeros for the pages of a run. The state of the storage
+    /// A change of these records after one that creates a new cell pool, with its first extent, under the id that is
+    /// returned. It has this many blank elements, and frames of zeros for the pages of a run. The state of the storage
     /// stays as it is.
     ///
     /// Each call on a queue takes one blank element at most, and one has to be left. The run is in pages of 4,096
     /// bytes, and each of them has to be unassigned.
     ///
-    /// It answers an error where memory is refused. What was made before that stays, as spare elements, spare frames
-    /// and tables. Where so many elements and frames are spare and the tables are there, it takes no memory. At most a
-    /// block of elements is made beyond what is needed, and no frame.
+    /// It returns an error if memory is refused. What was made before that stays, as spare elements, spare frames and
+    /// tables. If that many elements and frames are spare and the tables exist, it takes no memory. At most a block of
+    /// elements is made beyond what is needed, and no frame.
     pub fn reserve_building(
         storage: &mut Parts,
         pool: &ReservedCellPool<'_>,
@@ -89,7 +89,7 @@ impl Change {
     }
 }
 
-// The change, of what is spare, and the id of the cell pool.
+// The change, made of what is spare, and the id of the cell pool.
 fn make_building(
     storage: &mut Parts,
     pool: &ReservedCellPool<'_>,
@@ -131,7 +131,7 @@ fn make_building(
     (change, id)
 }
 
-// The cell pool alone, parked, and its id.
+// Only the cell pool, parked, and its id.
 fn park_pool(elements: &mut Elements, pool: &ReservedCellPool<'_>) -> (SubpoolStorage, CellId)
     requires cells { 0 < pool.now.settings.size }
     requires some { 0 < pool.now.count }
@@ -156,7 +156,7 @@ fn park_pool(elements: &mut Elements, pool: &ReservedCellPool<'_>) -> (SubpoolSt
     (parked, id)
 }
 
-// The header once more.
+// The header again.
 fn same_header(header: &Option<CellPoolHeader>) -> Option<CellPoolHeader>
     ensures { option_map (λ h. h.items) result ≡ option_map (λ h. h.items) header.now }
 {

@@ -13,7 +13,7 @@ use storage_changes::{CellExtentRecord, CellPoolRecord, CellRecord};
 use subpool_storage::SubpoolStorage;
 
 impl Parts {
-    // The cell pool is there, or it is parked, and the record by which that is taken back is answered.
+    // The cell pool exists, or it is parked, and the record that takes this back is returned.
     pub(crate) fn exchange_cell_pool(
         &mut self,
         parked: &mut SubpoolStorage,
@@ -34,7 +34,7 @@ impl Parts {
         }
     }
 
-    // The cell pool has the extent, or it doesn't any more, and the record by which that is taken back is answered.
+    // The cell pool has the extent, or no longer has it, and the record that takes this back is returned.
     pub(crate) fn exchange_cell_extent(&mut self, r: CellExtentRecord) -> CellExtentRecord
         requires stands { Stand self.old }
         requires fits { (given : List PageFrame) × (parked : TheParked) × (kept : ℕ)
@@ -56,7 +56,7 @@ impl Parts {
         }
     }
 
-    // The cell is the first free one, or it's in use, and the record by which that is taken back is answered.
+    // The cell is the first free one, or it's in use, and the record that takes this back is returned.
     pub(crate) fn exchange_cell(&mut self, r: CellRecord) -> CellRecord
         requires stands { Stand self.old }
         requires fits { (given : List PageFrame) × (parked : TheParked) × (kept : ℕ)

@@ -16,7 +16,7 @@ use subpool_storage::CellId;
 use vsm_elements::{Chain, Elements, Id};
 use vsm_model::Subpool;
 
-// The records of a change that empties a subpool with these extents first, or none: that its storage goes over, that
+// The records of a change that first empties a subpool with these extents, or none: that its storage moves over, that
 // the pages of each extent become unassigned, and those that are given.
 pub(crate) fn take_records(
     elements: &mut Elements,
@@ -41,7 +41,7 @@ pub(crate) fn take_records(
     chain
 }
 
-// These records, behind the one by which a cell pool comes.
+// These records, after the one that creates a cell pool.
 pub(crate) fn building_records(elements: &mut Elements, pool: CellId, records: &[Record]) -> Chain
     requires room { 1 + length records.now ≤ elements.old.spare }
     ensures chain { IsChain elements.new result }
@@ -60,7 +60,7 @@ pub(crate) fn building_records(elements: &mut Elements, pool: CellId, records: &
     chain
 }
 
-// One record more behind the last one, which has the id `last`. Answers the id of its own element.
+// Another record after the last one, which has the id `last`. Returns the id of its own element.
 pub(crate) fn append(elements: &mut Elements, chain: &mut Chain, last: Id, added: Record) -> Id
     requires chain { IsChain elements.old chain.old }
     requires last { last ≡ last_or 0 (links elements.old chain.old) }
@@ -75,7 +75,7 @@ pub(crate) fn append(elements: &mut Elements, chain: &mut Chain, last: Id, added
     chain.insert(elements, count, last, added.words())
 }
 
-// Where a subpool is emptied, the record by which its storage goes over into the change, in an empty chain.
+// If a subpool is emptied, the record by which its storage moves into the change, in an empty chain.
 fn append_emptying(elements: &mut Elements, chain: &mut Chain, emptied: Option<Subpool>) -> Id
     requires empty { (chain.old.first ≡ 0) × (chain.old.count ≡ 0) }
     requires room { length (emptying emptied []) ≤ elements.old.spare }

@@ -15,10 +15,10 @@ use std::mem;
 use subpool_storage::SubpoolStorage;
 use vsm_elements::{Chain, Elements};
 
-/// What is exchanged with the storage: records, blank elements for their exchange, the frames of pages that come to be
+/// What is exchanged with the storage: records, blank elements for their exchange, the frames of pages that become
 /// assigned, and subpools that are parked with their queues.
 ///
-/// It is let go by [`Change::discard`] alone: its elements stay live until then.
+/// Only [`Change::discard`] drops it: its elements stay live until then.
 #[derive(Drop)]
 pub struct Change {
     pub(crate) records: Chain,
@@ -30,8 +30,8 @@ pub struct Change {
 impl Change {
     /// Exchanges the change with the storage, and leaves the one that leads back.
     ///
-    /// It takes no memory: no block of elements and no frame is made, and no frame is copied. So many elements are
-    /// spare as before.
+    /// It takes no memory: no block of elements and no frame is made, and no frame is copied. The same number of
+    /// elements is spare as before.
     pub fn swap(&mut self, storage: &mut Parts)
         requires ready { Ready storage.old self.old }
         requires fits { Fit (state_of storage.old) (means storage.old.elements self.old) }
@@ -51,7 +51,7 @@ impl Change {
         settle(&mut storage.elements, &mut self.blanks, kept);
     }
 
-    /// Gives back every element and every frame of the change, those of the subpools that it has parked among them.
+    /// Gives back every element and every frame of the change, including those of the subpools that it has parked.
     ///
     /// The bytes of the frames are gone. The storage stays as it is.
     pub fn discard(self, storage: &mut Parts)

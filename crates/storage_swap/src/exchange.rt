@@ -26,7 +26,7 @@ use subpool_storage::SubpoolStorage;
 
 impl Parts {
     /// Exchanges a record with the storage: its places get its value, and the record with the value that they had is
-    /// answered.
+    /// returned.
     ///
     /// Pages that become unassigned leave their frames in `given`; pages that are assigned have theirs in the tables
     /// already. The storage of a subpool changes places with the one that `parked` has under its name, and a cell
@@ -83,8 +83,8 @@ impl Parts {
         }
     }
 
-    /// Exchanges a record that stands in words with the storage, and answers it so: the words of most records stay but
-    /// for one.
+    /// Exchanges a record given in words with the storage, and returns it in words: all words of most records stay
+    /// except one.
     pub fn exchange_words(
         &mut self,
         given: &mut Parked,
@@ -143,7 +143,7 @@ impl Parts {
         }
     }
 
-    // An empty subpool is there, or it is gone.
+    // An empty subpool exists, or it is gone.
     fn exchange_own(&mut self, r: OwnRecord)
         requires stands { Stand self.old }
         requires fits { (given : List PageFrame) × (parked : TheParked) × (kept : ℕ)
@@ -158,7 +158,7 @@ impl Parts {
         }
     }
 
-    // The pages of a run are assigned, whose frames stand in the tables already, or unassigned.
+    // The pages of a run are assigned, with their frames already in the tables, or unassigned.
     fn exchange_pages(&mut self, given: &mut Parked, r: PagesRecord)
         requires stands { Stand self.old }
         requires fits { (parked : TheParked) × (kept : ℕ) × PagesFits (walk_of self.old given.old parked kept) r }
@@ -201,7 +201,7 @@ impl Parts {
         r
     }
 
-    // The register gets the word, and the record with its old one is answered.
+    // The register gets the word, and the record with its old one is returned.
     fn exchange_register(&mut self, r: RegisterRecord) -> RegisterRecord
         requires stands { Stand self.old }
         requires fits { (given : List PageFrame) × (parked : TheParked) × (kept : ℕ)
@@ -216,7 +216,7 @@ impl Parts {
         RegisterRecord { word, ..r }
     }
 
-    // The four registers get the words, and the record with their old ones is answered.
+    // The four registers get the words, and the record with their old ones is returned.
     fn exchange_registers(&mut self, r: RegistersRecord) -> RegistersRecord
         requires stands { Stand self.old }
         requires fits { (given : List PageFrame) × (parked : TheParked) × (kept : ℕ)

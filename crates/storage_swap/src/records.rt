@@ -34,7 +34,7 @@ fn swap_first(
     records.turn_front(&mut storage.elements, turned, done);
 }
 
-// Every record changes sides with the storage. They then stand in reverse order.
+// Every record changes sides with the storage. They are then in reverse order.
 pub(crate) fn swap_records(
     storage: &mut Parts,
     given: &mut Parked,
@@ -53,7 +53,7 @@ pub(crate) fn swap_records(
     *records = done;
 }
 
-// Gives blank elements back until so many or more are spare.
+// Gives blank elements back until at least this many are spare.
 pub(crate) fn give_back(elements: &mut Elements, blanks: &mut Chain, least: u32)
     requires chain { IsChain elements.old blanks.old }
     requires room { least ≤ elements.old.spare + blanks.old.count }
@@ -68,7 +68,7 @@ pub(crate) fn give_back(elements: &mut Elements, blanks: &mut Chain, least: u32)
     }
 }
 
-// Gives blank elements back, or takes spare ones among them, until so many are spare.
+// Gives blank elements back, or adds spare ones to them, until this many are spare.
 pub(crate) fn settle(elements: &mut Elements, blanks: &mut Chain, spare: u32)
     requires chain { IsChain elements.old blanks.old }
     requires room { spare ≤ elements.old.spare + blanks.old.count }

@@ -31,20 +31,20 @@ use vsm_elements::{Chain, Elements};
 use vsm_model::Subpool;
 
 impl Change {
-    /// A change of these records, with so many blank elements, and with frames of zeros for the pages of a run. The
+    /// A change of these records, with this many blank elements, and with frames of zeros for the pages of a run. The
     /// state of the storage stays as it is.
     ///
-    /// Where a subpool is to be emptied, an empty one is parked under its name, and records stand before these: one by
-    /// which its pages, its free storage and its cell pools go over into the change, and one for each of its extents,
-    /// in ascending order, by which the pages become unassigned.
+    /// If a subpool is to be emptied, an empty one is parked under its name, and records precede these: one by which
+    /// its pages, its free storage and its cell pools move into the change, and one for each of its extents, in
+    /// ascending order, by which the pages become unassigned.
     ///
     /// Each call on a queue takes one blank element at most, and one has to be left: so one more than the calls is
     /// enough; those for the extents of the subpool are added. The run is in pages of 4,096 bytes, and each of them has
     /// to be unassigned.
     ///
-    /// It answers an error where memory is refused. What was made before that stays, as spare elements, spare frames
-    /// and tables. Where so many elements and frames are spare and the tables are there, it takes no memory. At most a
-    /// block of elements is made beyond what is needed, and no frame.
+    /// It returns an error if memory is refused. What was made before that stays, as spare elements, spare frames and
+    /// tables. If that many elements and frames are spare and the tables exist, it takes no memory. At most a block of
+    /// elements is made beyond what is needed, and no frame.
     pub fn reserve(
         storage: &mut Parts,
         emptied: Option<Subpool>,
@@ -84,7 +84,7 @@ impl Change {
     }
 }
 
-// How many elements the change takes, by how many extents the subpool has that is emptied.
+// How many elements the change takes, by the number of extents of the subpool that is emptied.
 fn elements_needed(emptied: Option<Subpool>, extents: u32, records: u32, blanks: u32) -> u32
     requires few { extents ≤ 2 ^ 29 }
     requires size { records + blanks ≤ 2 ^ 20 }
@@ -97,7 +97,7 @@ fn elements_needed(emptied: Option<Subpool>, extents: u32, records: u32, blanks:
     }
 }
 
-// The extents of the subpool that is emptied; none where none is.
+// The extents of the subpool that is emptied; none if none is.
 fn extents_emptied(storage: &Parts, emptied: Option<Subpool>) -> Extents
     requires { Stand storage.now }
     ensures extents { IsExtents storage.now.elements result }
@@ -111,7 +111,7 @@ fn extents_emptied(storage: &Parts, emptied: Option<Subpool>) -> Extents
     }
 }
 
-// So many elements are spare, and a frame and a table for each page of the run.
+// This many elements are spare, and a frame and a table for each page of the run.
 pub(crate) fn grow(storage: &mut Parts, elements: u32, fresh: Run) -> Result<(), AllocError>
     requires segments { (page : ℕ) → inside page fresh ≡ true → IsTrue (has_segment storage.old.region page) }
     ensures grown { Grown storage.old storage.new }
@@ -131,7 +131,7 @@ pub(crate) fn grow(storage: &mut Parts, elements: u32, fresh: Run) -> Result<(),
     Ok(())
 }
 
-// The change, of what is spare.
+// The change, made of what is spare.
 fn make(
     storage: &mut Parts,
     emptied: Option<Subpool>,
@@ -176,7 +176,7 @@ fn make(
     }
 }
 
-// So many blank elements.
+// This many blank elements.
 pub(crate) fn take_blanks(elements: &mut Elements, n: u32) -> Chain
     requires room { n ≤ elements.old.spare }
     ensures chain { IsChain elements.new result }
@@ -190,7 +190,7 @@ pub(crate) fn take_blanks(elements: &mut Elements, n: u32) -> Chain
     blanks
 }
 
-// An empty subpool of this name; none where none is emptied.
+// An empty subpool of this name; none if none is emptied.
 fn park_empty(elements: &mut Elements, emptied: Option<Subpool>) -> SubpoolStorage
     requires range { IfSome emptied (λ p. (1 ≤ p.owner) × (p.owner ≤ 64) × (p.number ≤ 127)) }
     requires room { IfSome emptied (λ _. 0 < elements.old.spare) }

@@ -14,7 +14,7 @@ use storage_changes::{PassRecord, SharerRecord, TaskRecord, TurnRecord};
 use vsm_model::Subpool;
 
 impl Parts {
-    // The task is there, or it is gone, and the record by which that is taken back is answered.
+    // The task exists, or it is gone, and the record that takes this back is returned.
     pub(crate) fn exchange_task(&mut self, r: TaskRecord) -> TaskRecord
         requires stands { Stand self.old }
         requires fits { (given : List PageFrame) × (parked : TheParked) × (kept : ℕ)
@@ -34,7 +34,7 @@ impl Parts {
         }
     }
 
-    // The task makes the requests, and the record with the one that made them is answered.
+    // The task makes the requests, and the record with the one that made them is returned.
     pub(crate) fn exchange_turn(&mut self, r: TurnRecord) -> TurnRecord
         requires stands { Stand self.old }
         requires fits { (given : List PageFrame) × (parked : TheParked) × (kept : ℕ)
@@ -48,7 +48,7 @@ impl Parts {
         TurnRecord { task }
     }
 
-    // The task sees the subpool, or doesn't any more, and the record by which that is taken back is answered.
+    // The task sees the subpool, or no longer does, and the record that takes this back is returned.
     pub(crate) fn exchange_sharer(&mut self, r: SharerRecord) -> SharerRecord
         requires stands { Stand self.old }
         requires fits { (given : List PageFrame) × (parked : TheParked) × (kept : ℕ)
@@ -68,7 +68,7 @@ impl Parts {
         }
     }
 
-    // The subpool passes to the other task, and the record by which it comes back is answered.
+    // The subpool passes to the other task, and the record that brings it back is returned.
     pub(crate) fn exchange_pass(&mut self, r: PassRecord) -> PassRecord
         requires stands { Stand self.old }
         requires fits { (given : List PageFrame) × (parked : TheParked) × (kept : ℕ)

@@ -1,4 +1,4 @@
--- The queues of subpools, where a call on rows leaves them alone.
+-- The queues of subpools, if a call on rows leaves them unchanged.
 use Rattle.std.proofs.Common.{◌≡◌, ℕ, Bool, true, false, ◌==◌, List, [], ◌++◌, Option, Some, None, IsSome, ◌⊎◌, inl, inr, refl, sym, ap, ◌∙◌, subst}
 use Rattle.std.proofs.lemmas.Bool.{cond-false, cond-true}
 use Rattle.std.specs.Prelude.{if◌then◌else◌}
@@ -18,7 +18,7 @@ use Rattle.subpool_set.specs.Pools.{Pool, Pools, no_queues, pools_with, pools_gi
 use Rattle.subpool_set.specs.QueueElements.{ids_of, StandApart, AreApart}
 use Rattle.subpool_set.proofs.HeadLemmas.{both_live, both_kept, both_stay, in_left, in_right, in_either}
 
--- a subpool whose queues are those of another, which was there
+-- a subpool whose queues are those of another, which existed
 pub record Came (f : Pools) (n o : ℕ) (p : Pool) : Type 0 where
   pub pool : Pool
   pub there : f n o ≡ Some pool
@@ -105,7 +105,7 @@ new_apart s t had has call f g number owner id put empty was =
           inl (subst P q empty)
       from n o p false h e = inr (record { pool = p; there = sym (cond-false (same_key owner number o n) (Some (record { id = id; queues = no_queues })) (f n o) h) ∙ e; same = refl })
 
--- a subpool that is given away
+-- a subpool that is passed
 module _ (f : Pools) (number giver to : ℕ) where
   abbrev home : ℕ → ℕ → ℕ
   home n o = if n == number then (if o == to then giver else o) else o
@@ -151,7 +151,7 @@ given_apart s t had has call f g number giver to given was =
     apart_after s t had has call f g (home f number giver to) (λ n o p e. inr (record { pool = p; there = given_home f number giver to n o p (sym (given n o) ∙ e); same = refl }))
     (λ n o r p x e k h. home_one f number giver to n o r p x (sym (given n o) ∙ e) (sym (given n r) ∙ k) h) was
 
--- a subpool that was taken out, and the others, are together what was there
+-- a subpool that was taken out, and the others, are together what existed before
 pub taken_apart : (s t : Store) (had xs ys : List ℕ) → Leaves s t had (xs ++ ys) → (f left out : Pools) (number owner : ℕ)
     → ((n o : ℕ) → left n o ≡ pools_with f number owner None n o) → ((n o : ℕ) → out n o ≡ pool_alone f number owner n o) → AreApart s f had
     → AreApart t (λ n o. either_of (out n o) (left n o)) (xs ++ ys)
@@ -189,7 +189,7 @@ empty_queues t e f p q extents bare free bare' =
       ap (λ (z : List ℕ). z ++ FreeQueue.owned t (queue_of 0 0)) x.1 ∙ y.1,
     )
 
--- where the elements of all queues are as they were
+-- if the elements of all queues are as they were
 pub kept_apart : (s t : Store) (xs ys : List ℕ) (f g : Pools) → ((n o : ℕ) → g n o ≡ f n o) → ((i : ℕ) → among i ys ≡ among i xs) → AreApart s f xs
     → ((n o : ℕ) (p : Pool) → f n o ≡ Some p → (i : ℕ) → among i (ids_of s p.queues) ≡ true → at t i ≡ at s i) → AreApart t g ys × ((n o : ℕ) (p : Pool) → f n o ≡ Some p → ids_of t p.queues ≡ ids_of s p.queues)
 kept_apart s t xs ys f g same e was kept = (

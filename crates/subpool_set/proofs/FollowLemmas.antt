@@ -18,12 +18,12 @@ use Rattle.subpool_set.proofs.LawLemmas.{queue_ids_are}
 some_pool : (x y : Pool) → Some x ≡ Some y → x ≡ y
 some_pool x y e = cc
 
--- the ids at one place, of a set whose queues stand
+-- the ids at one place, of a set whose queues are intact
 at_once : (s : Store) (f : Pools) (others : List ℕ) → AreApart s f others → (n o : ℕ) (x : Option Pool) → f n o ≡ x → (i : ℕ) → times i (ids_at s x) ≤ 1
 at_once s f others was n o None e i = omega arith
 at_once s f others was n o (Some p) e i = both_once s p.queues (was.stand n o p e) i
 
--- who has an id there has a subpool there
+-- a place that has an id has a subpool
 record There (s : Store) (x : Option Pool) (i : ℕ) : Type 0 where
   p : Pool
   is : x ≡ Some p

@@ -1,4 +1,4 @@
--- What a row of numbers gives: the first, and what is behind it.
+-- What a row of numbers gives: the first, and what is after it.
 use Rattle.std.proofs.Common.{◌≡◌, ℕ, zero, suc, ◌+◌, ◌<◌, ◌≤◌, Bool, true, false, List, [], ◌∷◌, ◌++◌, Option, Some, None, ◌⊎◌, inl, inr, refl, sym, ap, ◌∙◌, subst, arith}
 use Rattle.std.specs.Prelude.{filter, if◌then◌else◌}
 use Rattle.std.specs.List.{range_with_len, flat_map, filter_map, cons_option}
@@ -119,7 +119,7 @@ not_before a b x y h k = elim (either (comes_before a b x y)) [
 pub order_none : (f : Pools) → ((n o : ℕ) → f n o ≡ None) → in_order f ≡ []
 order_none f none = flat_none (of_number f) (λ n. given_none (f n) (none n) tasks) numbers
 
--- The first subpool and those behind it: f has this one and none before it, and g has those of f behind it.
+-- The first subpool and those after it: f has this one and none before it, and g has those of f after it.
 module _ (f g : Pools) (n o : ℕ) (x : Pool) (one : 1 ≤ o) (last : o ≤ 64) (high : n ≤ 127) (here : f n o ≡ Some x)
     (before : (m t : ℕ) → comes_before t m o n ≡ true → f m t ≡ None) (behind : (m t : ℕ) → comes_before o n t m ≡ true → f m t ≡ g m t)
     (upto : (m t : ℕ) → comes_before o n t m ≡ false → g m t ≡ None) where
@@ -143,7 +143,7 @@ module _ (f g : Pools) (n o : ℕ) (x : Pool) (one : 1 ≤ o) (last : o ≤ 64) 
       k 0 (omega arith) (omega (arith, high, e))
       ∙ ap (λ (z : List ℕ). x ∷ flat_map (of_number g) z) (sym (numbers_are k e))
 
--- behind 0 and 0 are all, whatever is given for a number and an owner
+-- after 0 and 0 are all, whatever is given for a number and an owner
 module _ {A : Type 0} (p : ℕ → ℕ → Option A) where
   abbrev after : ℕ → ℕ → Option A
   after n o = if comes_before 0 0 o n then p n o else None

@@ -1,4 +1,4 @@
--- What is behind a number and an owner, or behind a task, of what is walked over in order.
+-- What is after a number and an owner, or after a task, of what is walked over in order.
 use Rattle.std.proofs.Common.{◌≡◌, ◌≢◌, ℕ, ◌<◌, ◌≤◌, Bool, true, false, ◌&&◌, nat_lt, List, [], ◌∷◌, Some, None, inl, inr, refl, sym, ap, ◌∙◌, arith}
 use Rattle.std.specs.Prelude.{if◌then◌else◌, filter, map}
 use Rattle.std.proofs.lemmas.Bool.{cases_lt, ltb-true, lt-ltb, cond-false, cond-true}
@@ -12,7 +12,7 @@ use Rattle.subpool_set.specs.Walks.{is_sharer, sharers_behind, HasNoSharer, IsFi
 use Rattle.subpool_set.proofs.KeptLemmas.{pool_own, pool_none, some_nat}
 use Rattle.subpool_set.proofs.OrderLemmas.{order_none, order_first, passed_none, passed_first, passed_behind, tasks_are}
 
--- the subpools behind this number and this owner
+-- the subpools after this number and this owner
 abbrev pub pools_after : Pools → ℕ → ℕ → Pools
 pools_after p number owner n o = if comes_before owner number o n then p n o else None
 
@@ -38,7 +38,7 @@ past_end f a b v w past none = ap (map (λ (p : Pool). p.id)) (order_none (pools
     | inr e ↦ cond-false (comes_before a b o n) (pools_in f n o) None e
   ]
 
--- a row that comes next
+-- the next row
 module _ (f : Rows) (a b v w : ℕ) (past : IsPast f a b v w) (r : Row) (there : f (word r.words 0) (word r.words 1) ≡ Some r)
     (later : comes_before v w (word r.words 0) (word r.words 1) ≡ true)
     (next : (t n : ℕ) → comes_before v w t n ≡ true → comes_before t n (word r.words 0) (word r.words 1) ≡ true → f t n ≡ None) where
@@ -98,7 +98,7 @@ not_less a t h = elim (either (nat_lt a t)) [
   | inr e ↦ e
 ]
 
--- where no task behind one shares, none is left
+-- if no task after one shares, none is left
 pub none_left : (f : Sight) (number owner behind : ℕ) → HasNoSharer f number owner behind → sharers_behind f number owner behind ≡ []
 none_left f number owner behind none = passed_none (λ t. nat_lt behind t && is_sharer f number owner t) each tasks where
   each : (t : ℕ) → nat_lt behind t && is_sharer f number owner t ≡ false
@@ -107,7 +107,7 @@ none_left f number owner behind none = passed_none (λ t. nat_lt behind t && is_
     | inr l ↦ ap (λ (z : Bool). z && is_sharer f number owner t) (not_less behind t l)
   ]
 
--- the first task behind one that shares is the first that is left, and then those behind it are
+-- the first task after one that shares is the first that is left, followed by those after it
 pub first_left : (f : Sight) (number owner behind task : ℕ) → IsFirstSharer f number owner behind task → 1 ≤ task → task ≤ 64 → (k : ℕ) → k ≡ 64
     → sharers_behind f number owner behind ≡ task ∷ sharers_behind f number owner task
 first_left f number owner behind task h one high k q =
@@ -132,7 +132,7 @@ first_left f number owner behind task h one high k q =
       later : (t : ℕ) → task < t → mine t ≡ rest t
       later t l = ap (λ (z : Bool). z && is_sharer f number owner t) (lt-ltb behind t (omega (arith, h.later, l)) ∙ sym (lt-ltb task t l))
 
--- behind task 0 are all
+-- all are after task 0
 pub all_left : (f : Sight) (number owner k : ℕ) → k ≡ 64 → sharers_behind f number owner 0 ≡ sharers f number owner
 all_left f number owner k e =
     ap (filter (λ t. nat_lt 0 t && is_sharer f number owner t)) (tasks_are k e)

@@ -28,7 +28,7 @@ any_split p (x ∷ xs) r ys = ap (λ (b : Bool). p x || b) (any_split p xs r ys)
 other_row : (number : ℕ) (r : Row) → word r.words 1 ≢ number → is_sharing_row number r ≡ false
 other_row number r other = and_left (word r.words 1 == number) (not (owner_in r == word r.words 0)) (ne_eqb (word r.words 1) number other)
 
--- nor is one in front of a row of a lower number, or behind one of a higher
+-- nor is one before a row of a lower number, or after one of a higher
 not_higher : (a b x y : ℕ) → comes_before a b x y ≡ true → b ≤ y
 not_higher a b x y h = go (before_says a b x y h) where
   go : (b < y) ⊎ ((b ≡ y) × (a < x)) → b ≤ y
@@ -50,7 +50,7 @@ none_above number r (y ∷ ys) behind high =
     let more = not_higher (word r.words 0) (word r.words 1) (word y.words 0) (word y.words 1) behind.0 in
     ap (λ (b : Bool). b || list_any (is_sharing_row number) ys) (other_row number y (λ same. absurd (omega (arith, more, high, same)))) ∙ none_above number r ys behind.1 high
 
--- a table that is a row and the tables before and behind it
+-- a table that is a row and the tables before and after it
 module _ (s : Store) (q b e : RowTable) (r : Row) (table : IsTable s q) (parts : rows s q ≡ rows s b ++ r ∷ rows s e) (number : ℕ) where
   abbrev sharing : RowTable → Bool
   sharing x = list_any (is_sharing_row number) (rows s x)
@@ -75,7 +75,7 @@ module _ (s : Store) (q b e : RowTable) (r : Row) (table : IsTable s q) (parts :
         last true = refl
         last false = refl
 
--- what rows say is so of sight
+-- what rows say is also true of sight
 
 same_truth : (a b : Bool) → (a ≡ true → b ≡ true) → (b ≡ true → a ≡ true) → a ≡ b
 same_truth true b there back = sym (there refl)
@@ -89,7 +89,7 @@ any_has f (x ∷ xs) any = elim (or_cases (f x) (list_any f xs) any) [
   | inr later ↦ any_has f xs later
 ]
 
--- a row is among those of a list where it's split
+-- a list that has such a row is split at it
 any_parts : (p : Row → Bool) (rs : List Row) → list_any p rs ≡ true → (xs : List Row) × (r : Row) × (ys : List Row) × (rs ≡ xs ++ r ∷ ys) × (p r ≡ true)
 any_parts p [] any = absurd cc
 any_parts p (x ∷ rs) any = elim (or_cases (p x) (list_any p rs) any) [

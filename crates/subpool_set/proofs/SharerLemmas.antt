@@ -1,4 +1,4 @@
--- The first sharer behind a task, by the halves of a table.
+-- The first sharer after a task, by the halves of a table.
 use Rattle.std.proofs.Common.{◌≡◌, ◌≢◌, ℕ, ◌<◌, ◌≤◌, Bool, true, false, ◌&&◌, ◌==◌, not, List, [], ◌∷◌, ◌++◌, Option, Some, None, IsSome, ◌⊎◌, inl, inr, refl, sym, ap, ◌∙◌, subst, arith}
 use Rattle.std.specs.Prelude.{if◌then◌else◌, option_map, IfNone, IfSome}
 use Rattle.std.proofs.lemmas.Bool.{cond-false}
@@ -41,7 +41,7 @@ none_on_left t n (x ∷ xs) r ys order h = row_later t n x xs (go (before_or t n
       let Q : ℕ → Type 0 = λ z. comes_before (word x.words 0) (word x.words 1) (word r.words 0) z ≡ true in
       subst P e.0 (subst Q e.1 first)
 
--- and one that isn't behind it is none of those on the right
+-- and one that isn't after it is none of those on the right
 none_on_right : (t n : ℕ) (r : Row) (ys : List Row) → RowsBehind (word r.words 0) (word r.words 1) ys → comes_before (word r.words 0) (word r.words 1) t n ≡ false → row_among t n ys ≡ None
 none_on_right t n r [] behind h = refl
 none_on_right t n r (y ∷ ys) behind h = cond-false (is_under t n y.words) (Some y) (row_among t n ys) (behind_key t n y (go (before_or (word r.words 0) (word r.words 1) t n h))) ∙ none_on_right t n r ys behind.1 h where
@@ -56,7 +56,7 @@ pub order_behind : (xs : List Row) (r : Row) (ys : List Row) → AreInOrder (xs 
 order_behind [] r ys order = order.0
 order_behind (x ∷ xs) r ys order = order_behind xs r ys order.1
 
--- a table that is a row and the tables before and behind it
+-- a table that is a row and the tables before and after it
 module _ (s : Store) (q b e : RowTable) (r : Row) (table : IsTable s q) (before : IsTable s b) (behind : IsTable s e) (parts : rows s q ≡ rows s b ++ r ∷ rows s e) (number owner from : ℕ) where
   abbrev task : ℕ
   task = word r.words 0
@@ -97,7 +97,7 @@ module _ (s : Store) (q b e : RowTable) (r : Row) (table : IsTable s q) (before 
   above : (t : ℕ) → from < t → comes_before from number t number ≡ true
   above t l = says_before from number t number (inr (refl, l))
 
-  -- the row is none of those that are looked for, nor is what stands before it
+  -- the row is none of those that are looked for, nor is what is before it
   module _ (passed : comes_before from number task (word r.words 1) ≡ false) where
     beyond : (t : ℕ) → from < t → comes_before task (word r.words 1) t number ≡ true
     beyond t l = go (before_or from number task (word r.words 1) passed) where
@@ -122,7 +122,7 @@ module _ (s : Store) (q b e : RowTable) (r : Row) (table : IsTable s q) (before 
     first = λ u l m. left u (before_more u number t number task (word r.words 1) (says_before u number t number (inr (refl, m))) (left_before t h.shares)) ∙ h.first u l m;
   }
 
-  -- the row is behind the task, and none before the row shares
+  -- the row is after the task, and none before the row shares
   module _ (reached : comes_before from number task (word r.words 1) ≡ true) (none : HasNoSharer (sight_in (row s b)) number owner from) where
     pub other_none : word r.words 1 ≢ number → HasNoSharer (sight_in (row s q)) number owner from
     other_none other t l = left t (says_before t number task (word r.words 1) (inl (go (before_says from number task (word r.words 1) reached)))) ∙ none t l where
@@ -175,7 +175,7 @@ pub no_rows : (s : Store) (q : RowTable) → IsTable s q → (number owner from 
 no_rows s q table number owner from none t l =
     ap (λ (o : Option Row). is_owner owner (option_map owner_in o) && not (t == owner)) ((rows_ascend s q table).1 t number ∙ ap (row_among t number) none)
 
--- who shares is a task from 1 to 64
+-- a task that shares is from 1 to 64
 pub first_range : (s : Store) (q : RowTable) → IsKept s q → (number owner from task : ℕ) → IsFirstSharer (sight_in (row s q)) number owner from task → (1 ≤ task) × (task ≤ 64)
 first_range s q kept number owner from task h = go (row s q task number) refl where
   go : (o : Option Row) → row s q task number ≡ o → (1 ≤ task) × (task ≤ 64)
@@ -185,7 +185,7 @@ first_range s q kept number owner from task h = go (row s q task number) refl wh
       let range = kept.sound.ranges task number (subst P (sym e) refl) in
       (range.0, range.1)
 
--- what is so anyway is so where an option is none, and what follows from that follows there
+-- what is true anyway is true if an option is none, and what follows from that follows there
 pub where_none : {A : Type 0} (o : Option A) (P : Type 0) → P → IfNone o P
 where_none None P h = h
 where_none (Some x) P h = tt

@@ -25,7 +25,7 @@ use Rattle.subpool_set.proofs.HeadLemmas.{in_left, in_right, in_either}
 abbrev is_own : Row → Bool
 is_own r = word r.words 0 == word r.words 2
 
--- what stands under a key of its own in a list stands so in a longer one
+-- what is under a key of its own in a list is also there in a longer one
 later : (n : Link) (ns : List Link) (a b : ℕ) (r : Row) → row_in (word n.words 0) (word n.words 1) ns ≡ None → row_in a b ns ≡ Some r → row_in a b (n ∷ ns) ≡ Some r
 later n ns a b r none e = elim (either (is_under a b n.words)) [
   | inl p ↦ (let k : (word n.words 0 ≡ a) × (word n.words 1 ≡ b) = same_parts (word n.words 0) (word n.words 1) a b p in
@@ -95,7 +95,7 @@ table_stands s q others h was = (
   all_beside s (row s q) others was (links s q.tree) (single (links s q.tree) (links_ascend (items s q.tree) h.ascends)) (λ a b r e. e),
 )
 
--- an id is among the queues' just where some subpool has it
+-- an id is among the queues' exactly if some subpool has it
 pub record HasId (s : Store) (f : Rows) (i : ℕ) : Type 0 where
   pub number : ℕ
   pub owner : ℕ

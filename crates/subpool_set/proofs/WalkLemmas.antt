@@ -1,4 +1,4 @@
--- Walks over the rows of sight: what is left of them, as the set alone determines it.
+-- Walks over the rows of sight: what is left of them, as only the set determines it.
 use Rattle.std.proofs.Common.{◌≡◌, ◌≢◌, ℕ, suc, ◌+◌, ◌<◌, ◌≤◌, true, false, ◌==◌, List, [], ◌∷◌, ◌++◌, length, take, drop, get_or, Option, Some, None, IsSome, ◌⊎◌, inl, inr, refl, sym, ap, ◌∙◌, subst, arith}
 use Rattle.std.specs.Prelude.{map, slice_get}
 use Rattle.std.proofs.lemmas.Bool.{cases_lt, cond-false, cond-true}
@@ -83,7 +83,7 @@ module _ (rs : List Row) (k : ℕ) (r : Row) (get : slice_get rs k ≡ Some r) w
       | inr e ↦ e
     ]
 
--- behind the last row is nothing
+-- nothing is after the last row
 pub nothing : (rs : List Row) (k : ℕ) → slice_get rs k ≡ None → drop k rs ≡ []
 nothing rs k e = drop_of_length-le rs (go (cases_lt k (length rs))) where
   go : (k < length rs) ⊎ (length rs ≤ k) → length rs ≤ k
@@ -95,7 +95,7 @@ nothing rs k e = drop_of_length-le rs (go (cases_lt k (length rs))) where
 abbrev InRange : Rows → Type 0
 InRange f = (r : Row) → f (word r.words 0) (word r.words 1) ≡ Some r → (1 ≤ word r.words 0) × (word r.words 0 ≤ 64) × (word r.words 1 ≤ 127)
 
--- behind a key, what stands under a number is among these rows
+-- after a key, what is under a number is among these rows
 abbrev FollowsFrom : Rows → ℕ → ℕ → List Row → Type 0
 FollowsFrom f v w rs = (t n : ℕ) → comes_before v w t n ≡ true → f t n ≡ row_among t n rs
 
@@ -132,7 +132,7 @@ pools_walk f ranges (r ∷ rs) a b v w order behind follows past =
           ∙ again a b
           (past_more f a b v w past r there behind.0 next (λ q. not_both (owner_in r == word r.words 0) (ap (λ (z : ℕ). z == word r.words 0) q ∙ eqb_refl (word r.words 0)) e))
 
--- all rows are behind key 0 of number 0
+-- all rows are after key 0 of number 0
 all_behind : (f : Rows) → InRange f → (rs : List Row) → AreInOrder rs → ((r : Row) (ys : List Row) → rs ≡ r ∷ ys → f (word r.words 0) (word r.words 1) ≡ Some r) → RowsBehind 0 0 rs
 all_behind f ranges [] order there = tt
 all_behind f ranges (r ∷ rs) order there = (first, rows_more 0 0 (word r.words 0) (word r.words 1) rs first order.0) where
@@ -174,10 +174,10 @@ module _ (s : Store) (q : RowTable) (kept : IsKept s q) where
       pools_walk f ranges (rows s q) 0 0 0 0 order (all_behind f ranges (rows s q) order (λ r ys e. first_there [] r ys e)) (λ t n h. among t n) (past_begin f 0 0)
       ∙ ap (map (λ (p : Pool). p.id)) (order_begins (pools_in f) 64 refl)
 
--- the front of any rows
+-- the beginning of any rows
 pub front_pools : (s : Store) (q : RowTable) → IsKept s q → (n : RowPlace) → place_index n ≡ 0 → pool_ids (drop (place_index n) (rows s q)) ≡ ids_in_order (pools_in (row s q))
 front_pools s q kept n e = ap (λ (z : ℕ). pool_ids (drop z (rows s q))) e ∙ all_pools s q kept
 
--- where nothing is at an index, nothing is left
+-- if nothing is at an index, nothing is left
 pub no_pools : (rs : List Row) (k : ℕ) → slice_get rs k ≡ None → pool_ids (drop k rs) ≡ []
 no_pools rs k e = ap pool_ids (nothing rs k e)

@@ -1,4 +1,4 @@
--- The elements of the queues whose heads stand in rows. No public clause cites this module.
+-- The elements of the queues whose heads are in rows. No public clause cites this module.
 use Rattle.std.specs.Prelude.{◌≡◌, ℕ, ◌==◌, true, if◌then◌else◌, List, [], ◌∷◌, ◌++◌}
 use Rattle.vsm_elements.specs.Store.{Store}
 use Rattle.vsm_elements.specs.Ownership.{Apart}
@@ -15,7 +15,7 @@ abbrev pub ids_in_all : Store → List Row → List ℕ
 ids_in_all s [] = []
 ids_in_all s (r ∷ rs) = ids_in s r ++ ids_in_all s rs
 
--- the queues of all rows stand, each in elements of its own
+-- the queues of all rows are intact, each in elements of its own
 abbrev pub AllStand : Store → List Row → Type 0
 AllStand s [] = Unit {0}
 AllStand s (r ∷ rs) =

@@ -1,4 +1,4 @@
--- The elements of subpools' queues: each queue stands, and no element is two queues', or a queue's and the set's.
+-- The elements of subpools' queues: each queue is intact, and no element is two queues', or a queue's and the set's.
 use Rattle.std.specs.Prelude.{◌≡◌, ℕ, false, Some, List, ◌++◌}
 use Rattle.vsm_elements.specs.Store.{Store}
 use Rattle.vsm_elements.specs.Ownership.{Apart}
@@ -14,13 +14,13 @@ use Rattle.subpool_set.specs.Pools.{Pool, Pools}
 abbrev pub ids_of : Store → Queues → List ℕ
 ids_of s q = Extents.owned s q.extents ++ FreeQueue.owned s q.free
 
--- both queues stand, in different elements
+-- both queues are intact, in different elements
 pub record StandApart (s : Store) (q : Queues) : Type 0 where
   pub extents : IsExtents s q.extents
   pub free : IsFreeQueue s q.free
   pub apart : Apart (Extents.owned s q.extents) (FreeQueue.owned s q.free)
 
--- the queues of these subpools stand, each subpool's in elements of its own, and none in these others
+-- the queues of these subpools are intact, each subpool's in elements of its own, and none in these others
 pub record AreApart (s : Store) (pools : Pools) (others : List ℕ) : Type 0 where
   pub stand : (n o : ℕ) (p : Pool) → pools n o ≡ Some p → StandApart s p.queues
   pub apart : (n o m r : ℕ) (p x : Pool) → pools n o ≡ Some p → pools m r ≡ Some x → same_key n o m r ≡ false

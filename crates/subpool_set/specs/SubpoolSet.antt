@@ -1,8 +1,7 @@
--- What a contract sees of a `SubpoolSet`: who sees which subpool, the subpools with their ids and their queues'
--- heads, and the elements that the set owns. Those of the queues are not among them: whoever holds a head names
--- them by it.
+-- What a contract sees of a `SubpoolSet`: which task sees which subpool, the subpools with their ids and their queues'
+-- heads, and the elements that the set owns. Those of the queues are not among them: they are named through a head.
 --
--- The words are closed, so that nothing above depends on how subpools stand in the elements.
+-- The definitions are closed, so that nothing above depends on how subpools are kept in the elements.
 use Rattle.std.specs.Prelude.{◌≡◌, ℕ, List, drop, Some, option_map}
 use Rattle.vsm_elements.specs.Store.{Store}
 use Rattle.row_table.specs.Rows.{word}
@@ -30,7 +29,7 @@ pool s q = pools_in (row s q.rows)
 unfoldable pub owned : Store → SubpoolSet → List ℕ
 owned s q = RowTable.owned s q.rows
 
--- the set stands in these elements
+-- the set is kept in these elements
 unfoldable pub IsSubpoolSet : Store → SubpoolSet → Type 0
 IsSubpoolSet s q = IsKept s q.rows
 
@@ -49,23 +48,23 @@ IsSubpool s q id = option_map (λ p. p.id) (pool s q (number_of s id) (owner_of 
 unfoldable pub queue_ids : Store → SubpoolSet → List ℕ
 queue_ids s q = ids_in_all s (rows s q.rows)
 
--- The queues of all subpools stand, each in elements of its own, and apart from the set's.
+-- The queues of all subpools are intact, each in elements of its own, and apart from the set's.
 abbrev pub QueuesStand : Store → SubpoolSet → Type 0
 QueuesStand s q = AreApart s (pool s q) (owned s q)
 
--- the place is before, between or behind the set's subpools
+-- the place is before, between or after the set's subpools
 unfoldable pub IsSubpoolPlace : Store → SubpoolSet → SubpoolPlace → Type 0
 IsSubpoolPlace s q place = IsPlace s q.rows place.next
 
--- the ids of the subpools behind the place
+-- the ids of the subpools after the place
 unfoldable pub pools_left : Store → SubpoolSet → SubpoolPlace → List ℕ
 pools_left s q place = pool_ids (drop (place_index place.next) (rows s q.rows))
 
--- the id of the subpool before the place, behind one that was read
+-- the id of the subpool before the place, after one that was read
 unfoldable pub pool_before : SubpoolPlace → ℕ
 pool_before place = id_before place.next
 
--- the tasks behind the place that share the subpool of this number with this owner
+-- the tasks after the place that share the subpool of this number with this owner
 unfoldable pub sharers_left : Store → SubpoolSet → SharerPlace → ℕ → ℕ → List ℕ
 sharers_left s q place number owner = sharers_behind (sight s q) number owner place.behind
 

@@ -3,7 +3,7 @@ use Rattle.std.specs.Prelude.{◌≡◌, ℕ, ◌&&◌, ◌==◌, nat_lt, if◌t
 use Rattle.row_table.specs.declared.row.Row.{Row}
 use Rattle.subpool_set.specs.Kept.{Rows, owner_in}
 
--- `to` is the owner where `giver` was
+-- `to` is the owner if `giver` was
 abbrev pub renamed : ℕ → ℕ → Option Row → Option Row
 renamed giver to None = None
 renamed giver to (Some r) =
@@ -19,7 +19,7 @@ abbrev pub all_but : ℕ → Option Row → Option Row
 all_but owner None = None
 all_but owner (Some r) = if owner_in r == owner then None else Some r
 
--- g is f in change at this number for the tasks below k, and h for all others
+-- g is f, changed, at this number for the tasks below k, and h for all others
 abbrev pub IsSwept : (Option Row → Option Row) → Rows → Rows → ℕ → ℕ → Rows → Type 0
 IsSwept change f h number k g = (a b : ℕ) → g a b ≡ (if (b == number) && nat_lt a k then change (f a b) else h a b)
 

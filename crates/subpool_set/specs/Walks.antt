@@ -15,7 +15,7 @@ pool_ids (r ∷ rs) = if owner_in r == word r.words 0 then r.id ∷ pool_ids rs 
 abbrev pub is_sharer : Sight → ℕ → ℕ → ℕ → Bool
 is_sharer f number owner task = sees f number owner task && not (task == owner)
 
--- the sharers of a subpool behind this task
+-- the sharers of a subpool after this task
 abbrev pub sharers_behind : Sight → ℕ → ℕ → ℕ → List ℕ
 sharers_behind f number owner behind = filter (λ task. nat_lt behind task && is_sharer f number owner task) tasks
 
@@ -27,11 +27,11 @@ is_sharers_row owner r = (owner_in r == owner) && not (word r.words 0 == owner)
 abbrev pub is_sharing_row : ℕ → Row → Bool
 is_sharing_row number r = (word r.words 1 == number) && not (owner_in r == word r.words 0)
 
--- behind this task no task shares the subpool
+-- after this task no task shares the subpool
 abbrev pub HasNoSharer : Sight → ℕ → ℕ → ℕ → Type 0
 HasNoSharer f number owner behind = (t : ℕ) → behind < t → is_sharer f number owner t ≡ false
 
--- the task is the first one behind the other that shares the subpool
+-- the task is the first one after the other that shares the subpool
 pub record IsFirstSharer (f : Sight) (number owner behind task : ℕ) : Type 0 where
   pub later : behind < task
   pub shares : is_sharer f number owner task ≡ true

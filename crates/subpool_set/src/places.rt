@@ -9,8 +9,8 @@ use crate::set::{PoolId, SubpoolSet};
 use row_table::{RowPlace, RowTable};
 use vsm_elements::Elements;
 
-// The place behind the last row that was passed.
-/// A place before, between or after the subpools of a set, from which [`SubpoolSet::next_subpool`] goes on. It is one
+// The place after the last row that was passed.
+/// A place before, between or after the subpools of a set, from which [`SubpoolSet::next_subpool`] continues. It is one
 /// as long as the set stays as it is.
 #[derive(Clone, Copy, Debug, PartialEq, Eq)]
 pub struct SubpoolPlace {
@@ -19,7 +19,7 @@ pub struct SubpoolPlace {
 
 #[tactic(auto, unfolding(crate::specs::SubpoolSet::pool_before))]
 impl SubpoolPlace {
-    /// The subpool before the place: behind one that [`SubpoolSet::next_subpool`] gave, that one.
+    /// The subpool before the place: after one that [`SubpoolSet::next_subpool`] gave, that one.
     pub fn subpool(self) -> PoolId
         ensures { result ≡ pool_before self }
     {
@@ -30,9 +30,9 @@ impl SubpoolPlace {
 #[tactic(auto, unfolding(
 // the subpools, and what an id names
 crate::specs::SubpoolSet::pool, crate::specs::SubpoolSet::number_of, crate::specs::SubpoolSet::owner_of,
-// where a walk over them stands, what is left of it, and which one is before it
+// where a walk over them is, what is left of it, and which one is before it
 crate::specs::SubpoolSet::IsSubpoolPlace, crate::specs::SubpoolSet::pools_left, crate::specs::SubpoolSet::pool_before,
-// where the set stands
+// which elements the set is in
 crate::specs::SubpoolSet::IsSubpoolSet))]
 impl SubpoolSet {
     /// The place before the first subpool of any set.
@@ -46,8 +46,8 @@ impl SubpoolSet {
         }
     }
 
-    /// The subpool behind the place, and the place behind that subpool; `None` behind the last. From the first place
-    /// on, the subpools come by number and then by owner.
+    /// The subpool after the place, and the place after that subpool; `None` after the last. From the first place on,
+    /// the subpools are in order of number and then of owner.
     pub fn next_subpool(
         &self,
         elements: &Elements,

@@ -10,7 +10,7 @@ use vsm_elements::Elements;
 #[tactic(auto, unfolding(
 // the subpools
 crate::specs::SubpoolSet::pool,
-// where the set stands
+// which elements the set is in
 crate::specs::SubpoolSet::IsSubpoolSet))]
 impl SubpoolSet {
     /// The `i`-th subpool by number and then by owner, from 0 on; `None` past the last. Each row of sight up to it is

@@ -16,7 +16,7 @@ use free_queue::FreeQueue;
 use row_table::{Row, RowTable};
 use vsm_elements::{Elements, Id};
 
-/// The name of a subpool: the id of its element, which it keeps while it is parked and when it is given away.
+/// The name of a subpool: the id of its element, which it keeps while it is parked and when it is passed.
 pub type PoolId = Id;
 
 /// The head of the subpools of all tasks, each with its owner, its sharers and the heads of its queues.
@@ -57,7 +57,7 @@ fn queues_in(words: [u32; 7]) -> Queues
 }
 
 #[tactic(auto, unfolding(
-// who sees what, and the subpools
+// which task sees what, and the subpools
 crate::specs::SubpoolSet::sight, crate::specs::SubpoolSet::pool,
 // what an id names
 crate::specs::SubpoolSet::number_of, crate::specs::SubpoolSet::owner_of,
@@ -97,7 +97,7 @@ impl SubpoolSet {
         Some(own.id)
     }
 
-    /// One more than the highest number at which a task sees a subpool; 0 where none sees any.
+    /// One more than the highest number at which a task sees a subpool; 0 if none sees any.
     pub fn numbers_end(&self, elements: &Elements) -> u8
         requires { IsSubpoolSet elements.now self.now }
         ensures { IsNumbersEnd (sight elements.now self.now) result }
@@ -108,7 +108,7 @@ impl SubpoolSet {
         }
     }
 
-    // The own row of the subpool that the task sees by this row: the same one, where the task is its owner.
+    // The own row of the subpool that the task sees by this row: the same one, if the task is its owner.
     fn own_row(&self, elements: &Elements, seen: Row, task: u8, number: u8) -> Option<Row>
         requires set { IsSubpoolSet elements.now self.now }
         requires seen { row elements.now self.now.rows task number ≡ Some seen }
@@ -259,7 +259,7 @@ impl SubpoolSet {
             .remove(elements, u32::from(task), u32::from(number));
     }
 
-    /// The subpool of this number, which its owner alone sees, is no longer there. The elements of its queues stay.
+    /// The subpool of this number, which only its owner sees, no longer exists. The elements of its queues stay.
     pub fn remove(&mut self, elements: &mut Elements, owner: u8, number: u8)
         requires set { IsSubpoolSet elements.old self.old }
         requires there { sight elements.old self.old owner number ≡ Some owner }
@@ -277,7 +277,7 @@ impl SubpoolSet {
             .remove(elements, u32::from(owner), u32::from(number));
     }
 
-    /// The subpool becomes the task's: its giver no longer sees it, and who shares it shares it with its new owner.
+    /// The subpool becomes the task's: its giver no longer sees it, and its sharers share it with the new owner.
     pub fn pass(&mut self, elements: &mut Elements, id: PoolId, to: u8)
         requires set { IsSubpoolSet elements.old self.old }
         requires pool { IsSubpool elements.old self.old id }

@@ -1,5 +1,5 @@
-//! The sharers of a subpool in ascending order, from place to place: each row of its number is read on the way, and a
-//! descent for each sharer. And whether anybody shares at a number.
+//! The sharers of a subpool in ascending order, from place to place: each row of its number is read on the way, with a
+//! descent for each sharer. And whether any task shares at a number.
 
 ghost use Rattle.std.specs.Prelude.{◌≡◌, ℕ, [], ◌∷◌, IfSome, IfNone};
 ghost use Rattle.std.specs.List.{list_any};
@@ -16,13 +16,13 @@ use row_table::{Row, RowTable};
 use vsm_elements::Elements;
 
 // The task that was passed last.
-/// A place before, between or behind the sharers of a subpool, from which [`SubpoolSet::next_sharer`] goes on.
+/// A place before, between or after the sharers of a subpool, from which [`SubpoolSet::next_sharer`] continues.
 #[derive(Clone, Copy, Debug, PartialEq, Eq)]
 pub struct SharerPlace {
     pub(crate) behind: u32,
 }
 
-// The row's key comes behind the one of this task and this number.
+// The row's key is after the one of this task and this number.
 fn comes_behind(row: Row, task: u32, number: u32) -> bool
     ensures { result ≡ comes_before task number (word row.words 0) (word row.words 1) }
 {
@@ -36,8 +36,8 @@ fn is_sharers_row(row: Row, owner: u32) -> bool
     row.words[2] == owner && row.words[0] != owner
 }
 
-// The first task behind this one that shares the subpool, by a table's rows. Of those of other numbers it reads the
-// ones alone on the ways down to where the number's begin and end.
+// The first task after this one that shares the subpool, by a table's rows. Of those of other numbers it reads only the
+// ones on the ways down to the beginning and the end of the number's.
 fn sharer_among(
     table: RowTable,
     elements: &Elements,
@@ -66,7 +66,7 @@ fn sharer_among(
 }
 
 // Whether a row of the number is that of a task which shares another's subpool, by a table's rows. Of those of other
-// numbers it reads the ones alone on the ways down to where the number's begin and end.
+// numbers it reads only the ones on the ways down to the beginning and the end of the number's.
 fn is_shared_in(table: RowTable, elements: &Elements, number: u32) -> bool
     requires { IsTable elements.now table }
     ensures { result ≡ list_any (is_sharing_row number) (rows elements.now table) }
@@ -88,9 +88,9 @@ fn is_shared_in(table: RowTable, elements: &Elements, number: u32) -> bool
 }
 
 #[tactic(auto, unfolding(
-// who sees what, and who is left of a subpool's sharers
+// which task sees what, and which of a subpool's sharers are left
 crate::specs::SubpoolSet::sight, crate::specs::SubpoolSet::sharers_left,
-// where the set stands
+// which elements the set is in
 crate::specs::SubpoolSet::IsSubpoolSet))]
 impl SubpoolSet {
     /// The place before the first sharer of any subpool of any set.
@@ -101,8 +101,8 @@ impl SubpoolSet {
         SharerPlace { behind: 0 }
     }
 
-    /// The task behind the place that shares the subpool of this number with this owner, and the place behind it;
-    /// `None` behind the last. From the first place on, the tasks come in ascending order.
+    /// The task after the place that shares the subpool of this number with this owner, and the place after it; `None`
+    /// after the last. From the first place on, the tasks are in ascending order.
     pub fn next_sharer(
         &self,
         elements: &Elements,

@@ -1,4 +1,4 @@
--- A cell pool comes, and has an extent then.
+-- A cell pool is added, and then has an extent.
 use Rattle.std.proofs.Common.{◌≡◌, ℕ, ◌==◌, Bool, true, false, List, [], Option, Some, None, IsSome, if◌then◌else◌, refl, sym, ap, ◌∙◌, subst}
 use Rattle.std.specs.Prelude.{IfSome, option_map}
 use Rattle.std.proofs.lemmas.Bool.{eq-eqb, eqb-true, cond-true, cond-false}
@@ -25,7 +25,7 @@ name_is_none s q name h unnamed = go (pool s q.cells name) refl where
   go None e = e
   go (Some p) e = let k : (p.name ≡ name) × (by_id s q.cells p.id ≡ Some p) = one.names name p e in absurd (unnamed p.id p k.1 k.0)
 
--- the cell pool that came, without an extent
+-- the cell pool that was added, without an extent
 abbrev pub bare_pool : ℕ → List ℕ → CellSettings → Option (List ℕ) → Pool
 bare_pool id name settings header = record { id = id; name = name; settings = settings; header = header; extents = []; cells = [] }
 

@@ -24,7 +24,7 @@ use Rattle.subpool_storage.proofs.KeptLemmas.{ids_are_owned}
 use Rattle.subpool_storage.proofs.ExchangeLemmas.{QueuesExchanged}
 use Rattle.subpool_storage.proofs.LiftLemmas.{SetSame, set_same, set_live, cells_once}
 
--- a cell pool that is what it is with one extent more
+-- a cell pool that is what it is with another extent
 pub is_extended : (x : Option Pool) (start count : ℕ) → IfSome x (λ p. p ≡ extended start count (retracted count p)) → IfSome x (λ p. IsExtended p)
 is_extended None start count h = tt
 is_extended (Some p) start count h = record { rest = retracted count p; last = record { start = start; count = count }; is = h }
@@ -74,7 +74,7 @@ exchanged_back m k m' k' p e w can =
     let Q : Subpools → Type 0 = λ z. CanExchange (with_storage_of k m p) z p in
     subst P (sym w) (subst Q (sym e) (back_can_exchange m k p can))
 
--- the cell pool that has come
+-- the cell pool that was added
 pub is_new : (id : ℕ) (x : Option Pool) (p : Pool) (y : Option Pool) → x ≡ (if id == id then Some p else y) → x ≡ Some p
 is_new id x p y e = e ∙ cond-true (id == id) (Some p) y (eqb_refl id)
 
@@ -90,7 +90,7 @@ module _ (s : Store) (q r : SubpoolStorage) (h : Stands s q) (g : Stands s r) (o
   unfolding hold
   cells_apart = apart-from (owned s q.cells) (owned s r.cells) (λ i. omega (arith, once i))
 
-  -- a cell pool whose name no other one has is of one of both, and its name is free among the others
+  -- a cell pool whose name no other one has is of one of the two, and its name is free among the others
   pub name_is_free : (id : ℕ) → ((p : Pool) → HasPool (subpools_of s q) (subpools_of s r) id p → IsSingle (subpools_of s q) (subpools_of s r) id p.name) → IfSome (by_id s q.cells id) (λ p. pool s r.cells p.name ≡ None)
   unfolding subpools_of Stands hold
   name_is_free id single = go (by_id s q.cells id) refl where
@@ -183,7 +183,7 @@ module _ (s : Store) (q r : SubpoolStorage) (h : Stands s q) (g : Stands s r) (o
     unfolding hold
     cells_move = moves-by s t had has (λ i. hold s q i + hold s r i) (λ i. hold t q_now i + hold t r_now i) moves (λ i. omega arith) (λ i. omega (arith, set_here.count i, set_there.count i))
 
--- where the queues of a subpool were exchanged before, and its cell pools by then, all its storage is
+-- if the queues of a subpool were exchanged before, and then its cell pools, all its storage is
 module _ (s t : Store) (q r : SubpoolStorage) (p : Subpool) (x : QueuesExchanged s t q r p) where
   -- the cell pools are what they were
   pub as_before : (id : ℕ) → by_id t q.cells id ≡ (subpools_of s q).cells id
@@ -194,7 +194,7 @@ module _ (s t : Store) (q r : SubpoolStorage) (p : Subpool) (x : QueuesExchanged
   unfolding subpools_of
   others_as_before id = ap (λ (z : Subpools). z.cells id) x.other_subpools
 
-  -- and go together still
+  -- and still go together
   pub go_together : CanExchange (subpools_of s q) (subpools_of s r) p → GoTogether p (by_id t q.cells) (by_id t r.cells)
   go_together can i j a b e w same = can i j a b (inl (sym (as_before i) ∙ e)) (inr (sym (others_as_before j) ∙ w)) same
 

@@ -38,7 +38,7 @@ use Rattle.subpool_storage.proofs.PutLemmas.{part_of}
 some_pool : (x y : Pool) → Some x ≡ Some y → x ≡ y
 some_pool x y e = cc
 
--- one subpool of a set gets queues that stood elsewhere
+-- one subpool of a set gets queues that were elsewhere
 module _ (s t : Store) (q : SubpoolSet) (n o id : ℕ) (old new : Queues) (h : IsSubpoolSet s q) (was : QueuesStand s q) (there : pool s q n o ≡ Some (record { id = id; queues = old })) (stand : StandApart s new)
     (alien : (i : ℕ) → among i (ids_of s new) ≡ true → times i (owned s q) + times i (queue_ids s q) ≡ 0)
     (k : IsSubpoolSet t q) (pools_are : (m l : ℕ) → pool t q m l ≡ pools_with (pool s q) n o (Some (record { id = id; queues = new })) m l) (ids : (i : ℕ) → among i (owned t q) ≡ among i (owned s q))

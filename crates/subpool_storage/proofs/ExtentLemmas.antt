@@ -21,7 +21,7 @@ use Rattle.vsm_model.specs.declared.Subpool.{Subpool}
 use Rattle.subpool_storage.specs.Subpools.{Subpools}
 use Rattle.subpool_storage.specs.Extents.{run_in, extents, free_areas, ExtentsAreRuns, ExtentsAreFew, FreeAreasAreRuns}
 
--- one number more in front of the runs: where the first run begins behind it, and where it doesn't
+-- another number before the runs: the first run begins right after it, or doesn't
 data Fronted (k : ℕ) (xs ys : List (ℕ × ℕ)) : Type 0 where
   alone : ys ≡ (k, 1) ∷ xs → Spaced (k + 2) (map run_in xs) → Fronted k xs ys
   joined : (n : ℕ) (rest : List (ℕ × ℕ)) → xs ≡ (suc k, n) ∷ rest → ys ≡ (k, suc n) ∷ rest → Fronted k xs ys
@@ -51,7 +51,7 @@ fronted_first : (k : ℕ) (xs ys : List (ℕ × ℕ)) → Fronted k xs ys → co
 fronted_first k xs ys (alone e far) = ap (λ (z : List (ℕ × ℕ)). contains k (map run_in z)) e ∙ ap (λ (b : Bool). b || contains k (map run_in xs)) (true_inside k (run_in (k, 1)) (omega arith) (omega arith))
 fronted_first k xs ys (joined n rest e f) = ap (λ (z : List (ℕ × ℕ)). contains k (map run_in z)) f ∙ ap (λ (b : Bool). b || contains k (map run_in rest)) (true_inside k (run_in (k, suc n)) (omega arith) (omega arith))
 
--- behind its first number a run is the one without it
+-- after its first number a run is the one without it
 one_later : (k n m : ℕ) → k < m → inside m (run_in (k, suc n)) ≡ inside m (run_in (suc k, n))
 one_later k n m l = elim (le_or_lt (suc k + n) m) [
   | inl q ↦ outside m (run_in (k, suc n)) (inr (omega (arith, q))) ∙ sym (outside m (run_in (suc k, n)) (inr q))
@@ -62,7 +62,7 @@ fronted_later : (k : ℕ) (xs ys : List (ℕ × ℕ)) (m : ℕ) → Fronted k xs
 fronted_later k xs ys m (alone e far) l = ap (λ (z : List (ℕ × ℕ)). contains m (map run_in z)) e ∙ ap (λ (b : Bool). b || contains m (map run_in xs)) (outside m (run_in (k, 1)) (inr (omega (arith, l))))
 fronted_later k xs ys m (joined n rest e f) l = ap (λ (z : List (ℕ × ℕ)). contains m (map run_in z)) f ∙ ap (λ (b : Bool). b || contains m (map run_in rest)) (one_later k n m l) ∙ sym (ap (λ (z : List (ℕ × ℕ)). contains m (map run_in z)) e)
 
--- it's one run more at most, whatever the runs
+-- it's at most one more run, for any runs
 fronted_length : (k : ℕ) (xs : List (ℕ × ℕ)) → length (with_first k xs) ≤ suc (length xs)
 fronted_length k [] = omega arith
 fronted_length k (x ∷ xs) = go (x.0 == suc k) where
@@ -71,7 +71,7 @@ fronted_length k (x ∷ xs) = go (x.0 == suc k) where
   go false = omega arith
 
 module _ (f : ℕ → Bool) where
-  -- the runs of a number more, where it passes and where it doesn't
+  -- the runs with another number, if it passes and if it doesn't
   none_more : (k n : ℕ) → f k ≡ false → runs f k (suc n) ≡ runs f (suc k) n
   none_more k n e = ap (λ (b : Bool). if b then with_first k (runs f (suc k) n) else runs f (suc k) n) e
 

@@ -71,7 +71,7 @@ storage_stays s t q h same =
       λ i. omega (arith, r.count i, own i),
     )
 
--- a cell pool is found under its id, a number of 32 bits, and by its name alone
+-- a cell pool is found under its id, a number of 32 bits, and no other one has its name
 pub cell_pools_are_named : CellPoolsAreNamed
 unfolding Stands subpools_of
 cell_pools_are_named s q h = record {
@@ -92,7 +92,7 @@ none_held s q h none i = times-none i (queue_ids s q) (false_if (among i (queue_
   bare : (n : ℕ) × (o : ℕ) × (p : Pool) × ((pool s q n o ≡ Some p) × (among i (ids_of s p.queues) ≡ true)) → ⊥
   bare w = none_some (pool s q w.0 w.1) w.2 (none w.0 w.1) w.3.0
 
--- a subpool that isn't there has neither pages nor free storage
+-- a subpool that doesn't exist has neither pages nor free storage
 pub none_there : (s : Store) (q : SubpoolStorage) (p : Subpool) → Stands s q → is_there (subpools_of s q) p ≡ false → ((x : ℕ) → (subpools_of s q).pages p x ≡ false) × ((d : ℕ) → (subpools_of s q).free p d ≡ false)
 none_there s q p h gone =
     let k = subpools_are_there s q h in (

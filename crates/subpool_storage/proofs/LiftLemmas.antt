@@ -24,7 +24,7 @@ use Rattle.subpool_storage.proofs.ViewLemmas.{page_kept, free_kept}
 use Rattle.subpool_storage.proofs.KeptLemmas.{pools_kept}
 use Rattle.std.proofs.Common.{inl, inr}
 
--- the set and its queues stand, whatever the cell pools
+-- the set and its queues are intact, whatever the cell pools
 pub record SetStands (s : Store) (q : SubpoolStorage) : Type 0 where
   pub set : IsSubpoolSet s q.set
   pub queues : QueuesStand s q.set
@@ -37,7 +37,7 @@ pub record SetSame (s t : Store) (q : SubpoolStorage) : Type 0 where
   pub free : (p : Subpool) (d : ℕ) → free_in t (pool t q.set p.number p.owner) d ≡ free_in s (pool s q.set p.number p.owner) d
   pub count : (i : ℕ) → hold_queues t q i ≡ hold_queues s q i
 
--- they are those of m, and no element but theirs changed
+-- they are those of m, and only their elements changed
 pub record SetBecomes (s t : Store) (q r : SubpoolStorage) (m : Subpools) : Type 0 where
   pub stands : SetStands t r
   pub moves : Moves s t (hold_queues s q) (hold_queues t r)
@@ -91,7 +91,7 @@ set_same s t q h same =
       count = λ i. omega (arith, ap (times i) r.3, ap (times i) k.1);
     }
 
--- a call on the set and its queues is one on the whole, and leaves the cell pools alone
+-- a call on the set and its queues is one on the whole, and leaves the cell pools unchanged
 pub lifted : (s t : Store) (q r : SubpoolStorage) (m : Subpools) → Stands s q → r.cells ≡ q.cells → ((id : ℕ) → (subpools_of s q).cells id ≡ m.cells id) → SetBecomes s t q r m → Becomes s t q r m
 unfolding Stands hold subpools_of
 lifted s t q r m h e cells b =
@@ -111,7 +111,7 @@ lifted s t q r m h e cells b =
       subpools = same_subpools (subpools_of t r) m b.sights b.pages b.free (λ id. ap (λ (z : CellPools). by_id t z id) e ∙ a.ids id ∙ cells id);
     }
 
--- a call on the cell pools is one on the whole, and leaves the set and its queues alone
+-- a call on the cell pools is one on the whole, and leaves the set and its queues unchanged
 pub cells_become : (s t : Store) (q : SubpoolStorage) (c : CellPools) (m : Subpools) → Stands s q → IsCellPools t c → Leaves s t (CellPools.owned s q.cells) (CellPools.owned t c)
     → ((id : ℕ) → by_id t c id ≡ m.cells id) → m ≡ record (subpools_of s q) { cells = m.cells } → Becomes s t q (record { set = q.set; cells = c }) m
 unfolding Stands hold subpools_of
@@ -135,7 +135,7 @@ follow s r t a b c m n first second = record {
   subpools = second.subpools;
 }
 
--- the set and its queues are discarded first, and the cell pools stand by then
+-- the set and its queues are discarded first, and the cell pools are still intact then
 module _ (s t : Store) (q : SubpoolStorage) (h : Stands s q) (leaves : Leaves s t (owned s q.set ++ queue_ids s q.set) []) where
   gone_moves : Moves s t (hold_queues s q) (λ i. 0)
   gone_moves = moves-like s t (λ i. times i (owned s q.set ++ queue_ids s q.set)) (λ i. 0) (hold_queues s q) (λ i. 0) (moves-of s t (owned s q.set ++ queue_ids s q.set) [] leaves) (λ i. sym (times-append i (owned s q.set) (queue_ids s q.set))) (λ i. refl)

@@ -60,7 +60,7 @@ module _ (s : Store) (q : SubpoolStorage) (h : Stands s q) where
       ap (map (named s)) (map_order (λ (x : Pool). x.id) (pool s q.set) (λ n o. option_map (λ (x : Pool). x.id) (pool s q.set n o)) (λ n o. refl))
       ∙ map_order (named s) (λ n o. option_map (λ (x : Pool). x.id) (pool s q.set n o)) (subpool_at (subpools_of s q)) named_at
 
-  -- the subpool of an id is there
+  -- the subpool of an id exists
   pub named_there : (id n o : ℕ) → IsSubpool s q.set id → number_of s id ≡ n → owner_of s id ≡ o → is_there (subpools_of s q) (subpool n o) ≡ true
   unfolding Stands subpools_of
   named_there id n o is a b =

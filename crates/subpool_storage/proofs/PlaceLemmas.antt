@@ -14,7 +14,7 @@ use Rattle.subpool_storage.specs.SubpoolStorage.{subpools_of, named, subpool_bef
 use Rattle.subpool_storage.proofs.OrderLemmas.{all_named}
 use Rattle.subpool_storage.proofs.PutLemmas.{pool_there}
 
--- the subpool of the id before a place is there with its queues
+-- the subpool of the id before a place exists with its queues
 pub before_there : (s : Store) (q : SubpoolStorage) (place : SubpoolPlace) (id : ℕ) (queues : Queues) → id ≡ pool_before place
     → pool s q.set (number_of s id) (owner_of s id) ≡ Some (record { id = id; queues = queues })
     → pool s q.set (subpool_before s place).number (subpool_before s place).owner ≡ Some (record { id = id; queues = queues })

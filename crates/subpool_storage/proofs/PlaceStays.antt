@@ -1,4 +1,4 @@
--- A place among subpools or sharers stays one where the elements of the storage are as they were.
+-- A place among subpools or sharers stays one if the elements of the storage are as they were.
 use Rattle.std.proofs.Common.{◌≡◌, ℕ, zero, suc, Bool, true, false, ◌||◌, ◌==◌, List, [], ◌∷◌, drop, Option, refl, ap, ◌∙◌, arith}
 use Rattle.std.specs.Prelude.{map, unwrap_or, if◌then◌else◌}
 use Rattle.vsm_elements.specs.declared.element.Element.{Element}
@@ -21,7 +21,7 @@ use Rattle.subpool_set.proofs.PlaceLemmas.{places_kept}
 use Rattle.subpool_storage.specs.SubpoolStorage.{hold, named, Stands, IsSubpoolPlace, subpools_left, sharers_left}
 use Rattle.subpool_storage.specs.PlaceLaws.{PlacesStay}
 
--- an id is among more where it's among fewer
+-- an id is among more if it's among fewer
 or_more : (b c d : Bool) → (c ≡ true → d ≡ true) → b || c ≡ true → b || d ≡ true
 or_more true c d more h = refl
 or_more false c d more h = more h
@@ -41,7 +41,7 @@ left_owned : (s : Store) (q : TheSet) (place : SubpoolPlace) (i : ℕ) → among
 unfolding pools_left owned rows RowTable.owned
 left_owned s q place i h = ap (among i) (owned_links s q.rows.tree) ∙ left_among (links s q.rows.tree) (place_index place.next) i h
 
--- what an id names, by its element alone
+-- what an id names, only by its element
 same_named : (s t : Store) (id : ℕ) → at t id ≡ at s id → named t id ≡ named s id
 unfolding number_of owner_of words_of
 same_named s t id e =

@@ -134,7 +134,7 @@ module _ (s r : Store) (q : SubpoolStorage) (p : Subpool) (id : ℕ) (old new : 
     pub becomes : (subpools : Subpools) → with_queues (subpools_of s q) p pages free ≡ subpools → Becomes s t q q subpools
     becomes subpools e = let P : Subpools → Type 0 = λ z. Becomes s t q q z in subst P e (lifted s t q q (with_queues (subpools_of s q) p pages free) h refl (λ id. refl) set_becomes)
 
--- the subpool that is there, by its name
+-- the subpool that exists, by its name
 pub pool_there : (s : Store) (q : SubpoolSet) (n o id : ℕ) (queues : Queues) → number_of s id ≡ n → owner_of s id ≡ o → pool s q (number_of s id) (owner_of s id) ≡ Some (record { id = id; queues = queues }) → pool s q n o ≡ Some (record { id = id; queues = queues })
 pool_there s q n o id queues a b e = ap (λ (z : ℕ). pool s q n z) (sym b) ∙ ap (λ (z : ℕ). pool s q z (owner_of s id)) (sym a) ∙ e
 

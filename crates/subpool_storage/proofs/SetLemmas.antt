@@ -1,4 +1,4 @@
--- An empty subpool comes or goes.
+-- An empty subpool is created or removed.
 use Rattle.std.proofs.Common.{◌≡◌, ℕ, ◌+◌, Bool, true, false, inl, inr, List, [], ◌++◌, Option, Some, None, refl, sym, ap, ◌∙◌, arith}
 use Rattle.std.specs.Prelude.{if◌then◌else◌}
 use Rattle.vsm_elements.specs.Store.{Store, at, among}
@@ -45,7 +45,7 @@ module _ (s t : Store) (q r : SubpoolSet) (n o : ℕ) (x : Option Pool) (h : IsS
   kept : (m l : ℕ) (p : Pool) → pool s q m l ≡ Some p → (i : ℕ) → among i (ids_of s p.queues) ≡ true → at t i ≡ at s i
   kept m l p e i z = (stays s t (owned s q) (owned t r) own i (both_live s p.queues (was.stand m l p e) i z) (false_if (among i (owned s q)) (λ w. not_both (among i (ids_of s p.queues)) z (was.beside m l p e i w)))).1
 
-  -- neither what was there nor what is has elements
+  -- neither what existed before nor what exists now has elements
   module _ (bare : ids_at s (pool s q n o) ≡ []) (bare_now : ids_at t x ≡ []) where
     count : (i : ℕ) → times i (queue_ids t r) ≡ times i (queue_ids s q)
     count i = omega (arith, ids_follow s t q r n o x h was k now with (λ m l p e d. (both_kept s t p.queues (was.stand m l p e) (kept m l p e)).1) i, ap (times i) bare, ap (times i) bare_now)

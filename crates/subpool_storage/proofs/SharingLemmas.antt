@@ -1,4 +1,4 @@
--- A subpool is shared, or passes to another task: who sees what changes, and queues change their owner at most.
+-- A subpool is shared, or passes to another task: sight changes, and queues at most change their owner.
 use Rattle.std.proofs.Common.{◌≡◌, ℕ, ◌+◌, Bool, true, false, not, ◌&&◌, ◌==◌, inl, inr, Option, Some, None, refl, sym, ap, ◌∙◌, arith}
 use Rattle.std.proofs.lemmas.Bool.{cond-false, cond-true}
 use Rattle.std.specs.Prelude.{if◌then◌else◌}
@@ -30,7 +30,7 @@ use Rattle.subpool_storage.proofs.LiftLemmas.{lifted, follow, cells_become}
 use Rattle.subpool_storage.proofs.SetLemmas.{unseen_pool}
 use Rattle.subpool_storage.proofs.ViewLemmas.{page_kept, free_kept}
 
--- the pool stands at some number and owner
+-- the pool is at some number and owner
 pub record Somewhere (s : Store) (q : SubpoolSet) (p : Pool) : Type 0 where
   pub m : ℕ
   pub l : ℕ
@@ -73,7 +73,7 @@ module _ (s t : Store) (q r : SubpoolSet) (h : IsSubpoolSet s q) (was : QueuesSt
   pub free_same : (m l d : ℕ) → free_in t (pool s q m l) d ≡ free_in s (pool s q m l) d
   free_same m l d = free_kept s t (pool s q m l) (was.stand m l) (kept m l) d
 
--- one row of sight comes or goes, and no pool changes
+-- one row of sight is added or goes, and no pool changes
 pub sharer_becomes : (s t : Store) (q r : SubpoolStorage) (p : Subpool) (task : ℕ) (present : Bool) → r.cells ≡ q.cells → Stands s q → IsSubpoolSet t r.set → (QueuesStand s q.set → QueuesStand t r.set) → Leaves s t (owned s q.set) (owned t r.set)
     → ((m l : ℕ) → pool t r.set m l ≡ pool s q.set m l)
     → ((a b : ℕ) → sight t r.set a b ≡ sight_with (sight s q.set) task p.number (if present then Some p.owner else None) a b)
@@ -148,7 +148,7 @@ module _ (s t : Store) (q r : SubpoolSet) (n giver to : ℕ) (vacant : pool s q 
     go true false true ea eb ec = absurd (none_some (pool t r m l) p (at_giver m l ea eb ec) e)
     go true false false ea eb ec = record { m = m; l = l; is = sym (at_others m l ea eb ec) ∙ e }
 
--- a subpool is another task's, but for its cell pools
+-- a subpool is another task's, except for its cell pools
 abbrev pub queues_passed : Subpools → Subpool → ℕ → Subpools
 queues_passed m p to = record (with_passed m p to) { cells = m.cells }
 

@@ -1,4 +1,4 @@
--- Subpools as functions, where one of them gets other pages and other free storage.
+-- Subpools as functions, if one of them gets other pages and other free storage.
 use Rattle.std.proofs.Common.{◌≡◌, ℕ, Bool, true, false, ◌&&◌, inl, inr, refl, sym, ap, ◌∙◌}
 use Rattle.std.proofs.lemmas.Bool.{cond-false, cond-true}
 use Rattle.std.specs.Prelude.{if◌then◌else◌}

@@ -22,7 +22,7 @@ use Rattle.subpool_set.proofs.HeadLemmas.{both_kept, in_left, in_right}
 use Rattle.subpool_set.proofs.FollowLemmas.{ids_follow}
 use Rattle.subpool_storage.specs.SubpoolStorage.{page_in, free_in}
 
--- what a subpool has is kept where the elements of its queues are as they were
+-- what a subpool has is kept if the elements of its queues are as they were
 pub page_kept : (s t : Store) (y : Option Pool) → ((p : Pool) → y ≡ Some p → StandApart s p.queues) → ((p : Pool) → y ≡ Some p → (i : ℕ) → among i (ids_of s p.queues) ≡ true → at t i ≡ at s i) → (x : ℕ) → page_in t y x ≡ page_in s y x
 page_kept s t None stand same x = refl
 page_kept s t (Some p) stand same x = (extents_kept s t p.queues.extents (stand p refl).extents (λ i z. same p refl i (in_left i (Extents.owned s p.queues.extents) (FreeQueue.owned s p.queues.free) z))).2 x
@@ -31,7 +31,7 @@ pub free_kept : (s t : Store) (y : Option Pool) → ((p : Pool) → y ≡ Some p
 free_kept s t None stand same d = refl
 free_kept s t (Some p) stand same d = (queues_kept s t p.queues.free (stand p refl).free (λ i z. same p refl i (in_right i (Extents.owned s p.queues.extents) (FreeQueue.owned s p.queues.free) z))).2 d
 
--- one subpool has new queues, which stood in r, and all others have what they had in s
+-- one subpool has new queues, which were in r, and all others have what they had in s
 module _ (s r t : Store) (q : SubpoolSet) (n o id : ℕ) (old new : Queues) (h : IsSubpoolSet s q) (was : QueuesStand s q) (there : pool s q n o ≡ Some (record { id = id; queues = old })) (stand : StandApart r new)
     (k : IsSubpoolSet t q) (now : QueuesStand t q) (pools_are : (m l : ℕ) → pool t q m l ≡ pools_with (pool s q) n o (Some (record { id = id; queues = new })) m l)
     (other_same : (m l : ℕ) (x : Pool) → pool s q m l ≡ Some x → same_key n o m l ≡ false → (i : ℕ) → among i (ids_of s x.queues) ≡ true → at t i ≡ at s i)

@@ -13,12 +13,12 @@ run_in r = record { start = r.0; len = r.1 }
 unfoldable pub extents : Subpools → Subpool → List Run
 extents m p = map run_in (runs (m.pages p) 0 (2 ^ 29))
 
--- They are the maximal runs of its pages, where each page is a number that a set of runs can have.
+-- They are the maximal runs of its pages, if each page is a number that a set of runs can have.
 abbrev pub ExtentsAreRuns : Type 0
 ExtentsAreRuns = (m : Subpools) (p : Subpool) → ((page : ℕ) → 2 ^ 29 ≤ page → m.pages p page ≡ false)
     → AreRunsOf (extents m p) (m.pages p)
 
--- There are not too many to be counted, and, where each of its pages is below some number, no more than that.
+-- There are not too many to be counted, and, if each of its pages is below some number, no more than that.
 abbrev pub ExtentsAreFew : Type 0
 ExtentsAreFew = (m : Subpools) (p : Subpool) → (length (extents m p) ≤ 2 ^ 29)
     × ((top : ℕ) → ((page : ℕ) → top ≤ page → m.pages p page ≡ false) → length (extents m p) ≤ top)

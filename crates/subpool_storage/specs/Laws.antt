@@ -8,13 +8,13 @@ use Rattle.cell_pool.specs.Named.{AreNamed}
 use Rattle.subpool_storage.specs.Subpools.{is_there}
 use Rattle.subpool_storage.specs.SubpoolStorage.{subpools_of, hold, Stands}
 
--- what stands holds each element once at most, and live ones alone
+-- the storage holds each element at most once, and only live ones
 abbrev pub StorageOwns : Type 0
 StorageOwns = (s : Store) (q : SubpoolStorage) → Stands s q
     → ((i : ℕ) → hold s q i ≤ 1) × ((i : ℕ) → 0 < hold s q i → IsSome (at s i))
 
--- who sees a subpool is a task from 1 to 64, at a number up to 127, and its owner sees it; pages and free storage are
--- those of subpools that are there
+-- a task that sees a subpool is from 1 to 64, and sees it at a number up to 127, and its owner sees it; pages and free
+-- storage are those of subpools that exist
 abbrev pub SubpoolsAreThere : Type 0
 SubpoolsAreThere = (s : Store) (q : SubpoolStorage) → Stands s q
     → ((task number : ℕ) → IsSome ((subpools_of s q).sight task number) → (1 ≤ task) × (task ≤ 64) × (number ≤ 127))
@@ -23,7 +23,7 @@ SubpoolsAreThere = (s : Store) (q : SubpoolStorage) → Stands s q
     × ((p : Subpool) (page : ℕ) → (subpools_of s q).pages p page ≡ true → is_there (subpools_of s q) p ≡ true)
     × ((p : Subpool) (d : ℕ) → (subpools_of s q).free p d ≡ true → is_there (subpools_of s q) p ≡ true)
 
--- where the elements that it holds are as they were, so is all that it is
+-- if the elements that it holds are as they were, so is all that it is
 abbrev pub StorageStays : Type 0
 StorageStays = (s t : Store) (q : SubpoolStorage) → Stands s q → ((i : ℕ) → 0 < hold s q i → at t i ≡ at s i)
     → Stands t q × (subpools_of t q ≡ subpools_of s q) × ((i : ℕ) → hold t q i ≡ hold s q i)

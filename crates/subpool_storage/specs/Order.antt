@@ -6,11 +6,11 @@ use Rattle.subpool_set.specs.Pools.{tasks, numbers}
 use Rattle.vsm_model.specs.declared.Subpool.{Subpool}
 use Rattle.subpool_storage.specs.Subpools.{Subpools, is_there}
 
--- the subpool of this number and this owner, if it is there
+-- the subpool of this number and this owner, if it exists
 abbrev pub subpool_at : Subpools → ℕ → ℕ → Option Subpool
 subpool_at m number owner =
     let p : Subpool = record { number = number; owner = owner } in if is_there m p then Some p else None
 
--- all that are there
+-- all that exist
 abbrev pub subpools_in_order : Subpools → List Subpool
 subpools_in_order m = flat_map (λ n. filter_map (λ o. subpool_at m n o) tasks) numbers

@@ -1,4 +1,4 @@
--- That subpools stand with their storage has one proof at most.
+-- That subpools with their storage are kept in elements has at most one proof.
 use Rattle.std.proofs.Props.{props}
 use Rattle.vsm_elements.specs.Store.{Store}
 use Rattle.subpool_set.specs.Props.{IsSubpoolSet-prop, AreApart-prop}

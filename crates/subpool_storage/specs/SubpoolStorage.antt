@@ -1,6 +1,6 @@
 -- What a contract sees of a `SubpoolStorage`: its subpools as functions, and how often it holds an element.
 --
--- The words are closed, so that nothing above depends on how the subpools stand in the elements.
+-- The definitions are closed, so that nothing above depends on how the subpools are kept in the elements.
 use Rattle.std.specs.Prelude.{◌≡◌, ℕ, ◌+◌, ◌≤◌, Bool, false, List, map, Option, Some, None}
 use Rattle.vsm_elements.specs.Store.{Store, made}
 use Rattle.vsm_elements.specs.Owners.{times, Moves}
@@ -44,7 +44,7 @@ hold_queues s q i = times i (owned s q.set) + times i (queue_ids s q.set)
 unfoldable pub hold : Store → SubpoolStorage → ℕ → ℕ
 hold s q i = hold_queues s q i + times i (CellPools.owned s q.cells)
 
--- the subpools, their queues and their cell pools stand in these elements, and no element is of both
+-- the subpools, their queues and their cell pools are kept in these elements, and no element is of both
 pub record StandsIn (s : Store) (q : SubpoolStorage) : Type 0 where
   pub set : IsSubpoolSet s q.set
   pub queues : QueuesStand s q.set
@@ -58,19 +58,19 @@ Stands s q = StandsIn s q
 abbrev pub named : Store → ℕ → Subpool
 named s id = record { number = number_of s id; owner = owner_of s id }
 
--- the place is before, between or behind the subpools
+-- the place is before, between or after the subpools
 unfoldable pub IsSubpoolPlace : Store → SubpoolStorage → SubpoolPlace → Type 0
 IsSubpoolPlace s q place = SubpoolSet.IsSubpoolPlace s q.set place
 
--- the subpools behind the place
+-- the subpools after the place
 unfoldable pub subpools_left : Store → SubpoolStorage → SubpoolPlace → List Subpool
 subpools_left s q place = map (named s) (SubpoolSet.pools_left s q.set place)
 
--- the subpool before the place, behind one that was read
+-- the subpool before the place, after one that was read
 unfoldable pub subpool_before : Store → SubpoolPlace → Subpool
 subpool_before s place = named s (pool_before place)
 
--- the place is behind a subpool that was read
+-- the place is after a subpool that was read
 pub record IsBehind (s : Store) (q : SubpoolStorage) (place : SubpoolPlace) : Type 0 where
   pub walked : SubpoolSet.IsSubpoolPlace s q.set place
   pub pool : SubpoolSet.IsSubpool s q.set (pool_before place)
@@ -78,11 +78,11 @@ pub record IsBehind (s : Store) (q : SubpoolStorage) (place : SubpoolPlace) : Ty
 unfoldable pub IsBehindSubpool : Store → SubpoolStorage → SubpoolPlace → Type 0
 IsBehindSubpool s q place = IsBehind s q place
 
--- the tasks behind the place that see the subpool besides its owner
+-- the tasks after the place that see the subpool, except its owner
 unfoldable pub sharers_left : Store → SubpoolStorage → SharerPlace → Subpool → List ℕ
 sharers_left s q place p = SubpoolSet.sharers_left s q.set place p.number p.owner
 
--- the subpools are m, no element but theirs changed, and none was made
+-- the subpools are m, only their elements changed, and none was made
 pub record Becomes (s t : Store) (q r : SubpoolStorage) (m : Subpools) : Type 0 where
   pub stands : Stands t r
   pub moves : Moves s t (hold s q) (hold t r)

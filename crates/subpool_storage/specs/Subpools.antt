@@ -25,7 +25,7 @@ abbrev pub no_subpools : Subpools
 no_subpools =
     record { sight = λ task number. None; pages = λ p page. false; free = λ p d. false; cells = λ id. None }
 
--- there is the subpool: its owner sees it
+-- the subpool exists: its owner sees it
 abbrev pub is_there : Subpools → Subpool → Bool
 is_there m p = holds (λ owner. owner == p.owner) (m.sight p.owner p.number)
 
@@ -55,12 +55,12 @@ with_storage_of m others p =
       cells = λ id. exchanged p (m.cells id) (others.cells id);
     }
 
--- a cell pool is there under the id, among these subpools or the others
+-- a cell pool has the id, among these subpools or the others
 abbrev pub HasPool : Subpools → Subpools → ℕ → Pool → Type 0
 HasPool m others id x = (m.cells id ≡ Some x) ⊎ (others.cells id ≡ Some x)
 
--- Cell pools of both that have one name lie all in the subpool, or all outside it: no name comes to be there twice
--- where the subpool's storage is exchanged.
+-- Cell pools of both that have one name lie all in the subpool, or all outside it: no name appears twice once the
+-- subpool's storage is exchanged.
 abbrev pub CanExchange : Subpools → Subpools → Subpool → Type 0
 CanExchange m others p =
     (i j : ℕ) (x y : Pool) → HasPool m others i x → HasPool m others j y → x.name ≡ y.name
@@ -95,7 +95,7 @@ built_pool id name settings header start count =
       cells = cells_from settings.size start count;
     }
 
--- The cell pool is there, under its own id.
+-- The cell pool is present, under its own id.
 abbrev pub with_new_pool : Subpools → Pool → Subpools
 with_new_pool m p = record m { cells = λ id. if id == p.id then Some p else m.cells id }
 
@@ -110,8 +110,8 @@ with_sharer m p sharer present = record m {
 abbrev pub owned_by : Subpool → ℕ → Subpool
 owned_by p owner = record { number = p.number; owner = owner }
 
--- The subpool is another task's from now on, with its pages, its free storage and its cell pools: who saw it sees it as
--- that task's, and its owner until now sees none of that number.
+-- The subpool is another task's from now on, with its pages, its free storage and its cell pools: a task that saw it
+-- sees it as that task's, and its owner until now sees none of that number.
 abbrev pub with_passed : Subpools → Subpool → ℕ → Subpools
 with_passed m p to =
     record {

@@ -17,7 +17,7 @@ use vsm_elements::Elements;
 #[tactic(auto, unfolding(
 // the subpools, and which elements are theirs
 crate::specs::SubpoolStorage::subpools_of, crate::specs::SubpoolStorage::hold,
-// where they stand
+// which elements they are in
 crate::specs::SubpoolStorage::Stands))]
 impl SubpoolStorage {
     /// The cell pools of all subpools, to be read.
@@ -92,10 +92,10 @@ impl SubpoolStorage {
         self.cells.put_cell(elements, id, cell);
     }
 
-    /// A cell pool has an extent more, which overlaps none of its others: `count` cells from an address on, ascending
-    /// behind the free ones.
+    /// A cell pool has another extent, which overlaps none of its others: `count` cells from an address on, ascending
+    /// after the free ones.
     ///
-    /// It has a cell at least. It takes an element for each cell, and two for the extent.
+    /// It has at least one cell. It takes an element for each cell, and two for the extent.
     pub fn extend(&mut self, elements: &mut Elements, id: CellId, start: u32, count: u32)
         requires stands { Stands elements.old self.old }
         requires there { IsSome ((subpools_of elements.old self.old).cells id) }
@@ -112,7 +112,7 @@ impl SubpoolStorage {
         self.cells.extend(elements, id, start, count);
     }
 
-    /// The last extent of a cell pool is gone, whose cells are the end of the free ones.
+    /// The last extent of a cell pool, whose cells are the end of the free ones, is gone.
     ///
     /// It gives back the elements that it took to add it.
     pub fn retract(&mut self, elements: &mut Elements, id: CellId, start: u32, count: u32)
@@ -127,8 +127,8 @@ impl SubpoolStorage {
         self.cells.retract(elements, id);
     }
 
-    /// A cell pool goes over to the others, or comes from them, with its extents and its cells as they stand. No other
-    /// one has its name.
+    /// A cell pool moves to the others, or from them, with its extents and its cells as they are. No other one has its
+    /// name.
     ///
     /// It takes no element.
     pub fn exchange_pool(

@@ -10,12 +10,12 @@ pub fn storage_owns()
     ensures { StorageOwns }
 {}
 
-/// What is seen is there, and so is what has pages or free storage.
+/// What is seen exists, and so does what has pages or free storage.
 pub fn subpools_are_there()
     ensures { SubpoolsAreThere }
 {}
 
-/// A call that leaves its elements alone leaves it alone.
+/// A call that leaves its elements unchanged leaves it unchanged.
 pub fn storage_stays()
     ensures { StorageStays }
 {}
@@ -25,7 +25,7 @@ pub fn extents_are_runs()
     ensures { ExtentsAreRuns }
 {}
 
-/// A subpool has 2^29 extents at most, and no more than there are pages: 2^20, where each of its pages is below that.
+/// A subpool has at most 2^29 extents, and no more than there are pages: 2^20, if each of its pages is below that.
 pub fn extents_are_few()
     ensures { ExtentsAreFew }
 {}
@@ -45,8 +45,8 @@ pub fn pools_are_held()
     ensures { PoolsAreHeld }
 {}
 
-/// A place among the subpools stays one where the elements of the storage are as they were, with what is left behind
-/// it, and so do the tasks that share one.
+/// A place among the subpools stays one if the elements of the storage are as they were, with what is left after it,
+/// and so do the tasks that share one.
 pub fn places_stay()
     ensures { PlacesStay }
 {}

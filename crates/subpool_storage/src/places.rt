@@ -22,17 +22,16 @@ use vsm_elements::Elements;
 use vsm_model::Subpool;
 
 #[tactic(auto, unfolding(
-// the subpools, and where they stand
+// the subpools, and which elements they are in
 crate::specs::SubpoolStorage::subpools_of, crate::specs::SubpoolStorage::Stands,
-// where a walk over subpools stands, and what is left of it
+// where a walk over subpools is, and what is left of it
 crate::specs::SubpoolStorage::subpools_left, crate::specs::SubpoolStorage::IsSubpoolPlace,
 // which subpool is before it
 crate::specs::SubpoolStorage::subpool_before, crate::specs::SubpoolStorage::IsBehindSubpool,
-// where one over sharers does
+// where one over sharers is
 crate::specs::SubpoolStorage::sharers_left))]
 impl SubpoolStorage {
-    /// The place before the first subpool of any storage. A place is one as long as who sees which subpool stays as it
-    /// is.
+    /// The place before the first subpool of any storage. A place is one as long as the tasks see the same subpools.
     pub fn first_subpool_place() -> SubpoolPlace
         ensures place { (s : Store) (q : SubpoolStorage) → IsSubpoolPlace s q result }
         ensures all { (s : Store) (q : SubpoolStorage) → Stands s q
@@ -41,8 +40,8 @@ impl SubpoolStorage {
         SubpoolSet::first_place()
     }
 
-    /// The subpool behind the place, and the place behind that subpool; `None` behind the last. From the first place
-    /// on, the subpools come by number and then by owner, and each row of sight is read once on the way.
+    /// The subpool after the place, and the place after that subpool; `None` after the last. From the first place on,
+    /// the subpools are in order of number and then of owner, and each row of sight is read once on the way.
     pub fn next_subpool(
         &self,
         elements: &Elements,
@@ -90,9 +89,8 @@ impl SubpoolStorage {
         self.set.queues(elements, place.subpool())
     }
 
-    /// The extents of the subpool before the place, which was read just before: what
-    /// [`SubpoolStorage::extents`] gives for it, with no look-up. (z/OS MVS Programming: Assembler Services Guide,
-    /// "Subpool handling".)
+    /// The extents of the subpool before the place, which was read last: what [`SubpoolStorage::extents`] gives for it,
+    /// without a look-up. (z/OS MVS Programming: Assembler Services Guide, "Subpool handling".)
     pub fn extents_at(&self, elements: &Elements, place: SubpoolPlace) -> Extents
         requires stands { Stands elements.now self.now }
         requires behind { IsBehindSubpool elements.now self.now place }
@@ -106,9 +104,8 @@ impl SubpoolStorage {
         self.queues_at(elements, place).extents
     }
 
-    /// The free areas of the subpool before the place, which was read just before: what
-    /// [`SubpoolStorage::free_areas`] gives for it, with no look-up. (z/OS MVS Programming: Assembler Services Guide,
-    /// "Subpool handling".)
+    /// The free areas of the subpool before the place, which was read last: what [`SubpoolStorage::free_areas`] gives
+    /// for it, without a look-up. (z/OS MVS Programming: Assembler Services Guide, "Subpool handling".)
     pub fn free_areas_at(&self, elements: &Elements, place: SubpoolPlace) -> FreeQueue
         requires stands { Stands elements.now self.now }
         requires behind { IsBehindSubpool elements.now self.now place }
@@ -130,9 +127,9 @@ impl SubpoolStorage {
         SubpoolSet::first_sharer()
     }
 
-    /// The task behind the place that sees the subpool besides its owner, and the place behind that task; `None` behind
-    /// the last. From the first place on, the tasks come in ascending order. Each row of sight of the subpool's number
-    /// is read on the way, and a descent for each task. (z/OS MVS Programming: Assembler Services Guide, "Subpool
+    /// The task after the place that sees the subpool and isn't its owner, and the place after that task; `None` after
+    /// the last. From the first place on, the tasks are in ascending order. Each row of sight of the subpool's number
+    /// is read on the way, with a descent for each task. (z/OS MVS Programming: Assembler Services Guide, "Subpool
     /// handling".)
     pub fn next_sharer(
         &self,
@@ -149,7 +146,7 @@ impl SubpoolStorage {
             .next_sharer(elements, subpool.number, subpool.owner, place)
     }
 
-    /// Whether a task sees a subpool of this number besides its owner. The rows of sight of the number are read up to
+    /// Whether a task sees a subpool of this number and isn't its owner. The rows of sight of the number are read up to
     /// the first one that says so. (z/OS MVS Programming: Assembler Services Guide, "Subpool handling".)
     pub fn is_shared(&self, elements: &Elements, number: u8) -> bool
         requires { Stands elements.now self.now }

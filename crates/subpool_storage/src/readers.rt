@@ -17,12 +17,12 @@ use subpool_set::{PoolId, Queues};
 use vsm_elements::Elements;
 use vsm_model::Subpool;
 
-// What is asked of the pages and of the free storage of one subpool. A subpool that isn't there has none.
+// What is asked of the pages and of the free storage of one subpool. A subpool that doesn't exist has none.
 #[tactic(auto, unfolding(
-// the subpools, and where they stand
+// the subpools, and which elements they are in
 crate::specs::SubpoolStorage::subpools_of, crate::specs::SubpoolStorage::Stands))]
 impl SubpoolStorage {
-    // The queues of the subpool; empty ones where it isn't there.
+    // The queues of the subpool; empty ones if it doesn't exist.
     fn queues(&self, elements: &Elements, subpool: Subpool) -> Queues
         requires { Stands elements.now self.now }
         ensures extents { IsExtents elements.now result.extents }
@@ -43,7 +43,7 @@ impl SubpoolStorage {
         }
     }
 
-    // The name of the subpool, if it's there.
+    // The name of the subpool, if it exists.
     fn find(&self, elements: &Elements, subpool: Subpool) -> Option<PoolId>
         requires { Stands elements.now self.now }
         ensures pool { IfSome result (λ id. IsSubpool elements.now self.now.set id) }
@@ -61,7 +61,7 @@ impl SubpoolStorage {
     }
 
     /// The extents of the subpool: the maximal runs of its pages of 4,096 bytes, below and above the 16 MB line. A
-    /// subpool that isn't there has none. (z/OS MVS Programming: Assembler Services Guide, "Subpool handling".)
+    /// subpool that doesn't exist has none. (z/OS MVS Programming: Assembler Services Guide, "Subpool handling".)
     ///
     /// Nothing is copied: it is the head of what the storage itself holds, to be read as long as the storage's elements
     /// stay as they are, and not to be changed or discarded.
@@ -77,7 +77,8 @@ impl SubpoolStorage {
     }
 
     /// The free areas of the subpool: the maximal runs of its free doublewords of 8 bytes, below and above the 16 MB
-    /// line. A subpool that isn't there has none. (z/OS MVS Programming: Assembler Services Guide, "Subpool handling".)
+    /// line. A subpool that doesn't exist has none. (z/OS MVS Programming: Assembler Services Guide, "Subpool
+    /// handling".)
     ///
     /// Nothing is copied: it is the head of what the storage itself holds, to be read as long as the storage's elements
     /// stay as they are, and not to be changed or discarded.
@@ -136,7 +137,7 @@ impl SubpoolStorage {
     }
 
     /// The greatest number of doublewords that are free storage of the subpool in the region from a doubleword on the
-    /// boundary; 0 where there is none.
+    /// boundary; 0 if there is none.
     pub fn longest(&self, elements: &Elements, subpool: Subpool, boundary: u32, region: Area) -> u32
         requires stands { Stands elements.now self.now }
         requires asked { (0 < boundary) × (boundary ≤ 512) }
@@ -147,7 +148,7 @@ impl SubpoolStorage {
             .free
             .longest(elements, boundary, region)
     }
-    /// A subpool that has the page; `None` where none has it.
+    /// A subpool that has the page; `None` if none has it.
     pub fn subpool_of_page(&self, elements: &Elements, page: Page) -> Option<Subpool>
         requires { Stands elements.now self.now }
         ensures none { IfNone result ((p : Subpool) → (subpools_of elements.now self.now).pages p page ≡ false) }

@@ -11,10 +11,10 @@ use vsm_model::Subpool;
 #[tactic(auto, unfolding(
 // the subpools, and which elements are theirs
 crate::specs::SubpoolStorage::subpools_of, crate::specs::SubpoolStorage::hold,
-// where they stand
+// which elements they are in
 crate::specs::SubpoolStorage::Stands))]
 impl SubpoolStorage {
-    /// A task that sees no subpool of this number sees this one, besides its owner. (z/OS MVS Programming: Assembler
+    /// A task that sees no subpool of this number sees this one, as its owner does. (z/OS MVS Programming: Assembler
     /// Services Reference, ATTACH, SHSPV.)
     ///
     /// It takes one element.
@@ -32,7 +32,7 @@ impl SubpoolStorage {
         self.set.share(elements, task, id);
     }
 
-    /// A task that shares the subpool doesn't see it any more.
+    /// A task that shares the subpool no longer sees it.
     ///
     /// It gives back one element.
     pub fn unshare(&mut self, elements: &mut Elements, subpool: Subpool, task: u8)
@@ -47,7 +47,7 @@ impl SubpoolStorage {
     }
 
     /// The subpool passes to another task that sees none of its number, with its pages, its free storage and its cell
-    /// pools. Who shares it sees it as before, and the old owner doesn't see it any more. (z/OS MVS Programming:
+    /// pools. Tasks that share it see it as before, and the old owner no longer sees it. (z/OS MVS Programming:
     /// Assembler Services Reference, ATTACH, GSPV.)
     ///
     /// It takes no element.

@@ -30,7 +30,7 @@ pub struct SubpoolStorage {
 #[tactic(auto, unfolding(
 // the subpools, and which elements are theirs
 crate::specs::SubpoolStorage::subpools_of, crate::specs::SubpoolStorage::hold,
-// where they stand
+// which elements they are in
 crate::specs::SubpoolStorage::Stands))]
 impl SubpoolStorage {
     ghost use Rattle.subpool_storage.specs.SubpoolStorage.{subpools_of, hold, Stands, Becomes};
@@ -56,7 +56,7 @@ impl SubpoolStorage {
         Some(self.set.owner(elements, id))
     }
 
-    /// One more than the highest number at which a task sees a subpool; 0 where none sees any.
+    /// One more than the highest number at which a task sees a subpool; 0 if none sees any.
     pub fn numbers_end(&self, elements: &Elements) -> u8
         requires { Stands elements.now self.now }
         ensures { IsNumbersEnd (subpools_of elements.now self.now).sight result }
@@ -64,7 +64,7 @@ impl SubpoolStorage {
         self.set.numbers_end(elements)
     }
 
-    // The name of a subpool that is there.
+    // The name of a subpool that exists.
     pub(crate) fn id(&self, elements: &Elements, subpool: Subpool) -> PoolId
         requires stands { Stands elements.now self.now }
         requires there { is_there (subpools_of elements.now self.now) subpool ≡ true }
@@ -78,7 +78,7 @@ impl SubpoolStorage {
         }
     }
 
-    // The name of a subpool that is there, and the heads of its queues.
+    // The name of a subpool that exists, and the heads of its queues.
     fn own(&self, elements: &Elements, subpool: Subpool) -> (PoolId, Queues)
         requires stands { Stands elements.now self.now }
         requires there { is_there (subpools_of elements.now self.now) subpool ≡ true }
@@ -99,7 +99,7 @@ impl SubpoolStorage {
 
     /// The doublewords of an area become free storage of the subpool.
     ///
-    /// It takes one element, less one for each of the two doublewords beside the area that are free.
+    /// It takes one element, less one for each of the two doublewords next to the area that are free.
     pub fn free_area(&self, elements: &mut Elements, subpool: Subpool, area: Area)
         requires stands { Stands elements.old self.now }
         requires there { is_there (subpools_of elements.old self.now) subpool ≡ true }
@@ -118,7 +118,7 @@ impl SubpoolStorage {
 
     /// The doublewords of an area are no longer free storage of the subpool.
     ///
-    /// It takes one element for each of the two doublewords beside the area that are free, less one.
+    /// It takes one element for each of the two doublewords next to the area that are free, less one.
     pub fn carve_area(&self, elements: &mut Elements, subpool: Subpool, area: Area)
         requires stands { Stands elements.old self.now }
         requires there { is_there (subpools_of elements.old self.now) subpool ≡ true }
@@ -137,7 +137,7 @@ impl SubpoolStorage {
 
     /// The pages of a run become the subpool's.
     ///
-    /// It takes one element, less one for each of the two pages beside the run that are the subpool's.
+    /// It takes one element, less one for each of the two pages next to the run that are the subpool's.
     pub fn insert_run(&self, elements: &mut Elements, subpool: Subpool, run: Run)
         requires stands { Stands elements.old self.now }
         requires there { is_there (subpools_of elements.old self.now) subpool ≡ true }
@@ -156,7 +156,7 @@ impl SubpoolStorage {
 
     /// The pages of a run leave the subpool.
     ///
-    /// It takes one element for each of the two pages beside the run that are the subpool's, less one.
+    /// It takes one element for each of the two pages next to the run that are the subpool's, less one.
     pub fn remove_run(&self, elements: &mut Elements, subpool: Subpool, run: Run)
         requires stands { Stands elements.old self.now }
         requires there { is_there (subpools_of elements.old self.now) subpool ≡ true }
@@ -173,7 +173,7 @@ impl SubpoolStorage {
         self.set.set_queues(elements, id, queues);
     }
 
-    /// An empty subpool, which its owner alone sees.
+    /// An empty subpool, which only its owner sees.
     ///
     /// It takes one element.
     pub fn create(&mut self, elements: &mut Elements, subpool: Subpool)
@@ -189,7 +189,7 @@ impl SubpoolStorage {
         self.set.create(elements, subpool.owner, subpool.number);
     }
 
-    /// An empty subpool that its owner alone sees is gone.
+    /// An empty subpool that only its owner sees is gone.
     ///
     /// It gives back one element.
     pub fn remove(&mut self, elements: &mut Elements, subpool: Subpool)

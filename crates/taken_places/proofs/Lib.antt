@@ -1,4 +1,5 @@
--- Lemmas on free areas and on cells.
-mod FreeAreas
+-- Lemmas on assigned pages, free storage and cells.
+mod FreeStorage
 mod InUse
 mod CellPools
+mod AssignedPages

@@ -99,7 +99,7 @@ fn taken_in(storage: &Storage, id: CellId, address: u32) -> Option<Taken>
     }
 }
 
-/// Whether an extent of a cell pool has an address. A look-up for each cell pool tells.
+/// Whether an extent of a cell pool has an address, by a look-up for each cell pool.
 fn is_in_cells(storage: &Storage, address: u32) -> bool
     ensures { result ≡ overlaps_cells (state_of storage.now) address 1 }
 {
@@ -124,8 +124,8 @@ fn first_taker(storage: &Storage, subpool: Subpool, address: u32) -> Taken
     Taken::Obtained(subpool)
 }
 
-/// The same: cell pools are gone through only if one of them has the address.
-pub(crate) fn taken_by(storage: &Storage, subpool: Subpool, address: u32) -> Taken
+/// The same; cell pools are gone through only if one of them has the address.
+pub fn taken_by(storage: &Storage, subpool: Subpool, address: u32) -> Taken
     ensures { result ≡ taken_by subpool address (state_of storage.now).cell_pools }
 {
     if is_in_cells(storage, address) {

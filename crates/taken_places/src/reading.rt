@@ -1,20 +1,27 @@
 //! How the storage at an address is taken.
 ghost use Rattle.std.specs.Prelude.{◌≡◌};
 ghost use Rattle.storage_core.specs.Meaning.{state_of};
+ghost use Rattle.vsm_model.specs.Areas.{is_free};
 ghost use Rattle.taken_places.specs.Taken.{taken_at};
 
-use crate::areas::is_free;
 use crate::cells::taken_by;
+use crate::pages::subpool_at;
 use crate::takers::Taken;
-use storage_core::Storage;
-use vsm_model::geometry::PAGE_BYTES;
+use storage_core::{Storage, Subpool};
 
-/// How the storage at an address is taken. Its cost grows with the free areas of the page's subpool that lie before the
-/// address, and with the cell pools and their extents.
+/// Whether a doubleword is free in a subpool.
+fn is_free(storage: &Storage, subpool: Subpool, doubleword: u32) -> bool
+    ensures { result ≡ is_free (state_of storage.now) subpool doubleword }
+{
+    storage.is_free(subpool, doubleword)
+}
+
+/// How the storage at an address is taken. Its cost grows with the cell pools, and with their extents if a cell pool
+/// has the address.
 pub fn taken_at(storage: &Storage, address: u32) -> Taken
     ensures { result ≡ taken_at (state_of storage.now) address }
 {
-    match storage.subpool_of_page(address / PAGE_BYTES) {
+    match subpool_at(storage, address) {
         None => Taken::Unassigned,
         Some(subpool) => {
             if is_free(storage, subpool, address / 8) {

@@ -46,7 +46,7 @@ module _ (s : State) (a : Attach) (given shared : List ℕ) (are_given : numbers
       (is_none given, NotAssigned) ∷ (is_none shared, NotAssigned) ∷ (is_bad_list (unwrap_or given [] ++ unwrap_or shared []), BadList)
       ∷ (list_any (is_anothers s) (unwrap_or given []), NotOwner) ∷ (is_none free, TooManyTasks) ∷ []
 
-  -- the first of those behind the lists
+  -- the first of those after the lists
   abbrev chosen : Bool → Bool → Option ℕ → Option Cause
   chosen bad others free = if bad then Some BadList else if others then Some NotOwner else if is_none free then Some TooManyTasks else None
 

@@ -1,4 +1,4 @@
--- The records of a task that comes.
+-- The records of a task that is attached.
 use Rattle.std.proofs.Common.{◌≡◌, ℕ, ◌+◌, ◌<◌, ◌≤◌, true, List, [], ◌∷◌, ◌++◌, length, length-append, Result, OnOk, refl, sym, ap, ◌∙◌, subst, arith}
 use Rattle.std.specs.List.{flat_map}
 use Rattle.storage_changes.specs.declared.record.Record.{Record}
@@ -77,7 +77,7 @@ module _ (m : StorageState) (task now : ℕ) (is : now ≡ m.tasks.current) wher
       → MakesElements t e 1 → MakesElements s e (length both)
   number_refused s t e first live = refused-made s t e (length (code now)) 1 (length both) first live (omega (arith, both_counted))
 
--- room for both is room for the first, and behind it for the second
+-- room for both is room for the first, and after it for the second
 both-first : (k l s : ℕ) → k + l ≤ s → k ≤ s
 both-first k l s h = omega arith
 

@@ -1,4 +1,4 @@
--- Who is in a subtree, by one climb.
+-- Which tasks are in a subtree, by one climb.
 use Rattle.std.proofs.Common.{◌≡◌, ℕ, zero, suc, ◌+◌, ◌-◌, ◌<◌, ◌≤◌, ◌⊎◌, Bool, true, false, ◌||◌, ◌==◌, Option, Some, None, ◌∷◌, ◌++◌, sym, ◌∙◌, ap, subst, arith, inl, inr, true≢false}
 use Rattle.std.specs.Prelude.{filter}
 use Rattle.std.specs.List.{range_with_len}
@@ -10,7 +10,7 @@ use Rattle.storage_changes.proofs.ActionCases.{same_answers}
 use Rattle.storage_changes.proofs.EndLists.{in_either, passes_in, is_in_passing}
 use Rattle.storage_changes.specs.Ending.{is_below_by, ended_level, ended_from, ended_below}
 
--- who is in a run that was sifted is within the run
+-- what is in a filtered run is within the run
 within : (f : ℕ → Bool) (t len first : ℕ) → is_in (filter f (range_with_len first len)) t ≡ true → (first ≤ t) × (t < first + len)
 within f t zero first e = absurd (true≢false (sym e))
 within f t (suc len) first e =
@@ -44,7 +44,7 @@ module _ (parents : ℕ → Option ℕ) (top : ℕ) where
   climb_here zero above is = is
   climb_here (suc steps) above is = or_left (above == top) _ is
 
-  -- or where nobody is above
+  -- or if nobody is above
   pub climb_stops : (steps above : ℕ) → (above == top) ≡ false → parents above ≡ None → climbs parents steps top above ≡ false
   climb_stops zero above other none = other
   climb_stops (suc steps) above other none =
@@ -83,7 +83,7 @@ module _ (parents : ℕ → Option ℕ) (top : ℕ) where
         | inr few ↦ or_right (is_in these t) _ (found n k t low high few e)
       ]
 
-  -- who is listed is a task's number, and so many steps below
+  -- what is listed is a task's number, and at most this many steps below
   record Listed (n t : ℕ) : Type 0 where
     steps : ℕ
     few : steps ≤ n
@@ -113,7 +113,7 @@ module _ (parents : ℕ → Option ℕ) (top : ℕ) where
             record { steps = its.steps; few = omega (arith, its.few); below = its.below; low = its.low; high = its.high }
       ]
 
-  -- a task is in a subtree where the climb ends at its top
+  -- a task is in a subtree if the climb ends at its top
   pub is_in_ended : (t : ℕ) → 1 ≤ t → t ≤ 64 → is_in (ended_below parents top) t ≡ climbs parents 63 top t
   unfolding ended_below
   is_in_ended t low high =
@@ -134,7 +134,7 @@ module _ (parents : ℕ → Option ℕ) (top : ℕ) where
         | inr more ↦ absurd (omega (arith, more, high))
       ])
 
-  -- the tasks up to so many steps below are those of the last level, and those above it
+  -- the tasks up to this many steps below are those of the last level, and those above it
   pub level_next : (most done : ℕ) → done < most →
       ended_from parents top (most - done) ≡ ended_level parents top (most - done) ++ ended_from parents top (most - (done + 1))
   level_next most done less =

@@ -1,4 +1,4 @@
--- The records of one row of sight, where the task owns what it sees, and where it doesn't.
+-- The records of one row of sight, if the task owns what it sees, and if it doesn't.
 use Rattle.std.proofs.Common.{◌≡◌, ℕ, Bool, true, false, List, [], ◌∷◌, sym, ap, ◌∙◌}
 use Rattle.std.specs.Prelude.{map, if◌then◌else◌}
 use Rattle.std.specs.List.{flat_map}
@@ -25,7 +25,7 @@ module _ (row : SightRow) where
   pub emptied : (m : StorageState) → true ≡ is_own row → flat_map (emptying_records m.subpools) (owned_in (row ∷ [])) ≡ Queues (record { subpool = row.0 }) ∷ unassigned_records (extents m.subpools row.0)
   emptied m is = ap (flat_map (emptying_records m.subpools)) (own_is is) ∙ append-nil (Queues (record { subpool = row.0 }) ∷ unassigned_records (extents m.subpools row.0))
 
--- what goes with a row of a task that ends, in each of the three cases
+-- what is removed with a row of a task that ends, in each of the three cases
 module _ (m : Subpools) (ended : List ℕ) (row : SightRow) where
   abbrev with : Bool → Bool → List SightRow
   with own other = if own then sharer_rows m row.0 else if other then [] else row ∷ []

@@ -43,7 +43,7 @@ AreSubtasksFirst-prop parents (task ∷ tasks) gone = hlevel (AreSubtasksFirst-p
 CanEnd-prop : (s : State) (ended : List ℕ) (next : ℕ) → IsProp (CanEnd s ended next)
 CanEnd-prop s ended next = hlevel (AreSubtasksFirst-prop s.parents ended [], props)
 
--- who climbs to a task is one
+-- what climbs to a task is one
 task_climbs : (s : State) (top : ℕ) → is_task s top ≡ true → (steps task : ℕ) → climbs s.parents steps top task ≡ true → is_task s task ≡ true
 task_climbs s top there zero task e = ap (is_task s) (eqb-true task top e) ∙ there
 task_climbs s top there (suc steps) task e =

@@ -1,4 +1,4 @@
--- The records of an end come behind one another, where the subpools of the tasks that end were parked.
+-- The records of an end follow one another, once the subpools of the tasks that end were parked.
 use Rattle.std.proofs.Common.{◌≡◌, ℕ, ◌+◌, ◌<◌, ◌≤◌, true, false, List, [], ◌∷◌, ◌++◌, length, length-append, sym, ap, ◌∙◌, subst, arith}
 use Rattle.std.proofs.lemmas.List.{append_assoc}
 use Rattle.vsm_elements.specs.Store.{live_count, Store, made}
@@ -18,11 +18,11 @@ use Rattle.task_plans.specs.declared.end.EndPlan.{EndPlan}
 use Rattle.task_plans.specs.TaskPlans.{end_change, parked_onto, parks_all, rest_records, ParksAll}
 use Rattle.task_plans.proofs.Parks.{onto_none}
 
--- the turn stands between what is released and the rest
+-- the turn is between what is released and the rest
 around : (x : Record) (a b c d e : List Record) → a ++ x ∷ b ++ c ++ d ++ e ≡ (a ++ x ∷ []) ++ (b ++ c ++ d ++ e)
 around x a b c d e = simp append_assoc
 
--- what is left of the room for k + m, behind k of them, behind x too, and behind one more
+-- what is left of the room for k + m, after k of them, after x too, and after one more
 left-of : (k m s t x y : ℕ) → k + m ≤ s → s ≤ t + k → m ≡ x + 1 + y → x ≤ t
 left-of k m s t x y h spare sizes = omega arith
 
@@ -89,7 +89,7 @@ module _ (plan : EndPlan) (s t : Parts) (a b : ChangeBuilder) (one : Builds s a 
       subst P (sym same-released)
       (left-of names (length whole) s.elements.spare t.elements.spare (length (released (state_of s))) (length (rest_records (state_of s) plan)) h parks.spare sizes)
 
-  -- how much is made where these are refused, the turn, or the rest
+  -- how much is made if these are refused, the turn, or the rest
   pub released_refused : (e : Store) → MakesElements t.elements e (length (released (state_of t))) → MakesElements s.elements e (names + length whole)
   released_refused e =
       refused-made s.elements t.elements e names (length (released (state_of t))) (names + length whole) parks.made parks.live (omega (arith, sizes, same-released))

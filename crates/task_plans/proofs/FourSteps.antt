@@ -1,4 +1,4 @@
--- Records of four kinds come behind one another. Those of each depend on the storage, whose state stays as it is.
+-- Records of four kinds follow one another. Those of each depend on the storage, whose state stays as it is.
 use Rattle.std.proofs.Common.{◌≡◌, ℕ, ◌+◌, ◌≤◌, List, ◌++◌, length, Result, OnOk, ◌∙◌, sym, subst, arith, OnErr, length-append}
 use Rattle.storage_changes.specs.declared.record.Record.{Record}
 use Rattle.storage_changes.specs.State.{StorageState}
@@ -12,7 +12,7 @@ use Rattle.task_plans.proofs.Walks.{ok_follows, err_follows}
 use Rattle.storage_swap.specs.Growth.{MakesElements}
 use Rattle.vsm_elements.specs.Store.{Store}
 
--- of the room for four lists, behind none, one, two and three of them
+-- of the room for four lists, after none, one, two and three of them
 room-first : (all s k l m n : ℕ) → all ≤ s → all ≡ k + l + m + n → k ≤ s
 room-first all s k l m n h is = omega arith
 

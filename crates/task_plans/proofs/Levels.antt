@@ -6,7 +6,7 @@ use Rattle.std.proofs.lemmas.Bool.{cases_lt}
 use Rattle.vsm_model.specs.Search.{holds}
 use Rattle.storage_changes.specs.Ending.{is_below_by, ended_level, ended_from, ended_below}
 
--- nobody in a run is left where none passes
+-- nothing in a run is left if none passes
 nobody : (f : ℕ → Bool) (len first : ℕ) → ((t : ℕ) → first ≤ t → t < first + len → f t ≡ false) → filter f (range_with_len first len) ≡ []
 nobody f zero first none = refl
 nobody f (suc len) first none =
@@ -15,7 +15,7 @@ nobody f (suc len) first none =
     ∙ nobody f len (first + 1) (λ t low high. none t (omega (arith, low)) (omega (arith, high)))
 
 module _ (parents : ℕ → Option ℕ) (top : ℕ) where
-  -- A walk up: so many steps above the task it's at this one, and it met the top behind no more than most of them.
+  -- A walk up: this many steps above the task it's at this one, and it met the top after at most `most` of them.
   pub record Walked (task done above most : ℕ) : Type 0 where
     pub few : most ≤ done
     pub there : (n k : ℕ) → n ≡ done + k → is_below_by parents top n task ≡ is_below_by parents top k above
@@ -63,7 +63,7 @@ module _ (parents : ℕ → Option ℕ) (top : ℕ) where
           | inr before ↦ w.rest steps more before
         ]
 
-  -- none of the tasks before this one is more steps below
+  -- none of the earlier tasks is more than `most` steps below
   abbrev pub AreWithin : ℕ → ℕ → Type 0
   AreWithin most task =
       (steps t : ℕ) → most < steps → steps ≤ 63 → 1 ≤ t → t < task → is_below_by parents top steps t ≡ false
@@ -83,7 +83,7 @@ module _ (parents : ℕ → Option ℕ) (top : ℕ) where
   level_empty most steps within deep few =
       nobody (is_below_by parents top steps) 64 1 (λ t low high. within steps t deep few low (omega (arith, high)))
 
-  -- where the levels further below are empty, the tasks are those of the levels that occur
+  -- if the levels further below are empty, the tasks are those of the levels that occur
   levels_empty : (most last : ℕ) → last ≤ most → ((steps : ℕ) → last < steps → steps ≤ most → ended_level parents top steps ≡ [])
       → ended_from parents top most ≡ ended_from parents top last
   levels_empty zero last few none =

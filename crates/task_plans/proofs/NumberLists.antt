@@ -9,7 +9,7 @@ use Rattle.vsm_model.specs.Passing.{is_bad_list}
 use Rattle.service_laws.proofs.Numbers.{IsPrivate, good_numbers}
 use Rattle.service_laws.proofs.TaskTables.{left_part, right_part}
 
--- what is bad behind a place is bad
+-- what is bad after a place is bad
 bad_behind : (k : ℕ) (xs : List ℕ) → is_bad_list (drop k xs) ≡ true → is_bad_list xs ≡ true
 bad_behind zero xs e = e
 bad_behind (suc k) [] e = e
@@ -21,7 +21,7 @@ none_of_four false true c d p q r s = q
 none_of_four false false true d p q r s = r
 none_of_four false false false d p q r s = s
 
--- The number that is looked at behind k others, from the last one on, with those behind it.
+-- The number that is looked at after k others, from the last one on, with those that follow it.
 module _ (given shared : List ℕ) (m n k number : ℕ) (first : m ≡ length given) (second : n ≡ length shared) (below : k < m + n)
     (is : number ≡ get_or (given ++ shared) (m + n - 1 - k) 0) where
   abbrev both : List ℕ
@@ -64,7 +64,7 @@ module _ (given shared : List ℕ) (m n k number : ℕ) (first : m ≡ length gi
       (false_from_ne_true (nat_lt 127 number) (λ e. absurd (omega (arith, low, ltb-true 127 number e))))
       once fine
 
-  -- those that were seen are those behind, and the number is seen now
+  -- those that were seen are those that follow, and the number is seen now
   pub seen_here : (seen : List Bool) → number < length seen → ((n : ℕ) → n < 128 → get_or seen n false ≡ is_in behind n) →
       (n : ℕ) → n < 128 → get_or (set seen number true) n false ≡ is_in (drop (length both - (k + 1)) both) n
   seen_here seen small are n low =
@@ -78,7 +78,7 @@ module _ (given shared : List ℕ) (m n k number : ℕ) (first : m ≡ length gi
             ∙ ap (λ (ys : List ℕ). is_in ys n) (sym from_here)
       ]
 
--- behind the last number there is none
+-- no number follows the last one
 pub fine_behind_all : (xs : List ℕ) (n : ℕ) → length xs ≤ n → is_bad_list (drop n xs) ≡ false
 fine_behind_all xs n past = ap is_bad_list (drop_all n xs past)
 

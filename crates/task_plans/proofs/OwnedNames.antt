@@ -28,7 +28,7 @@ other : (p q : Subpool) → IsAnother p q → same_subpool p q ≡ false
 other p q another =
     false_from_ne_true (same_subpool p q) (λ same. both_ways (same_subpool q p) another (ap (same_subpool q) (same-is p q same) ∙ same-self q))
 
--- where who sees a subpool is a task, at a number of private storage
+-- if whatever sees a subpool is a task, at a number of private storage
 module _ (m : Subpools) (range : (task number : ℕ) → IsSome (m.sight task number) → (1 ≤ task) × (task ≤ 64) × (number ≤ 127)) (ended : List ℕ) where
   can_be : (p : Subpool) → is_there m p ≡ true → CanBe p
   can_be p there =

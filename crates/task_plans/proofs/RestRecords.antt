@@ -1,4 +1,4 @@
--- The records of an end that stand behind the turn.
+-- The records of an end that follow the turn.
 use Rattle.std.proofs.Common.{◌≡◌, ℕ, ◌≤◌, List, [], ◌∷◌, length, sym, subst, Result, OnErr}
 use Rattle.std.specs.List.{flat_map}
 use Rattle.vsm_model.specs.declared.replies.Reply.{Reply}
@@ -44,7 +44,7 @@ module _ (plan : EndPlan) where
   abbrev pub returned : StorageState → ℕ → List Record
   returned m code = set_records plan.next (m.tasks.words plan.next) ((15, code) ∷ [])
 
-  -- where one is returned, it's all of the registers
+  -- if one is returned, it's all of the registers
   pub register_room : (m : StorageState) (code : ℕ) → plan.reply ≡ Returned code → {n : ℕ} → length (registers m) ≤ n → length (returned m code) ≤ n
   register_room m code is {n} room =
       let P : Reply → Type 0 = λ reply. length (register_records (with_turn m plan.next) (end_registers reply)) ≤ n in

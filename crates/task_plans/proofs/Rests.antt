@@ -1,4 +1,4 @@
--- Lists that are read from the front: what comes next, and what is left.
+-- Lists that are read from the front: what is next, and what is left.
 use Rattle.std.proofs.Common.{◌≡◌, ℕ, suc, ◌+◌, ◌-◌, ◌<◌, Bool, true, List, [], ◌∷◌, drop, Some, None, zero, refl, ◌∙◌, ap, arith}
 use Rattle.std.specs.Prelude.{filter, slice_get, if◌then◌else◌}
 use Rattle.std.specs.List.{range_with_len}
@@ -10,7 +10,7 @@ module _ {A : Type 0} where
   pub passes_first : (f : A → Bool) (x : A) (xs : List A) → f x ≡ true → filter f (x ∷ xs) ≡ x ∷ filter f xs
   passes_first f x xs e = ap (λ b. if b then x ∷ filter f xs else filter f xs) e
 
-  -- behind an index is the element there, or nothing
+  -- from an index on the element there is first, or nothing is left
   pub drop_next : (xs : List A) (i : ℕ) (x : A) → slice_get xs i ≡ Some x → drop i xs ≡ x ∷ drop (suc i) xs
   drop_next xs i x at = drop-cons xs i x (slice_get_within xs i x at) ∙ ap (λ y. y ∷ drop (suc i) xs) (get_or_from_slice_get xs i x x at)
 

@@ -29,7 +29,7 @@ module _ (m : StorageState) (task number now : ℕ) (is : now ≡ m.tasks.curren
   pub share_new : (x y : Record) → None ≡ m.subpools.sight now number → x ≡ made number now → y ≡ shared number now task → share_records m task number ≡ x ∷ y ∷ []
   share_new x y unseen first second = of-now ∙ ap (sharing_records now task number) (sym unseen) ∙ (λ i. sym first i ∷ sym second i ∷ [])
 
--- The records of numbers, one behind the other: those of the numbers from k on are left.
+-- The records of numbers, one after the other: those of the numbers from k on are left.
 module _ (each : StorageState → ℕ → List Record) (p t : Parts) (a b : ChangeBuilder) (xs : List ℕ) (k : ℕ)
     (w : Leads p a (flat_map (each (state_of p)) xs) t b (flat_map (each (state_of p)) (drop k xs))) where
   pub each_done : length xs ≤ k → Pushes p a (flat_map (each (state_of p)) xs) t b

@@ -1,4 +1,4 @@
--- What tasks see from a place on, where the place moves on.
+-- What tasks see from a place on, as the place moves on.
 use Rattle.std.proofs.Common.{◌≡◌, ℕ, zero, suc, ◌+◌, ◌-◌, ◌<◌, ◌≤◌, inl, inr, Option, Some, None, IsSome, List, [], ◌∷◌, ◌++◌, length, get_or, drop, refl, sym, ◌∙◌, ap, subst, arith}
 use Rattle.std.specs.Prelude.{option_map}
 use Rattle.std.specs.List.{flat_map, filter_map, cons_option, range_with_len}
@@ -13,11 +13,11 @@ use Rattle.task_plans.specs.declared.sights.SightPlace.{SightPlace}
 use Rattle.task_plans.specs.Sights.{tasks_below, rows_from, rows_behind, seen_left, IsEnding}
 use Rattle.task_plans.proofs.Rests.{run_next}
 
--- the place of a number where so many tasks were asked
+-- the place of a number at which this many tasks were asked
 abbrev pub asked_for : ℕ → ℕ → SightPlace
 asked_for number asked = record { number = number; asked = asked }
 
--- above the last number that there is, nobody sees a subpool
+-- above the last possible number, nobody sees a subpool
 pub high_none : (f : ℕ → ℕ → Option ℕ) → ((task n : ℕ) → IsSome (f task n) → (1 ≤ task) × (task ≤ 64) × (n ≤ 127)) → (task n : ℕ) → 128 ≤ n → f task n ≡ None
 high_none f range task n high = go (f task n) refl where
   go : (o : Option ℕ) → f task n ≡ o → f task n ≡ None
@@ -75,7 +75,7 @@ module _ (m : StorageState) (top : ℕ) where
       ap (λ (rows : List SightRow). rows ++ flat_map (rows_at m.subpools those) (range_with_len (first + 1) len)) (none_at first those (λ task. none task first (omega arith)))
       ∙ none_behind len (first + 1) (λ task n more. none task n (omega (arith, more)))
 
-  -- from where no task sees one any more
+  -- from a number on at which no task sees one
   pub seen_done : (number asked : ℕ) → ((task n : ℕ) → number ≤ n → m.subpools.sight task n ≡ None) → seen_left m top (asked_for number asked) ≡ []
   seen_done number asked none =
       ap (λ (rows : List SightRow). rows ++ rows_behind m top number) (none_at number (drop asked those) (λ task. none task number (omega arith)))
@@ -91,7 +91,7 @@ module _ (m : StorageState) (top : ℕ) where
             ∙ sym (seen_done (number + 1) 0 (λ task n more. none task n (omega (arith, last, more))))
       ]
 
-  -- a number is passed where no other task that ends sees one
+  -- a number is passed if no other task that ends sees one
   pub seen_passes : (number asked : ℕ) → ((task n : ℕ) → 128 ≤ n → m.subpools.sight task n ≡ None) → rows_from m top (asked_for number asked) ≡ []
       → seen_left m top (asked_for number asked) ≡ seen_left m top (asked_for (number + 1) 0)
   seen_passes number asked none rest = ap (λ (rows : List SightRow). rows ++ rows_behind m top number) rest ∙ behind_is number none

@@ -1,4 +1,4 @@
--- One record comes, and then those that depend on the storage, whose state stays as it is.
+-- One record is added, and then those that depend on the storage, whose state stays as it is.
 use Rattle.std.proofs.Common.{◌≡◌, ℕ, suc, ◌+◌, ◌<◌, ◌≤◌, List, [], ◌∷◌, length, Result, OnOk, sym, subst, arith, OnErr}
 use Rattle.storage_changes.specs.declared.record.Record.{Record}
 use Rattle.storage_changes.specs.State.{StorageState}

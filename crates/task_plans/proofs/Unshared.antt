@@ -1,4 +1,4 @@
--- What tasks that end see at a number at which nobody shares: no other row goes with it.
+-- What tasks that end see at a number at which nobody shares: no other row is removed with it.
 use Rattle.std.proofs.Common.{◌≡◌, ℕ, ◌<◌, ◌≤◌, Bool, false, inl, inr, ◌&&◌, ◌==◌, not, Option, Some, None, IsSome, List, [], ◌∷◌, ◌++◌, length, length-append, refl, sym, ◌∙◌, ap, subst, arith, true≢false}
 use Rattle.std.specs.Prelude.{map, drop, option_map}
 use Rattle.std.specs.List.{flat_map, filter_map, cons_option}
@@ -21,7 +21,7 @@ module _ (m : StorageState) (top number : ℕ) (range : (task n : ℕ) → IsSom
   abbrev pub goes : List SightRow → List SightRow
   goes = flat_map (rows_with m.subpools ended)
 
-  -- who sees a subpool of the number owns it
+  -- a task that sees a subpool of the number owns it
   own_alone : (task owner : ℕ) → m.subpools.sight task number ≡ Some owner → owner ≡ task
   own_alone task owner at =
       let P : Option ℕ → Type 0 = λ o. IsSome o in
@@ -55,7 +55,7 @@ module _ (m : StorageState) (top number : ℕ) (range : (task n : ℕ) → IsSom
     go None at none = none
     go (Some owner) at none = ap (λ (rows : List SightRow). rows ++ goes (filter_map (row_at m.subpools number) ts)) (row_goes t owner at) ∙ none
 
-  -- from such a row on, as behind its number
+  -- from such a row on, the same as after its number
   module _ (place next : SightPlace) (p : Subpool) (task : ℕ) (is : seen_left m top place ≡ (p, task) ∷ seen_left m top next) (at : p.number ≡ number) (on : next.number ≡ number)
       (seen : m.subpools.sight task p.number ≡ Some p.owner) where
     pub goes_behind : goes (seen_left m top place) ≡ goes (rows_behind m top number)

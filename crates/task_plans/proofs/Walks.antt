@@ -1,4 +1,4 @@
--- Walks over the storage while a change of it is made: a place stays one, with what is left behind it.
+-- Walks over the storage while a change of it is made: a place stays one, with what is left after it.
 use Rattle.std.proofs.Common.{◌≡◌, ℕ, suc, ◌+◌, ◌<◌, ◌≤◌, Bool, true, false, List, [], ◌∷◌, ◌++◌, length, length-append, map, drop, Some, None, Result, Ok, Err, OnOk, refl, sym, ap, ◌∙◌, subst, arith, OnErr}
 use Rattle.std.specs.Prelude.{filter, slice_get, if◌then◌else◌}
 use Rattle.std.specs.List.{flat_map}
@@ -67,12 +67,12 @@ module _ (h : List SightRow → List Record) (top : ℕ) (s : Parts) (a : Change
       pub walk_more : (u : Parts) (c : ChangeBuilder) → Builds t b u c → Pushes t b added u c → Leads s a all u c (h (seen_left (state_of s) top next))
       walk_more u c more pushes = leads-more s t a b all (h (seen_left (state_of s) top place)) w u c added (h (seen_left (state_of s) top next)) front more pushes
 
--- fewer are left behind the next one
+-- fewer are left after the next one
 pub walk_less : (top : ℕ) (t u : Parts) (b c : ChangeBuilder) (place next : SightPlace) (x : SightRow) → seen_left (state_of t) top place ≡ x ∷ seen_left (state_of t) top next → Builds t b u c
     → length (seen_left (state_of u) top next) < length (seen_left (state_of t) top place)
 walk_less top t u b c place next x is more = omega (arith, ap length is, ap (λ (m : StorageState). length (seen_left m top next)) more.keeps.shows)
 
--- places among sharers, over elements that came beside the storage
+-- places among sharers, over elements that were taken next to the storage
 module _ (t u : Parts) (f g : ℕ → ℕ) (k : Keeps t u f g) (stand : Stand t) where
   same-subpools : u.subpools ≡ t.subpools
   same-subpools = ap (λ (z : Parts). z.subpools) k.same
@@ -85,7 +85,7 @@ module _ (t u : Parts) (f g : ℕ → ℕ) (k : Keeps t u f g) (stand : Stand t)
       let P : TheSubpools → Type 0 = λ q. sharers_left u.elements q place p ≡ sharers_left t.elements t.subpools place p in
       subst P (sym same-subpools) ((places_stay t.elements u.elements t.subpools stand.subpools its-kept).1 place p)
 
--- Of the records of those who share a subpool, those behind the place are left.
+-- Of the records of the tasks that share a subpool, those after the place are left.
 pub record SharersLead (h : List ℕ → List Record) (p : Subpool) (all : List ℕ) (s : Parts) (a : ChangeBuilder) (t : Parts) (b : ChangeBuilder) (place : SharerPlace) : Type 0 where
   pub leads : Leads s a (h all) t b (h (sharers_left t.elements t.subpools place p))
 
@@ -121,7 +121,7 @@ module _ (h : List ℕ → List Record) (p : Subpool) (all : List ℕ) (s : Part
           let k = sharers_kept t u _ _ builds.keeps w.leads.builds.building.ready.stands.storage next p in
           omega (arith, ap length k, ap length is)
 
--- Of the records of extents, those behind the place are left.
+-- Of the records of extents, those after the place are left.
 pub record ExtentsLead (all : List Run) (s : Parts) (a : ChangeBuilder) (t : Parts) (b : ChangeBuilder) (q : TheExtents) (place : RunPlace) : Type 0 where
   pub stand : IsExtents t.elements q
   pub runs : extents t.elements q ≡ all
@@ -130,7 +130,7 @@ pub record ExtentsLead (all : List Run) (s : Parts) (a : ChangeBuilder) (t : Par
   pub within : place_index place ≤ length all
   pub leads : Leads s a (unassigned_records all) t b (unassigned_records (drop (place_index place) all))
 
--- elements that came beside the storage leave its extents
+-- elements that were taken next to the storage leave its extents
 pub extents_over : (s t u : Parts) (f g : ℕ → ℕ) (q : TheExtents) → ((i : ℕ) → hold t i ≡ hold s i) → ((i : ℕ) → times i (Extents.owned t.elements q) ≤ hold s i) → IsExtents t.elements q → Keeps t u f g
     → IsExtents u.elements q × (extents u.elements q ≡ extents t.elements q) × ((i : ℕ) → times i (Extents.owned u.elements q) ≤ hold s i) × ((place : RunPlace) → IsPlace t.elements q place → IsPlace u.elements q place)
 extents_over s t u f g q held own stand k =
@@ -178,7 +178,7 @@ module _ (all : List Run) (s : Parts) (a : ChangeBuilder) (t : Parts) (b : Chang
               (Pages (record { run = run; assigned = false }) ∷ []) (unassigned_records (drop (place_index next) all)) onward builds pushes;
         }
 
--- the last records come, where they are not refused
+-- the last records are added, if they are not refused
 pub ok_follows : {E : Type 0} (s t u : Parts) (a b c : ChangeBuilder) (xs ys : List Record) (r : Result (Unit {0}) E) → Pushes s a xs t b → OnOk r (Pushes t b ys u c) → OnOk r (Pushes s a (xs ++ ys) u c)
 ok_follows s t u a b c xs ys (Ok x) p q = pushes-follow s t u a b c xs ys p q
 ok_follows s t u a b c xs ys (Err e) p q = tt
@@ -223,7 +223,7 @@ rows_first g f x xs = map-append g (f x) (flat_map f xs) ∙ ap (λ (z : List Si
 pub one_first : (g : ℕ → Record) (x : ℕ) (xs : List ℕ) → map g (x ∷ xs) ≡ map g (x ∷ []) ++ map g xs
 one_first g x xs = refl
 
--- the records of who shares a subpool, one for each
+-- the records of the tasks that share a subpool, one for each
 pub rows_are : (m : Subpools) (p : Subpool) → map unshared (sharer_rows m p) ≡ map (λ task. unshared (p, task)) (sharers m.sight p.number p.owner)
 rows_are m p = go (sharers m.sight p.number p.owner) where
   go : (ts : List ℕ) → map unshared (map (λ task. (p, task)) ts) ≡ map (λ task. unshared (p, task)) ts

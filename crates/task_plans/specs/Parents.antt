@@ -2,7 +2,7 @@
 use Rattle.std.specs.Prelude.{◌≡◌, ℕ, ◌==◌, nat_lt, if◌then◌else◌, List, Option, Some, None}
 use Rattle.std.specs.Prelude.{slice_index_or}
 
--- what stands for no task is 255
+-- 255 means no task
 abbrev pub present : ℕ → Option ℕ
 present v = if v == 255 then None else Some v
 

@@ -26,7 +26,7 @@ tasks_below m top = ending_tasks (ended_below m.tasks.parents top)
 abbrev pub rows_from : StorageState → ℕ → SightPlace → List SightRow
 rows_from m top place = filter_map (row_at m.subpools place.number) (drop place.asked (tasks_below m top))
 
--- those of the numbers behind this one
+-- those of the numbers after this one
 abbrev pub rows_behind : StorageState → ℕ → ℕ → List SightRow
 rows_behind m top number =
     flat_map (rows_at m.subpools (tasks_below m top)) (range_with_len (number + 1) (128 - (number + 1)))

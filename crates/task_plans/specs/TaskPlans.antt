@@ -1,4 +1,4 @@
--- What the plans of tasks come to on the plain machine. Assembler Services Reference, ATTACH and DETACH; Assembler
+-- What the plans of tasks lead to on the plain machine. Assembler Services Reference, ATTACH and DETACH; Assembler
 -- Services Guide, "Virtual storage management", "Subpool handling".
 use Rattle.std.specs.Prelude.{◌≡◌, ℕ, ◌+◌, ◌≤◌, Bool, true, unwrap_or, None, IsSome, List, [], ◌∷◌, ◌++◌, length}
 use Rattle.std.specs.Prelude.{Result, Ok, Err}
@@ -31,11 +31,11 @@ use Rattle.storage_swap.specs.Growth.{MakesElements}
 use Rattle.task_plans.specs.declared.attach.AttachPlan.{AttachPlan}
 use Rattle.task_plans.specs.declared.end.EndPlan.{EndPlan}
 
--- the numbers that an operand names, where its bytes are there
+-- the numbers that an operand names, if its bytes exist
 abbrev pub numbers : StorageState → Passed → List ℕ
 numbers m passed = unwrap_or (numbers_in (model_of m) passed) []
 
--- the change of a task that comes
+-- the change of a task that is attached
 abbrev pub attach_change : StorageState → AttachPlan → Change
 attach_change m plan =
     change_parking []
@@ -61,15 +61,15 @@ end_change m plan =
 abbrev pub parks_all : StorageState → ℕ → List Subpool
 parks_all m top = owned_by_these m.subpools (ended_below m.tasks.parents top)
 
--- the records of a subtree's end that stand behind the turn
+-- the records of a subtree's end that follow the turn
 abbrev pub rest_records : StorageState → EndPlan → List Record
 rest_records m plan =
     let ended = ended_below m.tasks.parents plan.top in
     unshared_records m.subpools ended ++ removed_records m.subpools ended ++ flat_map (ended_records m) ended
     ++ register_records (with_turn m plan.next) (end_registers plan.reply)
 
--- how many subpools a service on tasks gives and shares, and how many tasks, subpools, extents and rows of sight leave
--- by it
+-- how many subpools a service on tasks gives and shares, and how many tasks, subpools, extents and rows of sight it
+-- removes
 abbrev pub tasks_weight : StorageState → Service → ℕ
 tasks_weight m (attach a) = length (numbers m a.given) + length (numbers m a.shared)
 tasks_weight m (detach task) = weight_ended m.subpools (ended_below m.tasks.parents task)
@@ -81,7 +81,7 @@ abbrev pub parked_onto : Subpools → List Subpool → Subpools
 parked_onto m [] = m
 parked_onto m (p ∷ ps) = parked_onto (with_own m p true) ps
 
--- each can be, one behind the other
+-- each can be, one after the other
 abbrev pub CanPark : Subpools → List Subpool → Type 0
 CanPark m [] = Unit {0}
 CanPark m (p ∷ ps) =
@@ -97,24 +97,24 @@ pub record ParksAll (s : Parts) (a : ChangeBuilder) (names : List Subpool) (t : 
   pub live : live_count t.elements ≤ live_count s.elements + length names
   pub made : MakesElements s.elements t.elements (length names)
 
--- The bytes of both operands are there, and the task can come with what they name.
+-- The bytes of both operands exist, and the task can be attached with what they name.
 pub record CanBeAttached (m : StorageState) (plan : AttachPlan) : Type 0 where
   pub given : IsSome (numbers_in (model_of m) plan.attach.given)
   pub shared : IsSome (numbers_in (model_of m) plan.attach.shared)
   pub can : CanAttach (model_of m) plan.task (numbers m plan.attach.given) (numbers m plan.attach.shared)
 
--- The subtree can end, and it's then the turn of a task that stays.
+-- The subtree can end, and then it's the turn of a task that stays.
 pub record CanBeEnded (m : StorageState) (plan : EndPlan) : Type 0 where
   pub can : CanEnd (model_of m) (ended_below m.tasks.parents plan.top) plan.next
 
--- A task's coming was planned, with no more subpools than the service passes; or it's refused for this cause.
+-- The attaching of a task was planned, with no more subpools than the service passes; or it's refused for this cause.
 abbrev pub IsAttachPlanned : Settings → Bool → StorageState → Service → Result AttachPlan Cause → Type 0
 IsAttachPlanned settings names_full m x (Ok plan) =
     (∥ IsAccepted settings names_full m x (attach_change m plan) (Attached plan.task) ∥₁) × CanBeAttached m plan
     × (length (numbers m plan.attach.given) + length (numbers m plan.attach.shared) ≤ tasks_weight m x)
 IsAttachPlanned settings names_full m x (Err cause) = step settings names_full (model_of m) x ≡ Refused cause
 
--- The end of tasks was planned, by which no more leaves than by the service; or it's refused for this cause.
+-- The end of tasks was planned, which removes no more than the service does; or it's refused for this cause.
 abbrev pub IsEndPlanned : Settings → Bool → StorageState → Service → Result EndPlan Cause → Type 0
 IsEndPlanned settings names_full m x (Ok plan) =
     (∥ IsAccepted settings names_full m x (end_change m plan) plan.reply ∥₁) × CanBeEnded m plan

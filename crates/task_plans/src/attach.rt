@@ -1,4 +1,4 @@
-//! Plans of tasks that come.
+//! Plans of tasks that are attached.
 
 ghost use Rattle.std.specs.Prelude.{◌≡◌, ℕ, ◌+◌, ◌≤◌, [], ◌∷◌, Bool, List, length, All, IsOk, OnOk, OnErr, IfOk, IfErr};
 ghost use Rattle.vsm_elements.specs.Store.{live_count};
@@ -24,7 +24,7 @@ use storage_swap::{Change, Parts};
 use subpool_storage::laws::cell_pools_are_named;
 use vsm_model::{Attach, Cause};
 
-/// A task that comes, below the current one. Nothing is changed yet.
+/// A task to be attached below the current one. Nothing is changed yet.
 #[derive(Clone, Copy)]
 pub struct AttachPlan {
     /// The number of the task, from 1 to 64.
@@ -35,11 +35,11 @@ pub struct AttachPlan {
 
 /// A plan for a new task (*Assembler Services Reference*, ATTACH): it gets the least free number, shares subpool 0 or
 /// has one of its own, is given subpools with their cell pools, and shares others. Register 15 gets 0 and register 1
-/// its number. Reads alone, and takes no memory.
+/// its number. Only reads, and takes no memory.
 ///
-/// The causes that refuse it, in order: `NotAssigned` where a byte of a list doesn't lie in an assigned page, that of
-/// the subpools that are given first; `BadList` where a number is 0, above 127 or named twice; `NotOwner` where a
-/// subpool that is given is another task's; and `TooManyTasks`.
+/// The causes that refuse it, in order: `NotAssigned` if a byte of a list doesn't lie in an assigned page, that of the
+/// subpools that are given first; `BadList` if a number is 0, above 127 or named twice; `NotOwner` if a subpool that is
+/// given is another task's; and `TooManyTasks`.
 #[inline(never)]
 pub fn plan_attach(storage: &Parts, request: Attach) -> Result<AttachPlan, Cause>
     requires stands { Stand storage.now }
@@ -70,9 +70,9 @@ impl AttachPlan {
     /// The change: a record for the task, one or two for each number that is given or shared, and for subpool 0, one
     /// for register 1, and one for register 15 if it isn't 0. The state of the storage stays as it is.
     ///
-    /// `AllocError` where memory is refused: what was made before that stays, as spare elements. Where so many elements
-    /// are spare as it has records and blank elements, it takes no memory. It uses no more of them. At most a block of
-    /// elements is made beyond these, whatever the answer, and no frame.
+    /// `AllocError` if memory is refused: what was made before that stays, as spare elements. If as many elements are
+    /// spare as it has records and blank elements, it takes no memory. It uses at most that many. At most a block of
+    /// elements is made beyond these, whatever the result, and no frame.
     pub fn reserve(self, storage: &mut Parts) -> Result<Change, AllocError>
         requires stands { Stand storage.old }
         requires once { (i : ℕ) → hold storage.old i ≤ 1 }
@@ -102,7 +102,7 @@ impl AttachPlan {
         }
     }
 
-    // The records of the change, in their order. Answers how many blank elements it has.
+    // The records of the change, in their order. Returns how many blank elements it has.
     fn push_records(self, storage: &mut Parts, builder: &mut Builder) -> Result<u32, AllocError>
         requires building { IsBuilding storage.old builder.old }
         requires can { CanBeAttached (state_of storage.old) self }

@@ -48,11 +48,11 @@ pub struct EndPlan {
 }
 
 /// A plan for the end of a subtask of the current task, with all tasks below it (*Assembler Services Reference*,
-/// DETACH). The subpools that they own are released and are gone; those that they share stay. Register 15 gets 0. Reads
-/// alone, and takes no memory.
+/// DETACH). The subpools that they own are released and are gone; those that they share stay. Register 15 gets 0. Only
+/// reads, and takes no memory.
 ///
-/// The causes that refuse it, in order: `NoTask` where there is no such task, and `NotParent` where the current task
-/// isn't its parent.
+/// The causes that refuse it, in order: `NoTask` if no such task exists, and `NotParent` if the current task isn't its
+/// parent.
 #[inline(never)]
 pub fn plan_detach(storage: &Parts, task: u32) -> Result<EndPlan, Cause>
     requires stands { Stand storage.now }
@@ -81,7 +81,7 @@ pub fn plan_detach(storage: &Parts, task: u32) -> Result<EndPlan, Cause>
 }
 
 /// A plan for the end of the current task, the bench's own ENDTASK: the subpools that it owns are released and are
-/// gone, those that it shares stay, and its parent makes the requests. Reads alone, and takes no memory.
+/// gone, those that it shares stay, and its parent makes the requests. Only reads, and takes no memory.
 ///
 /// The causes that refuse it, in order: `HasSubtask`, and `NotParent` for task 1, which has no parent.
 #[inline(never)]
@@ -120,9 +120,9 @@ impl EndPlan {
     /// sharers, and an empty one that is parked under its name; one record for each subpool that they share; and
     /// five for each task. The state of the storage stays as it is.
     ///
-    /// `AllocError` where memory is refused: what was made before that stays, as spare elements. Where so many elements
-    /// are spare as it parks subpools and has records and blank elements, it takes no memory. It uses no more of them.
-    /// At most a block of elements is made beyond these, whatever the answer, and no frame.
+    /// `AllocError` if memory is refused: what was made before that stays, as spare elements. If as many elements are
+    /// spare as it parks subpools and has records and blank elements, it takes no memory. It uses at most that many. At
+    /// most a block of elements is made beyond these, whatever the result, and no frame.
     pub fn reserve(self, storage: &mut Parts) -> Result<Change, AllocError>
         requires stands { Stand storage.old }
         requires once { (i : ℕ) → hold storage.old i ≤ 1 }
@@ -156,7 +156,7 @@ impl EndPlan {
         }
     }
 
-    // The records of the change, in their order, and the subpools that it parks. Answers how many blank elements it
+    // The records of the change, in their order, and the subpools that it parks. Returns how many blank elements it
     // has.
     fn push_records(self, storage: &mut Parts, builder: &mut Builder) -> Result<u32, AllocError>
         requires building { IsBuilding storage.old builder.old }
@@ -198,7 +198,7 @@ impl EndPlan {
         Ok(blanks)
     }
 
-    // The records behind the turn.
+    // The records after the turn.
     fn push_rest(self, storage: &mut Parts, builder: &mut Builder, ending: &EndOfTasks) -> Pushed
         requires building { IsBuilding storage.old builder.old }
         requires ending { IsEnding (state_of storage.old) ending.now }
@@ -243,7 +243,7 @@ fn park_owned(storage: &mut Parts, builder: &mut Builder, ending: &EndOfTasks) -
     Ok(())
 }
 
-// One is parked under this name, where the task owns what it sees.
+// One is parked under this name, if the task owns what it sees.
 fn park_one(storage: &mut Parts, builder: &mut Builder, seen: SubpoolInSight) -> Pushed
     requires building { IsBuilding storage.old builder.old }
     requires can { CanPark (parked_in storage.old builder.old) (owned_in (row_of seen ∷ [])) }
@@ -260,8 +260,7 @@ fn park_one(storage: &mut Parts, builder: &mut Builder, seen: SubpoolInSight) ->
     Ok(())
 }
 
-// The storage of each subpool that a task of the subtree owns goes over into the change, and its pages become
-// unassigned.
+// The storage of each subpool that a task of the subtree owns moves into the change, and its pages become unassigned.
 fn push_released(storage: &mut Parts, builder: &mut Builder, ending: &EndOfTasks) -> Pushed
     requires building { IsBuilding storage.old builder.old }
     requires ending { IsEnding (state_of storage.old) ending.now }
@@ -281,7 +280,7 @@ fn push_released(storage: &mut Parts, builder: &mut Builder, ending: &EndOfTasks
     Ok(())
 }
 
-// So does that of one, where the task owns what it sees.
+// So does that of one, if the task owns what it sees.
 fn push_emptied(storage: &mut Parts, builder: &mut Builder, seen: SubpoolInSight) -> Pushed
     requires building { IsBuilding storage.old builder.old }
     ensures builds { Builds storage.old builder.old storage.new builder.new }
@@ -324,7 +323,7 @@ fn push_extents(storage: &mut Parts, builder: &mut Builder, subpool: Subpool) ->
     Ok(())
 }
 
-// Tasks of the subtree see no subpool of others any more, nor others theirs. Of each number it's asked once whether
+// Tasks of the subtree no longer see subpools of others, nor others theirs. Each number is checked once for whether
 // anybody shares there; what they see at one at which nobody does is passed at once.
 fn push_unshared(storage: &mut Parts, builder: &mut Builder, ending: &EndOfTasks) -> Pushed
     requires building { IsBuilding storage.old builder.old }
@@ -353,8 +352,8 @@ fn push_unshared(storage: &mut Parts, builder: &mut Builder, ending: &EndOfTasks
     Ok(())
 }
 
-// Where the task owns what it sees, all who share that see it no more; where the owner stays, the task doesn't. Where
-// the owner ends too, the row goes with the owner's.
+// If the task owns what it sees, all tasks that share that no longer see it; otherwise, if the owner stays, the task no
+// longer sees it. If the owner ends too, the row is removed with the owner's.
 fn push_unseen(
     storage: &mut Parts,
     builder: &mut Builder,
@@ -382,7 +381,7 @@ fn push_unseen(
     builder.push(storage, unseen(seen.subpool, seen.task))
 }
 
-// Those who share the subpool see it no more.
+// The tasks that share the subpool no longer see it.
 fn push_sharers(storage: &mut Parts, builder: &mut Builder, subpool: Subpool) -> Pushed
     requires building { IsBuilding storage.old builder.old }
     ensures builds { Builds storage.old builder.old storage.new builder.new }
@@ -404,7 +403,7 @@ fn push_sharers(storage: &mut Parts, builder: &mut Builder, subpool: Subpool) ->
     Ok(())
 }
 
-// The record by which a task sees a subpool no more.
+// The record by which a task no longer sees a subpool.
 fn unseen(subpool: Subpool, task: u8) -> Record
     ensures { result ≡ unshared (subpool, task) }
 {
@@ -435,7 +434,7 @@ fn push_removed(storage: &mut Parts, builder: &mut Builder, ending: &EndOfTasks)
     Ok(())
 }
 
-// So is one, where the task owns what it sees.
+// So is one, if the task owns what it sees.
 fn push_gone(storage: &mut Parts, builder: &mut Builder, seen: SubpoolInSight) -> Pushed
     requires building { IsBuilding storage.old builder.old }
     ensures builds { Builds storage.old builder.old storage.new builder.new }

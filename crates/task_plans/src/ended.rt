@@ -20,10 +20,10 @@ use vsm_model::geometry::TASKS_END;
 /// The most steps from a task of the 64 to the first.
 const MOST_STEPS: u8 = 63;
 
-/// What stands for no task.
+/// The value for no task.
 const NOBODY: u8 = 255;
 
-/// The parent of each task, read once: 0 of the first, and `NOBODY` where there is no such task.
+/// The parent of each task, read once: 0 for the first, and `NOBODY` if no such task exists.
 #[derive(Clone, Copy)]
 pub(crate) struct Parents {
     of: [u8; 65],
@@ -59,7 +59,7 @@ pub(crate) fn read_parents(storage: &Parts) -> Parents
     Parents { of }
 }
 
-// The parent of a task; `None` where there is no such task.
+// The parent of a task; `None` if no such task exists.
 fn parent_in(storage: &Parts, parents: &Parents, task: u8) -> Option<u8>
     requires { AreParents parents.now.of (state_of storage.now).tasks.parents }
     ensures { result ≡ (state_of storage.now).tasks.parents task }
@@ -72,7 +72,7 @@ fn parent_in(storage: &Parts, parents: &Parents, task: u8) -> Option<u8>
     if parent == NOBODY { None } else { Some(parent) }
 }
 
-// Whether the task is just so many steps below the other.
+// Whether the task is exactly this many steps below the other.
 fn is_below_by(storage: &Parts, tree: &Tree, steps: u8, task: u8) -> bool
     requires { AreParents tree.now.parents.of (state_of storage.now).tasks.parents }
     ensures { result ≡ is_below_by (state_of storage.now).tasks.parents tree.now.top steps task }
@@ -87,7 +87,7 @@ fn is_below_by(storage: &Parts, tree: &Tree, steps: u8, task: u8) -> bool
     above == tree.top
 }
 
-// The most steps, up to 63, by which the task is below the top; 0 where it isn't below it.
+// The most steps, up to 63, by which the task is below the top; 0 if it isn't below it.
 fn most_steps_below(storage: &Parts, tree: &Tree, task: u8) -> u8
     requires { AreParents tree.now.parents.of (state_of storage.now).tasks.parents }
     ensures range { result ≤ 63 }
@@ -200,7 +200,7 @@ fn push_ended_task(storage: &mut Parts, builder: &mut Builder, task: u8) -> Push
     builder.push(storage, gone)
 }
 
-// The task is gone, where it is so many steps below the other.
+// The task is gone, if it is this many steps below the other.
 fn push_ended_at(
     storage: &mut Parts,
     builder: &mut Builder,
@@ -227,7 +227,7 @@ fn push_ended_at(
     Ok(())
 }
 
-// The tasks that are so many steps below the other are gone.
+// The tasks that are this many steps below the other are gone.
 fn push_ended_level(storage: &mut Parts, builder: &mut Builder, tree: &Tree, steps: u8) -> Pushed
     requires building { IsBuilding storage.old builder.old }
     requires tree { AreParents tree.now.parents.of (state_of storage.old).tasks.parents }

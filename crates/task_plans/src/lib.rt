@@ -1,4 +1,4 @@
-//! Plans of tasks that come, make requests and end, and the records of each.
+//! Plans of tasks that are attached, make requests and end, and the records of each.
 #![tactic(auto)]
 
 mod attach;
@@ -19,5 +19,5 @@ use storage_swap::ChangeBuilder;
 /// A change that is being made, record by record.
 pub(crate) type Builder = ChangeBuilder;
 
-/// What it comes to that records are pushed: nothing, or that memory is refused.
+/// The outcome of pushing records: nothing, or memory is refused.
 pub(crate) type Pushed = Result<(), AllocError>;

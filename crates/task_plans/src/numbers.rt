@@ -19,7 +19,7 @@ pub(crate) const NUMBERS_MOST: usize = 255;
 
 pub(crate) type Numbers = ArrayVec<u32, NUMBERS_MOST>;
 
-/// The numbers that the operand names, or `NotAssigned` where a byte of its list doesn't lie in an assigned page.
+/// The numbers that the operand names, or `NotAssigned` if a byte of its list doesn't lie in an assigned page.
 pub(crate) fn numbers_of(storage: &Parts, passed: Passed) -> Result<Numbers, Cause>
     requires frameless { IsFrameless storage.now }
     ensures ok { IfOk result (λ numbers. numbers_in (model_of (state_of storage.now)) passed ≡ Some numbers.items) }
@@ -37,7 +37,7 @@ pub(crate) fn numbers_of(storage: &Parts, passed: Passed) -> Result<Numbers, Cau
     }
 }
 
-/// The numbers that the operand names, and none where a byte of its list doesn't lie in an assigned page.
+/// The numbers that the operand names, and none if a byte of its list doesn't lie in an assigned page.
 pub(crate) fn numbers_or_none(storage: &Parts, passed: Passed) -> Numbers
     requires frameless { IsFrameless storage.now }
     ensures { result.items ≡ numbers (state_of storage.now) passed }
@@ -48,7 +48,7 @@ pub(crate) fn numbers_or_none(storage: &Parts, passed: Passed) -> Numbers
     }
 }
 
-// The byte at the address, or `NotAssigned` where it doesn't lie in an assigned page.
+// The byte at the address, or `NotAssigned` if it doesn't lie in an assigned page.
 fn byte_at(storage: &Parts, address: u32) -> Result<u8, Cause>
     requires frameless { IsFrameless storage.now }
     ensures ok { IfOk result (λ byte. (model_of (state_of storage.now)).bytes address ≡ Some byte) }
@@ -87,7 +87,7 @@ fn listed_at(storage: &Parts, address: u32) -> Result<Numbers, Cause>
     Ok(numbers_from(&list[1..]))
 }
 
-// The number at the place of both lists, the one behind the other.
+// The number at the place of both lists, one after the other.
 fn number_at(given: &Numbers, shared: &Numbers, place: usize) -> u32
     requires { place < array_vec_len given.now + array_vec_len shared.now }
     ensures { result ≡ slice_index (given.now.items ++ shared.now.items) place }
@@ -99,8 +99,7 @@ fn number_at(given: &Numbers, shared: &Numbers, place: usize) -> u32
     }
 }
 
-/// Whether a number of both lists together is 0 or above 127, or stands there twice. They are looked at from the last
-/// one on.
+/// Whether a number of both lists together is 0 or above 127, or occurs twice. They are looked at from the last one on.
 pub(crate) fn has_bad_number(given: &Numbers, shared: &Numbers) -> bool
     ensures { result ≡ is_bad_list (given.now.items ++ shared.now.items) }
 {

@@ -19,7 +19,7 @@ use storage_swap::Parts;
 use vsm_model::geometry::LAST_TASK;
 use vsm_model::{Cause, Reply};
 
-// The plan of a turn to a task that is there.
+// The plan of a turn to a task that exists.
 fn turn_to(task: u8) -> StoragePlan
     ensures emptied { result.emptied ≡ None }
     ensures records { result.records.items ≡ turn_records task }
@@ -38,8 +38,8 @@ fn turn_to(task: u8) -> StoragePlan
     }
 }
 
-/// A plan by which another task makes the requests, the bench's own RUN. No register is set. Reads alone, and takes no
-/// memory. Refused with `NoTask` where there is no such task.
+/// A plan by which another task makes the requests, the bench's own RUN. No register is set. Only reads, and takes no
+/// memory. Refused with `NoTask` if no such task exists.
 #[inline(never)]
 pub fn plan_run(storage: &Parts, task: u32) -> Result<StoragePlan, Cause>
     requires stands { Stand storage.now }

@@ -1,4 +1,4 @@
-//! What the tasks of a subtree see, one subpool behind the other, each found by a look-up of its number and task.
+//! What the tasks of a subtree see, one subpool after the other, each found by a look-up of its number and task.
 
 ghost use Rattle.std.specs.Prelude.{◌≡◌, ℕ, [], ◌∷◌, Some, IfNone, IfSome};
 ghost use Rattle.storage_swap.specs.Storage.{state_of, Stand};
@@ -34,7 +34,7 @@ impl SubpoolInSight {
     }
 }
 
-/// The place in front of all that tasks of a subtree see.
+/// The place before all that tasks of a subtree see.
 pub(crate) fn first_seen() -> SightPlace
     ensures { (m : StorageState) (top : ℕ)
         → seen_left m top result ≡ seen_by_these m.subpools (ended_below m.tasks.parents top) }
@@ -45,7 +45,7 @@ pub(crate) fn first_seen() -> SightPlace
     }
 }
 
-/// The place behind all that they see at the number.
+/// The place after all that they see at the number.
 pub(crate) fn behind_number(ending: &EndOfTasks, number: u8) -> SightPlace
     ensures { (m : StorageState) → IsEnding m ending.now
         → seen_left m ending.now.tree.top result ≡ rows_behind m ending.now.tree.top number }
@@ -56,7 +56,7 @@ pub(crate) fn behind_number(ending: &EndOfTasks, number: u8) -> SightPlace
     }
 }
 
-// The next of the tasks that end which sees a subpool at the number, where so many were asked; `None` where no other
+// The next of the tasks that end which sees a subpool at the number, after this many were asked; `None` if no other
 // does.
 fn seen_at(
     storage: &Parts,
@@ -90,8 +90,8 @@ fn seen_at(
     None
 }
 
-/// The next subpool that a task of the subtree sees from a place on, by number and then by task, and the place behind
-/// it; `None` where they see no more.
+/// The next subpool that a task of the subtree sees from a place on, by number and then by task, and the place after
+/// it; `None` if they see no other.
 pub(crate) fn next_seen(
     storage: &Parts,
     ending: &EndOfTasks,

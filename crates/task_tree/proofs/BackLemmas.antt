@@ -51,7 +51,7 @@ root_is_above s q top h there ne below =
       no_zero : {t : ℕ} → 1 ≤ t → t ≡ 0 → ⊥
       no_zero p e = omega (arith, p, e)
 
--- who isn't there isn't below
+-- a task that doesn't exist isn't below
 below_there : (f : Parents) (top t : ℕ) → IsSome (f top) → IsBelow f top t → f t ≡ None → ⊥
 below_there f top t there below none = not_both (not (t == t)) (below (λ x. not (x == t)) (other top there) (λ child parent e h. other child (some_of (f child) parent e))) (ap not (eqb_refl t)) where
   other : (x : ℕ) → IsSome (f x) → not (x == t) ≡ true

@@ -1,4 +1,4 @@
--- Trees without cycles. That there are depths is truncated: it says that there are some, and not which.
+-- Trees without cycles. That depths exist is truncated: it says that some exist, and not which.
 use Rattle.std.proofs.Common.{◌≡◌, ◌≢◌, ℕ, zero, suc, ◌+◌, ◌<◌, ◌≤◌, leb, true, false, ◌==◌, Option, Some, None, IsSome, is_some, inl, inr, refl, sym, ap, ◌∙◌, subst, arith}
 use Rattle.std.specs.Prelude.{if◌then◌else◌}
 use Rattle.std.proofs.Math.Logic.{∥∥₁_elim, ∥∥₁_map, ∥∥₁_map₂}
@@ -22,7 +22,7 @@ parent_of : (o : Option ℕ) → IsSome o → (p : ℕ) × (o ≡ Some p)
 parent_of None h = absurd (not_both false h refl)
 parent_of (Some p) h = (p, refl)
 
--- who is below another is as deep as that one, or deeper
+-- a task that is below another is as deep as that one, or deeper
 deeper : (f : Parents) (d : HasDepths f) (top t : ℕ) → IsBelow f top t → d.0 top ≤ d.0 t
 deeper f d top t below = leb-true (d.0 top) (d.0 t) (below (λ (x : ℕ). leb (d.0 top) (d.0 x)) (le-leb (d.0 top) (d.0 top) (omega arith)) closed) where
   closed : (child parent : ℕ) → f child ≡ Some parent → leb (d.0 top) (d.0 parent) ≡ true → leb (d.0 top) (d.0 child) ≡ true
@@ -76,7 +76,7 @@ depths_same f g same d = depths_part f g (λ t p e. sym (same t) ∙ e) d
 pub depths_none : (f : Parents) → ((t : ℕ) → f t ≡ None) → ∥ HasDepths f ∥₁
 depths_none f none = ∣ ((λ x. x), λ t p e. absurd (none_some (f t) p (none t) e)) ∣₁
 
--- the first task alone
+-- only the first task
 first_depths : (f : Parents) → ((t : ℕ) → f t ≡ (if t == 1 then Some 0 else None)) → HasDepths f
 first_depths f first = (
   (λ x. x),

@@ -1,4 +1,4 @@
--- A task without subtasks that is taken out.
+-- A task without subtasks that is removed.
 use Rattle.std.proofs.Common.{◌≡◌, ◌≢◌, ℕ, ◌<◌, ◌≤◌, Bool, true, false, ◌==◌, ◌&&◌, nat_lt, inl, inr, Option, Some, None, IsSome, is_some, refl, sym, ap, ◌∙◌, subst, arith}
 use Rattle.std.specs.Prelude.{if◌then◌else◌, option_map}
 use Rattle.std.proofs.lemmas.Bool.{cases_lt, cond-false, cond-true}
@@ -12,7 +12,7 @@ use Rattle.task_tree.proofs.ParkLemmas.{IsSplit, below_four, parent_some, rest_t
 module _ (f rest : Rows) (task : ℕ) (tree : IsTree f) (there : IsSome (parents_in f task)) (other : task ≢ 1)
     (childless : (t : ℕ) → parents_in f t ≢ Some task)
     (left : (a b : ℕ) → rest a b ≡ (if (a == task) && nat_lt b 4 then None else f a b)) where
-  -- what is taken out
+  -- what is removed
   abbrev out : Rows
   out a b = if a == task then f a b else None
 
@@ -61,7 +61,7 @@ module _ (f rest : Rows) (task : ℕ) (tree : IsTree f) (there : IsSome (parents
     | inr e ↦ ap (option_map (λ (r : Row). word r.words 2)) (away t 0 e) ∙ sym (cond-false (t == task) None (parents_in f t) e)
   ]
 
-  -- whose parent was there has it still
+  -- a task whose parent existed still has it
   homes : (t p : ℕ) → parents_in rest t ≡ Some p → p ≢ 0 → IsSome (parents_in rest p)
   homes t p e ne = elim (either (t == task)) [
     | inl q ↦ absurd (none_some (parents_in rest t) p (ended_parents t ∙ cond-true (t == task) None (parents_in f t) q) e)

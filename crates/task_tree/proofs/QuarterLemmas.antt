@@ -25,15 +25,15 @@ four_quarters f task a b c d p q r s k l = go k l where
   go (suc (suc (suc zero))) h = s
   go (suc (suc (suc (suc k)))) h = absurd (omega arith)
 
--- a task whose rows are as they were has its ids
+-- a task whose rows are unchanged has its ids
 pub same_quarters : (f g : Rows) (task : ℕ) (ids : List ℕ) → ((k : ℕ) → g task k ≡ f task k) → AreQuarters f task ids → AreQuarters g task ids
 same_quarters f g task ids same h k l = ap id_in (same k) ∙ h k l
 
--- who is there isn't who is not
+-- a task that exists isn't one that doesn't
 pub other_task : (f : Rows) (t n : ℕ) → IsSome (parents_in f t) → parents_in f n ≡ None → t ≢ n
 other_task f t n there none e = not_both (is_some (parents_in f t)) there (ap is_some (ap (parents_in f) e ∙ none))
 
--- a row that comes is none of another task's
+-- writing a row leaves the rows of other tasks
 pub others_stay : (f g : Rows) (id task : ℕ) (words : List ℕ) → word words 0 ≡ task
     → ((a b : ℕ) → g a b ≡ (if is_under a b words then Some (record { id = id; words = words }) else f a b))
     → (a b : ℕ) → a ≢ task → g a b ≡ f a b

@@ -1,5 +1,5 @@
--- How tasks stand in rows: four for a task, each with its parent and a quarter of its registers. No public clause cites
--- this module.
+-- Tasks as rows: four for a task, each with its parent and a quarter of its registers. No public clause cites this
+-- module.
 use Rattle.std.specs.Prelude.{◌≡◌, ◌≢◌, ℕ, ◌+◌, ◌/◌, ◌%◌, ◌<◌, ◌≤◌, Option, Some, None, IsSome, option_map, List, []}
 use Rattle.std.specs.Prelude.{◌∷◌, slice_index_or}
 use Rattle.vsm_elements.specs.Store.{Store}
@@ -24,13 +24,13 @@ register_in (Some r) k = slice_index_or r.words (3 + k) 0
 abbrev pub words_in : Rows → Words
 words_in f t r = register_in (f t (r / 4)) (r % 4)
 
--- each task that is there has its four rows
+-- each task that exists has its four rows
 pub record AreTasks (f : Rows) : Type 0 where
   pub ranges : (t k : ℕ) → IsSome (f t k) → (1 ≤ t) × (t ≤ 64) × (k < 4)
   pub whole : (t k : ℕ) → k < 4 → IsSome (f t 0) → IsSome (f t k)
   pub first : (t k : ℕ) → IsSome (f t k) → IsSome (f t 0)
 
--- task 1 is there and is the only one without a parent, parents are there, and there is no cycle
+-- task 1 exists and is the only one without a parent, parents exist, and there is no cycle
 pub record IsTree (f : Rows) : Type 0 where
   pub tasks : AreTasks f
   pub root : parents_in f 1 ≡ Some 0

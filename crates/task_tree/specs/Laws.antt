@@ -9,8 +9,8 @@ use Rattle.task_tree.specs.declared.parked.ParkedTasks.{ParkedTasks}
 use Rattle.task_tree.specs.TaskTree.{parent, word, current, owned, IsTaskTree, parked_parent, parked_word}
 use Rattle.task_tree.specs.TaskTree.{parked_owned, IsParkedTasks}
 
--- a tree owns its elements; tasks are from 1 to 64, task 1 is the root, each other has a parent that is there, and
--- so is the current task
+-- a tree owns its elements; tasks are from 1 to 64, task 1 is the root, each other has a parent that exists, and the
+-- current task exists
 abbrev pub TreesStand : Type 0
 TreesStand = (s : Store) (q : TaskTree) → IsTaskTree s q
     → Owns s (owned s q)
@@ -23,19 +23,19 @@ abbrev pub RootIsAbove : Type 0
 RootIsAbove = (s : Store) (q : TaskTree) (top : ℕ) → IsTaskTree s q → IsSome (parent s q top) → top ≢ 1
     → ¬ IsBelow (parent s q) top 1
 
--- a task is not below what is below it: neither is its parent, nor who is above that
+-- a task is not below what is below it: neither is its parent, nor any task above that
 abbrev pub AParentIsNotBelowItsSubtask : Type 0
 AParentIsNotBelowItsSubtask = (s : Store) (q : TaskTree) (task under : ℕ) → IsTaskTree s q
     → parent s q task ≡ Some under
     → ¬ IsBelow (parent s q) task under
     × ((above : ℕ) → IsBelow (parent s q) above under → ¬ IsBelow (parent s q) task above)
 
--- each task that is there is below task 1: its way up ends there
+-- each task that exists is below task 1: its way up ends there
 abbrev pub EachTaskIsBelowTheFirst : Type 0
 EachTaskIsBelowTheFirst = (s : Store) (q : TaskTree) (task : ℕ) → IsTaskTree s q → IsSome (parent s q task)
     → IsBelow (parent s q) 1 task
 
--- what was taken out can be put back beside what was left, and is then what was there
+-- what was removed can be put back with what was left, which gives what was there before
 abbrev pub PutBack : Type 0
 PutBack = (f rest out : Parents) (words rest_words out_words : Words) (top : ℕ)
     → IsSome (f top) → ¬ IsBelow f top 1 → ((t p : ℕ) → f t ≡ Some p → t ≢ 1 → IsSome (f p))
@@ -45,7 +45,7 @@ PutBack = (f rest out : Parents) (words rest_words out_words : Words) (top : ℕ
     × ((t : ℕ) → either_of (out t) (rest t) ≡ f t)
     × ((t r : ℕ) → r < 16 → (if is_some (out t) then out_words t r else rest_words t r) ≡ words t r)
 
--- a tree whose elements are as they were is as it was
+-- a tree whose elements are unchanged is unchanged
 abbrev pub TreesKept : Type 0
 TreesKept = (s t : Store) (q : TaskTree) → IsTaskTree s q
     → ((id : ℕ) → among id (owned s q) ≡ true → at t id ≡ at s id)
@@ -59,7 +59,7 @@ ParkedKept = (s t : Store) (p : ParkedTasks) → IsParkedTasks s p
     → IsParkedTasks t p × ((task : ℕ) → parked_parent t p task ≡ parked_parent s p task)
     × ((task r : ℕ) → parked_word t p task r ≡ parked_word s p task r) × (parked_owned t p ≡ parked_owned s p)
 
--- a tree that stands apart from what a call owns is as it was
+-- a tree that is apart from what a call owns is unchanged
 abbrev pub TreesStay : Type 0
 TreesStay = (s t : Store) (had has : List ℕ) (q : TaskTree) → Leaves s t had has → IsTaskTree s q
     → Apart had (owned s q)

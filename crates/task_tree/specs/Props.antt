@@ -1,4 +1,4 @@
--- That tasks stand has one proof at most.
+-- That elements hold tasks has at most one proof.
 use Rattle.std.specs.Prelude.{ℕ, List}
 use Rattle.std.proofs.Props.{props}
 use Rattle.vsm_elements.specs.Store.{Store}

@@ -9,11 +9,11 @@ use Rattle.task_tree.specs.declared.parked.ParkedTasks.{ParkedTasks}
 use Rattle.task_tree.specs.Tasks.{Parents, Words}
 use Rattle.task_tree.specs.Kept.{parents_in, words_in, IsKept, AreParked}
 
--- the parent of a task that is there
+-- the parent of a task that exists
 unfoldable pub parent : Store → TaskTree → Parents
 parent s q = parents_in (row s q.rows)
 
--- the word of a register from 0 to 15, and 0 where there is no task
+-- the word of a register from 0 to 15, and 0 if no task exists
 unfoldable pub word : Store → TaskTree → Words
 word s q = words_in (row s q.rows)
 
@@ -27,7 +27,7 @@ owned s q = RowTable.owned s q.rows
 unfoldable pub IsTaskTree : Store → TaskTree → Type 0
 IsTaskTree s q = IsKept s q.rows q.current q.quarters
 
--- tasks that were taken out
+-- tasks that were removed
 
 unfoldable pub parked_parent : Store → ParkedTasks → Parents
 parked_parent s p = parents_in (row s p.rows)

@@ -1,4 +1,4 @@
--- Trees of tasks as functions: the parent of each task that is there, and the words of its registers.
+-- Trees of tasks as functions: the parent of each task that exists, and the words of its registers.
 use Rattle.std.specs.Prelude.{◌≡◌, ℕ, ◌<◌, ◌≤◌, Bool, true, Option, Some, None, IsSome, List, is_some, filter, ◌==◌}
 use Rattle.std.specs.Prelude.{if◌then◌else◌}
 use Rattle.std.specs.List.{range_with_len}
@@ -27,7 +27,7 @@ pub record IsLeastFree (f : Parents) (number : ℕ) : Type 0 where
   pub free : f number ≡ None
   pub least : (t : ℕ) → 1 ≤ t → t < number → IsSome (f t)
 
--- a task that was taken out of f, to out: rest is what was left
+-- a task that was moved from f to out: rest is what was left
 pub record IsTaken (f rest out : Parents) (words out_words : Words) (top task : ℕ) : Type 0 where
   pub below : IsBelow f top task
   pub gone : rest task ≡ None
@@ -45,7 +45,7 @@ pub record IsLeft (f rest out : Parents) (words rest_words : Words) (top task : 
 unfoldable pub tasks : List ℕ
 tasks = range_with_len 1 64
 
--- the tasks that are there, in ascending order
+-- the tasks that exist, in ascending order
 abbrev pub tasks_in : Parents → List ℕ
 tasks_in f = filter (λ t. is_some (f t)) tasks
 

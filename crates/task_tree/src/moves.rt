@@ -10,7 +10,7 @@ ghost use Rattle.task_tree.specs.Kept.{parents_in, words_at, zero_words, AreTask
 use row_table::RowTable;
 use vsm_elements::{Elements, Id};
 
-// The parent of a task that is there.
+// The parent of a task that exists.
 pub(crate) fn parent_in(rows: &RowTable, elements: &Elements, task: u32) -> Option<u32>
     requires { IsTable elements.now rows.now }
     ensures { result ≡ parents_in (row elements.now rows.now) task }
@@ -19,7 +19,7 @@ pub(crate) fn parent_in(rows: &RowTable, elements: &Elements, task: u32) -> Opti
     Some(row.words[2])
 }
 
-// The id of a row that is there.
+// The id of a row that exists.
 fn id_at(rows: &RowTable, elements: &Elements, task: u32, quarter: u32) -> Id
     requires table { IsTable elements.now rows.now }
     requires there { IsSome (row elements.now rows.now task quarter) }
@@ -44,7 +44,7 @@ pub(crate) fn quarters_of(rows: &RowTable, elements: &Elements, task: u32) -> [I
     [first, second, third, fourth]
 }
 
-// The task's rows move to another table.
+// Moves the task's rows to another table.
 pub(crate) fn move_task(rows: &mut RowTable, elements: &mut Elements, task: u32, to: &mut RowTable)
     requires table { IsTable elements.old rows.old }
     requires to { IsTable elements.old to.old }
@@ -70,7 +70,7 @@ pub(crate) fn move_task(rows: &mut RowTable, elements: &mut Elements, task: u32,
     }
 }
 
-// The task's rows go.
+// Removes the task's rows.
 pub(crate) fn remove_task(rows: &mut RowTable, elements: &mut Elements, task: u32)
     requires table { IsTable elements.old rows.old }
     requires there { (k : ℕ) → k < 4 → IsSome (row elements.old rows.old task k) }
@@ -93,7 +93,7 @@ fn first_words(task: u32, quarter: u32, parent: u32) -> [u32; 7]
     [task, quarter, parent, 0, 0, 0, 0]
 }
 
-// The rows of a new task, which has zero words.
+// Adds the rows of a new task, which has zero words.
 pub(crate) fn add_task(rows: &mut RowTable, elements: &mut Elements, task: u32, parent: u32)
     requires table { IsTable elements.old rows.old }
     requires absent { (k : ℕ) → k < 4 → row elements.old rows.old task k ≡ None }
@@ -112,7 +112,7 @@ pub(crate) fn add_task(rows: &mut RowTable, elements: &mut Elements, task: u32, 
     }
 }
 
-// A task whose parent is not there.
+// A task whose parent doesn't exist.
 pub(crate) fn orphan(rows: &RowTable, elements: &Elements) -> Option<u32>
     requires table { IsTable elements.now rows.now }
     requires tasks { AreTasks (row elements.now rows.now) }

@@ -14,8 +14,8 @@ use vsm_elements::{Elements, Id};
 
 /// The head of the tree of tasks, and the task that makes the requests.
 ///
-/// Tasks are numbered from 1 to 64. Each but task 1 has a parent, and each has sixteen registers of a word. The head is
-/// kept by value.
+/// Tasks are numbered from 1 to 64. Each except task 1 has a parent, and each has sixteen registers of a word. The head
+/// is kept by value.
 #[derive(Clone, Copy)]
 pub struct TaskTree {
     rows: RowTable,
@@ -27,9 +27,9 @@ pub struct TaskTree {
 #[tactic(auto, unfolding(
 // the tasks
 crate::specs::TaskTree::parent, crate::specs::TaskTree::word, crate::specs::TaskTree::current,
-// whose the elements are
+// which elements are its own
 crate::specs::TaskTree::owned, crate::specs::TaskTree::IsTaskTree,
-// tasks that were taken out
+// tasks that were removed
 crate::specs::TaskTree::parked_parent, crate::specs::TaskTree::parked_word,
 // and their elements
 crate::specs::TaskTree::parked_owned, crate::specs::TaskTree::IsParkedTasks))]
@@ -44,7 +44,7 @@ impl TaskTree {
         self.current
     }
 
-    /// The task makes the requests from now on.
+    /// Makes the task the one that makes the requests from now on.
     pub fn run(&mut self, elements: &Elements, task: u8)
         requires tree { IsTaskTree elements.now self.old }
         requires there { IsSome (parent elements.now self.old task) }
@@ -58,7 +58,7 @@ impl TaskTree {
         self.current = task;
     }
 
-    /// Whether the task is there.
+    /// Whether the task exists.
     pub fn check_run(&self, elements: &Elements, task: u8) -> Result<(), TreeFault>
         requires { IsTaskTree elements.now self.now }
         ensures ok { IfOk result (λ _. IsSome (parent elements.now self.now task)) }
@@ -71,7 +71,7 @@ impl TaskTree {
         }
     }
 
-    /// Whether the caller is the parent of the task, which is there.
+    /// Whether the caller is the parent of the task, which exists.
     pub fn check_detach(&self, elements: &Elements, caller: u8, task: u8) -> Result<(), TreeFault>
         requires { IsTaskTree elements.now self.now }
         ensures ok { IfOk result (λ _. parent elements.now self.now task ≡ Some caller) }
@@ -123,7 +123,7 @@ impl TaskTree {
         Err(TreeFault::TooMany)
     }
 
-    /// The parent of a task, which is 0 of task 1; `None` where there is no such task.
+    /// The parent of a task, which is 0 for task 1; `None` if no such task exists.
     pub fn parent_of(&self, elements: &Elements, task: u8) -> Option<u8>
         requires { IsTaskTree elements.now self.now }
         ensures { result ≡ parent elements.now self.now task }
@@ -132,7 +132,7 @@ impl TaskTree {
         Some(parent as u8)
     }
 
-    // The id of the row of a quarter of a task's registers. The current task's is not looked for.
+    // The id of the row of a quarter of a task's registers. The current task's is not searched for.
     fn quarter_id(&self, elements: &Elements, task: u8, quarter: u8) -> Option<Id>
         requires tree { IsTaskTree elements.now self.now }
         requires quarter { quarter < 4 }
@@ -150,7 +150,7 @@ impl TaskTree {
         Some(self.quarters[usize::from(quarter)])
     }
 
-    /// The word of a register from 0 to 15; 0 where there is no such task.
+    /// The word of a register from 0 to 15; 0 if no such task exists.
     pub fn register(&self, elements: &Elements, task: u8, r: u8) -> u32
         requires tree { IsTaskTree elements.now self.now }
         requires register { r < 16 }
@@ -162,7 +162,7 @@ impl TaskTree {
         }
     }
 
-    /// Takes the task and all below it out, with their parents and registers.
+    /// Removes the task and all tasks below it, with their parents and registers.
     pub fn park_subtree(&mut self, elements: &mut Elements, task: u8) -> ParkedTasks
         requires tree { IsTaskTree elements.old self.old }
         requires there { IsSome (parent elements.old self.old task) }
@@ -214,7 +214,7 @@ impl TaskTree {
         rows.move_all(elements, &mut self.rows);
     }
 
-    /// A new task of this number, with zero words, below its parent.
+    /// Adds a task of this number, with zero words, below its parent.
     ///
     /// It takes four elements.
     pub fn attach(&mut self, elements: &mut Elements, under: u8, number: u8)
@@ -240,7 +240,7 @@ impl TaskTree {
         );
     }
 
-    /// The task is gone, with its words: it isn't task 1 nor the current task, and no task is below it.
+    /// Removes the task, with its words: it isn't task 1 or the current task, and no task is below it.
     ///
     /// Four elements become spare.
     pub fn end_task(&mut self, elements: &mut Elements, task: u8)
@@ -261,7 +261,7 @@ impl TaskTree {
         remove_task(&mut self.rows, elements, u32::from(task));
     }
 
-    /// The tree of task 1 alone, which is current and has zero words.
+    /// The tree of only task 1, which is current and has zero words.
     ///
     /// It takes four elements.
     pub fn new(elements: &mut Elements) -> TaskTree
@@ -300,7 +300,7 @@ impl TaskTree {
         None
     }
 
-    /// The register has another word. Its old one is answered.
+    /// Sets the register to another word, and returns the old one.
     pub fn swap_register(&self, elements: &mut Elements, task: u8, r: u8, value: u32) -> u32
         requires tree { IsTaskTree elements.old self.now }
         requires there { IsSome (parent elements.old self.now task) }

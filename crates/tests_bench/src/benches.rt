@@ -8,7 +8,7 @@ use vsm_bench::{
     Statement, Value,
 };
 
-/// STORAGE OBTAIN of so many bytes from subpool 1.
+/// STORAGE OBTAIN of this many bytes from subpool 1.
 fn obtain(length: u32) -> Statement {
     Statement::Obtain {
         length: Length::Fixed(Value::Number(length)),
@@ -34,7 +34,7 @@ fn steps(bench: &Bench) -> (u32, u32) {
     (bench.kept(), bench.undone())
 }
 
-/// An area is obtained, and nothing is by the second statement.
+/// An area is obtained, and the second statement obtains nothing.
 fn obtain_once(rt: &impl Abort, bench: &mut Bench) {
     let granted = Reply::Obtained {
         address: 0x6000,

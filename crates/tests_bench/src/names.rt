@@ -12,7 +12,7 @@ fn name(text: &str) -> Name {
     Name::from(text).unwrap_or_default()
 }
 
-/// Takes the step, and leaves the one that takes it back, which can be taken next.
+/// Takes the step, and leaves its inverse, which can be taken next.
 fn turn(table: &mut NameTable, change: &mut NameChange)
     requires { CanStep (rows_of table.old) (knows table.old) (step_in change.old) }
     ensures can { CanStep (rows_of table.new) (knows table.new) (step_in change.new) }
@@ -21,7 +21,7 @@ fn turn(table: &mut NameTable, change: &mut NameChange)
     table.swap(change);
 }
 
-/// Gives the name its word, and returns the change that takes this back.
+/// Gives the name its word, and returns the change that undoes this.
 fn put(rt: &impl Abort, table: &mut NameTable, name: Name, word: u32) -> NameChange
     ensures { CanStep (rows_of table.new) (knows table.new) (step_in result) }
 {
@@ -46,7 +46,7 @@ fn name_in(change: &NameChange) -> Name
     }
 }
 
-/// Forgets the undone names but that of the change, which can still be taken.
+/// Forgets the undone names except that of the change, which can still be taken.
 fn forget_others(table: &mut NameTable, change: &NameChange)
     requires can { CanStep (rows_of table.old) (knows table.old) (step_in change.now) }
     requires there { knows table.old (name_of (step_in change.now)) ≡ true }
@@ -88,7 +88,7 @@ fn names_are_defined_and_undone(rt: HostRuntime) {
     drop(table);
 }
 
-/// A name that is undone stays where the others that are undone are forgotten.
+/// An undone name stays if the other undone ones are forgotten.
 fn keep_one_undone(rt: &impl Abort, table: &mut NameTable) {
     let (area, buffer) = (name("AREA"), name("BUFFER"));
     put(rt, table, area, 0x6000);
@@ -114,7 +114,7 @@ fn an_undone_name_is_kept(rt: HostRuntime) {
     drop(table);
 }
 
-/// A name that is undone is forgotten, and can be defined all the same.
+/// An undone name is forgotten, and can still be defined.
 fn forget_undone(rt: &impl Abort, table: &mut NameTable) {
     let (area, third) = (name("AREA"), name("THIRD"));
     put(rt, table, area, 0x6000);

@@ -21,7 +21,7 @@ impl Outcome {
     }
 }
 
-/// The program's name, and these words behind it.
+/// The program's name, followed by these arguments.
 fn with_name(alloc: Global, words: &[&str]) -> Result<Vec<String>, AllocError> {
     let mut all = Vec::new(alloc);
     all.push(String::from_str(alloc, "vsm")?)?;
@@ -31,7 +31,7 @@ fn with_name(alloc: Global, words: &[&str]) -> Result<Vec<String>, AllocError> {
     Ok(all)
 }
 
-/// Runs the program with these words behind its name.
+/// Runs the program with these arguments after its name.
 pub(crate) fn outcome_of<F: ScriptFiles + AllocGlobal, R: Read, W: Write>(
     rt: &F,
     words: &[&str],

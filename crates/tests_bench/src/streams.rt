@@ -70,7 +70,7 @@ impl<'a> Read for Slow<'a> {
     }
 }
 
-/// A writer that takes one byte a call, and none once it has room for no more; or else fails there.
+/// A writer that takes one byte a call until its room is full, and then takes none or fails.
 #[derive(Drop)]
 struct Narrow {
     bytes: Vec<u8>,
@@ -110,7 +110,7 @@ impl Narrow {
 
 #[test]
 fn a_read_error_leaves_the_answers_of_whole_lines(rt: HostRuntime) -> Result<(), Fail> {
-    // The last line has no line feed, so nobody knows that it's whole.
+    // The last line has no line feed, so it isn't known to be whole.
     let mut reader = Slow {
         bytes: b" BACK 0\n BACK 0",
     };
@@ -129,7 +129,7 @@ fn a_read_error_has_its_text_and_status(rt: HostRuntime) -> Result<(), Fail> {
     Ok(())
 }
 
-/// The run of a writer with room for so many bytes ends there.
+/// The run of a writer with room for this many bytes ends when it is full.
 fn fill_up(rt: &impl Abort, alloc: Global, room: usize, fails: bool) {
     let mut writer = Narrow::with_room(alloc, room, fails);
     let totals = run(alloc, &mut SCRIPT, &mut writer, DEFAULT_SETTINGS);
@@ -164,7 +164,7 @@ fn map_error(bench: &Bench, writer: &mut Narrow) -> Option<io::ErrorKind> {
     }
 }
 
-/// The map goes out as far as there is room for it.
+/// The map is written as far as there is room for it.
 fn cut_off(rt: &impl Abort, alloc: Global, bench: &Bench, room: usize, fails: bool) {
     let mut writer = Narrow::with_room(alloc, room, fails);
     let error = map_error(bench, &mut writer);
@@ -206,7 +206,7 @@ fn help_that_is_cut_off_is_a_write_error(rt: HostRuntime) -> Result<(), Fail> {
     Ok(())
 }
 
-/// A reader that gives one byte a call, fails once behind so many, and then goes on.
+/// A reader that gives one byte a call, fails once after this many, and then goes on.
 #[derive(Drop)]
 struct StumblingReader<'a> {
     bytes: &'a [u8],
@@ -233,7 +233,7 @@ impl<'a> Read for StumblingReader<'a> {
     }
 }
 
-/// A writer that takes one byte a call, fails once behind so many, and then goes on.
+/// A writer that takes one byte a call, fails once after this many, and then goes on.
 #[derive(Drop)]
 struct StumblingWriter {
     bytes: Vec<u8>,

@@ -1,4 +1,4 @@
-//! Cells handed out and freed in mixed orders, and the cell pools of a subpool parked and restored.
+//! Cells given out and freed in mixed orders, and the cell pools of a subpool parked and restored.
 
 ghost use Rattle.std.specs.Prelude.{◌≡◌, IsSome};
 ghost use Rattle.cell_pool.specs.CellPools.{by_id, IsCellPools};
@@ -63,7 +63,7 @@ fn name_after(
     pools.name(elements, id)
 }
 
-// The pool has just one extent, of two cells, and this free cell alone.
+// The pool has exactly one extent, of two cells, and only this free cell.
 fn check_walks(rt: &impl Abort, elements: &Elements, pools: &CellPools, text: &str, cell: u32)
     requires { IsCellPools elements.now pools.now }
 {
@@ -101,7 +101,7 @@ fn free(rt: &impl Abort, elements: &mut Elements, pools: &mut CellPools, text: &
     holds!(rt; !pools.in_use(elements, id, cell));
 }
 
-// The two pools of subpool 1 go and come back, and that of subpool 2 stays as it is.
+// The two pools of subpool 1 are parked and restored, and that of subpool 2 stays as it is.
 fn park_and_restore(rt: &impl Abort, elements: &mut Elements, pools: &mut CellPools)
     requires { IsCellPools elements.old pools.old }
     ensures { IsCellPools elements.new pools.new }

@@ -22,7 +22,7 @@ const FIRST_HIGH: u32 = 32_768;
 
 const MANY: u32 = 300_000;
 
-// Each byte of the page, which were zeros, becomes this one.
+// Each byte of the page, all zeros before, becomes this one.
 fn fill(rt: &impl Abort, region: &mut Region, page: u32, byte: u8)
     requires { page < 1048576 }
     ensures assigned { SameAssigned region.old region.new }

@@ -10,7 +10,7 @@ use subpool_storage::SubpoolStorage;
 use vsm_elements::Elements;
 use vsm_model::Subpool;
 
-/// Whether the subpool is there: its owner sees it.
+/// Whether the subpool exists: its owner sees it.
 pub(crate) fn is_made(elements: &Elements, storage: &SubpoolStorage, subpool: Subpool) -> bool
     requires { Stands elements.now storage.now }
     ensures { result ≡ is_there (subpools_of elements.now storage.now) subpool }

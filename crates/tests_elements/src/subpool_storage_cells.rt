@@ -1,5 +1,5 @@
-//! Cell pools of subpools: they go over and come back with their subpool, are handed on with it, and have their cells
-//! handed out and freed.
+//! Cell pools of subpools: they move to another storage and back with their subpool, are passed on with it, and have
+//! their cells given out and freed.
 
 ghost use Rattle.std.specs.Prelude.{ℕ, ◌+◌, ◌≤◌};
 ghost use Rattle.subpool_storage.specs.Subpools.{CanExchange};
@@ -72,7 +72,7 @@ fn home(
     Some(pools.settings(elements, id).subpool)
 }
 
-// The cell pool of a name is this subpool's; `None` where there is no such cell pool.
+// The cell pool of a name is this subpool's; `None` if no such cell pool exists.
 fn is_in(
     rt: &impl Abort,
     elements: &Elements,
@@ -85,7 +85,7 @@ fn is_in(
     assert_eq!(rt; home(rt, elements, storage, text), want, "{text}");
 }
 
-// The cell pools of the subpool go over to the other storage, and come back; those of other subpools stay.
+// The cell pools of the subpool move to the other storage, and come back; those of other subpools stay.
 fn there_and_back(
     rt: &impl Abort,
     elements: &mut Elements,

@@ -1,4 +1,4 @@
-//! Subpools made, filled, emptied and removed: each call does what it may, and every element is given back.
+//! Subpools made, filled, emptied and removed: each call does what it may, and every element is returned.
 
 ghost use Rattle.std.specs.Prelude.{◌≡◌, ℕ, ◌+◌, ◌≤◌};
 ghost use Rattle.subpool_storage.specs.Subpools.{CanExchange};
@@ -136,7 +136,7 @@ fn empty(
     holds!(rt; !storage.has_page(elements, subpool, page));
 }
 
-// Where areas are looked for.
+// The region in which areas are looked for.
 const REGION: Area = Area {
     start: 0,
     len: 10_000,
@@ -171,7 +171,7 @@ fn carve_out(rt: &impl Abort, elements: &mut Elements, storage: &SubpoolStorage)
     free(rt, elements, storage, FIRST, part);
 }
 
-// The extent of a subpool that has one; `None` where it has none or more.
+// The only extent of a subpool; `None` if it has none or more than one.
 fn only_extent(elements: &Elements, storage: &SubpoolStorage, subpool: Subpool) -> Option<Run>
     requires { Stands elements.now storage.now }
 {
@@ -180,7 +180,7 @@ fn only_extent(elements: &Elements, storage: &SubpoolStorage, subpool: Subpool) 
     (extents.count() == 1).then_some(run)
 }
 
-// The free area of a subpool that has one; `None` where it has none or more.
+// The only free area of a subpool; `None` if it has none or more than one.
 fn only_area(elements: &Elements, storage: &SubpoolStorage, subpool: Subpool) -> Option<Area>
     requires { Stands elements.now storage.now }
 {
@@ -189,7 +189,7 @@ fn only_area(elements: &Elements, storage: &SubpoolStorage, subpool: Subpool) ->
     areas.next_area(elements, behind).is_none().then_some(area)
 }
 
-// The two subpools come in order, on a walk as by position, and nobody shares the first.
+// The two subpools are in order, both in a walk and by position, and no task shares the first.
 fn in_order(rt: &impl Abort, elements: &Elements, storage: &SubpoolStorage)
     requires { Stands elements.now storage.now }
 {
@@ -257,7 +257,7 @@ fn pages_and_areas_come_and_go(rt: HostRuntime) -> Result<(), Fail> {
     Ok(())
 }
 
-// A subpool is made, has a page whose doublewords are free storage, is emptied and removed.
+// A subpool is made, gets a page whose doublewords are free storage, is emptied and removed.
 fn live(rt: &impl Abort, elements: &mut Elements, subpool: Subpool, page: u32) {
     holds!(rt; subpool.owner >= 1);
     holds!(rt; subpool.owner <= 64);
@@ -322,7 +322,7 @@ fn is_in(
     same!(rt; elsewhere.longest(elements, subpool, 1, REGION), 0);
 }
 
-// What the subpool has in one goes over to the other, and comes back.
+// What the subpool has in one moves to the other, and comes back.
 fn there_and_back(
     rt: &impl Abort,
     elements: &mut Elements,

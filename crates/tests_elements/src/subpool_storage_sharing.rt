@@ -76,7 +76,7 @@ fn first_sharer(storage: &SubpoolStorage, elements: &Elements, subpool: Subpool)
     Some(task)
 }
 
-// The page and the area are just the first subpool's, whose owner sees it, and so does the sharer.
+// The page and the area are only the first subpool's, whose owner sees it, and so does the sharer.
 fn is_at(
     rt: &impl Abort,
     elements: &Elements,

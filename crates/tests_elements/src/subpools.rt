@@ -1,4 +1,4 @@
-//! A set beside the plain slow program: the owner that each task sees at each number.
+//! A set compared with the plain slow program: the owner that each task sees at each number.
 
 ghost use Rattle.std.specs.Prelude.{◌<◌};
 ghost use Rattle.subpool_set.specs.SubpoolSet.{IsSubpoolSet, QueuesStand};
@@ -10,10 +10,10 @@ use subpool_set::SubpoolSet;
 use subpool_set::laws::{discards_keep, put_back, sets_stay};
 use vsm_elements::Elements;
 
-// The owner that each of four tasks sees at each of three numbers; 0 where it sees none.
+// The owner that each of four tasks sees at each of three numbers; 0 if it sees none.
 type Seen = [[u8; 3]; 4];
 
-// Whether a task sees one of this number that is another's.
+// Whether a task sees another's subpool of this number.
 fn has_sharer(seen: &Seen, number: u8) -> bool
     requires { number < 3 }
 {
@@ -42,7 +42,7 @@ fn compare(rt: &impl Abort, elements: &Elements, set: &SubpoolSet, seen: &Seen)
     }
 }
 
-// The subpools have these numbers and owners, in this order, on a walk as by position.
+// The subpools have these numbers and owners, in this order, both in a walk and by position.
 fn list_subpools(rt: &impl Abort, elements: &Elements, set: &SubpoolSet, want: &[(u8, u8)])
     requires { IsSubpoolSet elements.now set.now }
 {
@@ -179,7 +179,7 @@ fn pass(
     }
 }
 
-// The subpool goes and comes back; `without` is seen in between.
+// The subpool is taken out and put back; `without` is seen in between.
 fn out_and_in(
     rt: &impl Abort,
     elements: &mut Elements,
@@ -206,7 +206,7 @@ fn out_and_in(
     }
 }
 
-// Two subpools go, one after the other, and come back as one; `without` is seen in between.
+// Two subpools are taken out, one after the other, and put back as one; `without` is seen in between.
 fn both_out_and_in(
     rt: &impl Abort,
     elements: &mut Elements,
@@ -241,7 +241,7 @@ fn both_out_and_in(
     }
 }
 
-// The subpool goes for good.
+// The subpool is removed for good.
 fn discard(rt: &impl Abort, elements: &mut Elements, set: &mut SubpoolSet, task: u8, number: u8)
     requires set { IsSubpoolSet elements.old set.old }
     requires queues { QueuesStand elements.old set.old }
@@ -258,7 +258,7 @@ fn discard(rt: &impl Abort, elements: &mut Elements, set: &mut SubpoolSet, task:
     }
 }
 
-// The subpool goes for good, and `left` is seen.
+// The subpool is removed for good, and `left` is seen.
 fn discard_to(
     rt: &impl Abort,
     elements: &mut Elements,

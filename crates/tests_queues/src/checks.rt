@@ -1,5 +1,5 @@
-//! What tests assert, in functions of one assertion each, which take a test far less to prove than assertions of its
-//! own. A failure shows what stands in the macro's call.
+//! What tests assert, in functions of one assertion each, which are far easier to prove than assertions in the test
+//! itself. A failure shows the text of the macro's call.
 
 ghost use Rattle.std.specs.Prelude.{◌≡◌, ◌≤◌, true, IfOk};
 
@@ -32,12 +32,12 @@ pub(crate) fn is_true(rt: &impl Abort, what: bool, text: &str)
     assert!(rt; what, "assertion failed: {text}");
 }
 
-/// It is what is wanted.
+/// It is what is expected.
 pub(crate) fn are_same<T: Copy + PartialEq + Debug>(rt: &impl Abort, is: T, want: T, text: &str) {
     assert_eq!(rt; is, want, "{text}");
 }
 
-/// Elements of which at least so many are spare.
+/// Elements of which at least this many are spare.
 pub(crate) fn stocked(alloc: Global, n: u32) -> Result<Elements, AllocError>
     ensures { IfOk result (λ elements. n ≤ elements.spare) }
 {

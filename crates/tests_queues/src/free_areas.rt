@@ -1,4 +1,4 @@
-//! The queue beside the plain slow program: one mark for each doubleword.
+//! The queue compared with the plain slow program: one mark for each doubleword.
 
 ghost use Rattle.std.specs.Prelude.{◌+◌, ◌^◌, ◌<◌, ◌≤◌};
 ghost use Rattle.free_queue.specs.FreeQueue.{IsFreeQueue};
@@ -13,8 +13,8 @@ use vsm_elements::Elements;
 // How many doublewords the plain program looks at: six pages.
 const SIZE: u32 = 3072;
 
-// Each area is freed where none of it is free, and carved where all of it is. Pages 1 to 3 are the first
-// region, page 4 and 5 the second.
+// Each area is freed if none of it is free, and carved if all of it is. Pages 1 to 3 are the first region, pages 4 and
+// 5 the second.
 const AREAS: [(u32, u32); 24] = [
     (512, 1536),
     (2047, 1),

@@ -62,7 +62,7 @@ fn first_three(elements: &Elements, extents: &Extents) -> [Option<Run>; 3]
     runs
 }
 
-// Pages of both regions come, and are two extents.
+// Pages of both regions are added, and are two extents.
 fn join_two(rt: &impl Abort, elements: &mut Elements, extents: &mut Extents)
     requires { IsExtents elements.old extents.old }
     ensures { IsExtents elements.new extents.new }
@@ -76,7 +76,7 @@ fn join_two(rt: &impl Abort, elements: &mut Elements, extents: &mut Extents)
     same!(rt; extents.count(), 2);
 }
 
-// A page in the midst of an extent goes, and one at an extent's end.
+// A page in the middle of an extent is removed, and one at an extent's end.
 fn part_both(rt: &impl Abort, elements: &mut Elements, extents: &mut Extents)
     requires { IsExtents elements.old extents.old }
     ensures { IsExtents elements.new extents.new }
@@ -117,7 +117,7 @@ fn unassigned(elements: &mut Elements, region: Run) -> Pages
     pages
 }
 
-// The least run of so many pages, which are then assigned.
+// The least run of this many pages, which are then assigned.
 fn assign(rt: &impl Abort, elements: &mut Elements, pages: &mut Pages, n: u32) -> Option<Page>
     requires queue { IsPages elements.old pages.old }
     requires asked { (0 < n) × (n < 2 ^ 16) }

@@ -46,7 +46,7 @@ fn fill(rt: &impl Abort, elements: &mut Elements, tree: &mut TaskTree, task: u8)
     }
 }
 
-// The tasks that are there are these, with these parents, and each has its words.
+// The tasks are these, with these parents, and each has its words.
 fn compare(rt: &impl Abort, elements: &Elements, tree: &TaskTree, tasks: &[(u8, u8)])
     requires { IsTaskTree elements.now tree.now }
 {
@@ -63,7 +63,7 @@ fn compare(rt: &impl Abort, elements: &Elements, tree: &TaskTree, tasks: &[(u8, 
     same!(rt; tree.task_at(elements, i), None);
 }
 
-// The task and all below it go and come back; these are there in between.
+// The task and all below it are parked and restored; these tasks remain in between.
 fn out_and_in(
     rt: &impl Abort,
     elements: &mut Elements,
@@ -85,7 +85,7 @@ fn out_and_in(
     tree.restore_tasks(elements, parked);
 }
 
-// The current task detaches its subtask, with all below that, which then come back; these are there in between.
+// The current task detaches its subtask, with all below that, which are then restored; these remain in between.
 fn detached(
     rt: &impl Abort,
     elements: &mut Elements,
@@ -141,7 +141,7 @@ const ALL: [(u8, u8); 6] = [(1, 0), (2, 1), (3, 2), (4, 2), (5, 3), (6, 1)];
 // Without task 3, and the one below it.
 const WITHOUT_THE_THIRD: [(u8, u8); 4] = [(1, 0), (2, 1), (4, 2), (6, 1)];
 
-// The six tasks come, and each gets its words.
+// The six tasks are attached, and each gets its words.
 fn attach_all(rt: &impl Abort, elements: &mut Elements, tree: &mut TaskTree)
     requires { IsTaskTree elements.old tree.old }
     ensures { IsTaskTree elements.new tree.new }
@@ -157,7 +157,7 @@ fn attach_all(rt: &impl Abort, elements: &mut Elements, tree: &mut TaskTree)
     compare(rt, elements, tree, &ALL);
 }
 
-// Subtrees go and come back.
+// Subtrees are parked and restored.
 fn all_out_and_in(rt: &impl Abort, elements: &mut Elements, tree: &mut TaskTree)
     requires { IsTaskTree elements.old tree.old }
     ensures { IsTaskTree elements.new tree.new }
@@ -173,7 +173,7 @@ fn all_out_and_in(rt: &impl Abort, elements: &mut Elements, tree: &mut TaskTree)
     same!(rt; elements.spare(), 104);
 }
 
-// All but the first task end.
+// All tasks except the first end.
 fn end_all(rt: &impl Abort, elements: &mut Elements, tree: &mut TaskTree)
     requires { IsTaskTree elements.old tree.old }
     ensures { IsTaskTree elements.new tree.new }

@@ -1,4 +1,4 @@
--- A counter of 32 bits that steps wrap around: what the states mean on which kept changes are tried. S is a state that
+-- A counter of 32 bits that steps wrap around: what the states mean on which kept changes are tested. S is a state that
 -- shows a number.
 use Rattle.std.specs.Prelude.{◌≡◌, ℕ, ◌+◌, ◌-◌, ◌%◌, ◌^◌, ◌<◌, List, refl}
 use Rattle.std.proofs.Common.{arith}
@@ -43,11 +43,11 @@ module _ {S : Type 0} (count_of : S → ℕ) where
   abbrev pub counter_swap : S → ℕ → S → ℕ → Type 0
   counter_swap s step t back = (count_of t ≡ stepped (count_of s) step) × (back ≡ opposite (count_of s) step)
 
-  -- a step that is given up leaves the counter as it was
+  -- a step that is discarded leaves the counter as it was
   abbrev pub counter_discard : S → ℕ → S → Type 0
   counter_discard s step t = count_of t ≡ count_of s
 
-  -- steps fit where they are numbers of 32 bits
+  -- steps fit if they are numbers of 32 bits
   abbrev pub counter_fits : List ℕ → S → List ℕ → Type 0
   counter_fits = steps_fit CanStep stepped count_of step_of hold_nothing
 

@@ -14,7 +14,7 @@ fn step(rt: &impl Abort, counter: &mut Counter, history: &mut History<Counter>, 
     requires { counter_fits (λ (c : Counter). c.count) history.old.kept counter.old history.old.undone }
     ensures { counter_fits (λ (c : Counter). c.count) history.new.kept counter.new history.new.undone }
 {
-    // Reading the counter lets the proof know that it is of 32 bits.
+    // Reading the counter shows the proof that it has 32 bits.
     let _count = counter.count;
     holds!(rt; history.reserve_place().is_ok());
     let mut change = by;
@@ -22,7 +22,7 @@ fn step(rt: &impl Abort, counter: &mut Counter, history: &mut History<Counter>, 
     history.push_reserved(counter, change);
 }
 
-/// So many steps back are answered so, and lead to this count.
+/// This many steps back give this answer, and lead to this count.
 fn back(
     rt: &impl Abort,
     counter: &mut Counter,
@@ -39,7 +39,7 @@ fn back(
     same!(rt; counter.count, count);
 }
 
-/// So many steps forward are answered so, and lead to this count.
+/// This many steps forward give this answer, and lead to this count.
 fn forward(
     rt: &impl Abort,
     counter: &mut Counter,
@@ -72,7 +72,7 @@ fn go_back_and_forward(rt: &impl Abort, counter: &mut Counter, history: &mut His
     forward(rt, counter, history, 1, Ok(()), 16);
 }
 
-/// A step more is kept in place of what is undone.
+/// Another step is kept in place of what is undone.
 fn step_behind_undone(rt: &impl Abort, counter: &mut Counter, history: &mut History<Counter>)
     requires { counter_fits (λ (c : Counter). c.count) history.old.kept counter.old history.old.undone }
 {

@@ -1,4 +1,4 @@
-//! What a caller of the reader is given: which line brings an answer, the line of its statement, and what finish says.
+//! What a caller of the reader is given: which line gives an answer, the line of its statement, and what finish says.
 
 use macro_reader::{Fault, FaultKind, Fed, Reader, Request};
 use std::process::Abort;
@@ -32,7 +32,7 @@ fn fault(kind: FaultKind, line: u32) -> Result<Fed, Fault> {
     Err(Fault { kind, line })
 }
 
-/// The line is answered so.
+/// The line gets this answer.
 fn feed(rt: &impl Abort, reader: &mut Reader, line: &[u8], want: Result<Fed, Fault>) {
     let text = str::from_utf8(line).unwrap_or("");
     assert_eq!(rt; reader.next(line), want, "{text}");
@@ -66,7 +66,7 @@ fn feed_ten(rt: &impl Abort, reader: &mut Reader) {
     feed(rt, reader, &card(2, b"FORWARD 2", true), more());
     let continuation = fault(FaultKind::Continuation, 8);
     feed(rt, reader, &card(15, b"remarks", true), continuation);
-    // The line behind the fault is dropped.
+    // The line after the fault is dropped.
     feed(rt, reader, &card(2, b"FORWARD 2", false), more());
 }
 

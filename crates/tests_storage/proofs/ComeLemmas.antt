@@ -1,4 +1,4 @@
--- For the test: a change by which a cell pool comes fits the first storage.
+-- For the test: a change that builds a cell pool fits the first storage.
 use Rattle.std.proofs.Common.{◌≡◌, ℕ, ◌/◌, ◌==◌, Bool, true, false, if◌then◌else◌, [], Option, Some, None, IsSome, inl, inr, refl, sym, subst, ◌∙◌}
 use Rattle.std.proofs.lemmas.Bool.{eq-eqb, eqb-true}
 use Rattle.run_set.specs.Runs.{inside}
@@ -16,7 +16,7 @@ use Rattle.storage_swap.specs.Fresh.{first_storage, IsFresh}
 use Rattle.storage_swap.specs.Reserve.{Reserves}
 use Rattle.storage_swap.proofs.FrameLemmas.{nowhere}
 
--- the cell pool alone comes
+-- only the cell pool is built
 abbrev pub coming : Pool → Change
 coming pool = change_building pool (change_of [] 1 no_pages)
 
@@ -53,7 +53,7 @@ module _ (m : StorageState) (pool : Pool) (empty : (id : ℕ) → m.subpools.cel
     brought = no-frame;
   }
 
--- reserved behind the first storage, it fits
+-- reserved for the first storage, it fits
 pub coming-fits : (settings : Settings) (p t : Parts) (c : TheChange) (pool : Pool) → IsFresh settings p → Reserves p (coming pool) c t → Fit (state_of t) (means t.elements c)
 coming-fits settings p t c pool f r =
     let P : Change → Type 0 = λ z. Fit (state_of t) z in

@@ -36,7 +36,7 @@ pub(crate) fn change_for(storage: &mut Storage, service: Service<'_>) -> Result<
     Ok(change)
 }
 
-// The storage carries the service out. What is left takes it back.
+// The storage carries the service out. What is left undoes it.
 pub(crate) fn carry_out(storage: &mut Storage, service: Service<'_>) -> Result<Change, Fail>
     requires { CanBePlanned (service_in service) }
     ensures can { IfOk result (λ change. CanSwap storage.new.parts change) }

@@ -21,7 +21,7 @@ const SETTINGS: Settings = Settings {
     history: 10,
 };
 
-// The byte at the address, where its page is assigned.
+// The byte at the address, if its page is assigned.
 fn byte_at(storage: &Storage, address: u32) -> Option<u8> {
     let mut room = [0];
     match storage.load(address, &mut room) {
@@ -69,7 +69,7 @@ fn small_area(location: Location) -> Service<'static>
     })
 }
 
-// The area at this address comes, is stored into and goes.
+// The area at this address is obtained, stored into and released.
 fn request_comes_and_goes(
     rt: &impl Abort,
     storage: &mut Storage,
@@ -117,7 +117,7 @@ fn requests_come_and_go(rt: HostRuntime) -> Result<(), Fail> {
     Ok(())
 }
 
-// The cell pool that comes and goes.
+// The cell pool that is built and deleted.
 const NAME: &str = "CELLS";
 
 // What the next cell of the cell pool would be, or the cause that refuses it.
@@ -166,7 +166,7 @@ fn small_cells() -> Service<'static>
     }
 }
 
-// The cell pool comes, and its first cell is then the next one.
+// The cell pool is built, and its first cell is then the next one.
 fn pool_comes(rt: &impl Abort, storage: &mut Storage) -> Result<(), Fail> {
     let (none, first) = (Err(Cause::NoCellPool), Ok(Reply::Cell(0x6000)));
     let build = small_cells();
@@ -179,7 +179,7 @@ fn pool_comes(rt: &impl Abort, storage: &mut Storage) -> Result<(), Fail> {
     Ok(())
 }
 
-// The cell in front of this one is handed out, and this one is then the next.
+// The cell before this one is given out, and this one is then the next.
 fn cell_comes(rt: &impl Abort, storage: &mut Storage, cell: u32) -> Result<(), Fail>
     requires { 16 ≤ cell }
 {
@@ -196,7 +196,7 @@ fn cell_comes(rt: &impl Abort, storage: &mut Storage, cell: u32) -> Result<(), F
     Ok(())
 }
 
-// The first cell is given back, and then the cell pool goes.
+// The first cell is returned, and then the cell pool is deleted.
 fn pool_goes(rt: &impl Abort, storage: &mut Storage) -> Result<(), Fail> {
     let (none, first) = (Err(Cause::NoCellPool), Ok(Reply::Cell(0x6000)));
     let free = Service::Free {
@@ -224,7 +224,7 @@ fn cells_come_and_go(rt: HostRuntime) -> Result<(), Fail> {
 // How many areas of a doubleword are free in the subpool that is released whole.
 const FREE_AREAS: u32 = 10_000;
 
-// Subpool 1 has one area, of whose doublewords every second one is released.
+// Subpool 1 has one area, every second doubleword of which is released.
 fn make_free_areas(storage: &mut Storage) -> Result<(), Fail> {
     let obtain = Obtain {
         lengths: Lengths::Fixed(16 * FREE_AREAS),
@@ -272,7 +272,7 @@ fn whole_release_takes_elements_for_extents_alone(rt: HostRuntime) -> Result<(),
     let mut storage = Storage::new(rt.alloc(), settings)?;
     make_free_areas(&mut storage)?;
     same!(rt; whole_release(&rt, &mut storage)?, 5);
-    // The free areas are those that there were.
+    // The free areas are the same as before.
     let granted = Reply::Obtained {
         address: 0x2E000,
         length: 24,
@@ -287,7 +287,7 @@ const FIRST: Subpool = Subpool {
     owner: 1,
 };
 
-// The subpool's extents, as at their positions and as the walk comes to them, are these and no other.
+// The subpool's extents, by position and in the walk, are exactly these.
 fn compare_extents(rt: &impl Abort, storage: &Storage, subpool: Subpool, extents: &[Run]) {
     let mut place = storage.first_extent(subpool);
     for i in 0..8u32 {
@@ -304,7 +304,7 @@ fn compare_extents(rt: &impl Abort, storage: &Storage, subpool: Subpool, extents
     holds!(rt; false);
 }
 
-// The walk over its free areas likewise.
+// The same for the walk over its free areas.
 fn compare_free_areas(rt: &impl Abort, storage: &Storage, subpool: Subpool, areas: &[Area]) {
     let mut place = storage.first_free_area(subpool);
     for i in 0..8u32 {
@@ -321,8 +321,8 @@ fn compare_free_areas(rt: &impl Abort, storage: &Storage, subpool: Subpool, area
     holds!(rt; false);
 }
 
-// How many subpools there are: each comes on the walk as at its position, with its own extents and free areas, and
-// nobody shares it.
+// The number of subpools: the walk finds each as at its position, with its own extents and free areas, and no task
+// shares it.
 fn count_subpools(rt: &impl Abort, storage: &Storage) -> u32 {
     let mut place = Storage::first_subpool_place();
     for i in 0..8 {
@@ -348,7 +348,7 @@ fn count_subpools(rt: &impl Abort, storage: &Storage) -> u32 {
     8
 }
 
-// Subpool 1 has a page on either side of the 16 MB line. Of the low one, bytes 24 to 31 are taken, of the high one the
+// Subpool 1 has a page on either side of the 16 MB line. In the low one, bytes 24 to 31 are taken, in the high one the
 // first 24.
 fn make_two_extents(storage: &mut Storage) -> Result<(), Fail> {
     do_for_good(storage, small_area(Location::Low))?;
@@ -406,7 +406,7 @@ fn extents_and_free_areas_agree(rt: HostRuntime) -> Result<(), Fail> {
     Ok(())
 }
 
-// Subpool 0 and 1 are task 1's, which is there alone.
+// Subpools 0 and 1 are task 1's, which is the only task.
 fn first_task_owns_both(rt: &impl Abort, storage: &Storage) {
     let zero = Subpool {
         number: 0,

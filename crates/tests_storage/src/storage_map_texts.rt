@@ -24,7 +24,7 @@ const MAP: &[u8] = b" TASK 1 PARENT 0 CURRENT
  BYTES TAKEN 0 FREE 0
 ";
 
-/// A writer that takes so many bytes, one a call, and then nothing.
+/// A writer that takes this many bytes, one a call, and then nothing.
 #[derive(Drop)]
 struct Narrow {
     bytes: Vec<u8>,
@@ -70,7 +70,7 @@ fn map_error(storage: &Storage, writer: &mut Narrow) -> Option<ErrorKind> {
     }
 }
 
-// The map of a new storage goes out as far as there is room for it.
+// The map of a new storage is written as far as there is room for it.
 fn cut_off(rt: &impl Abort, alloc: Global, storage: &Storage, room: usize) {
     let mut writer = Narrow::with_room(alloc, room);
     same!(rt; map_error(storage, &mut writer), Some(ErrorKind::WriteZero));

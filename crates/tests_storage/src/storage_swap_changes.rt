@@ -1,5 +1,5 @@
-//! Three pages of the first subpool, obtained, undone and redone; and a cell pool that comes, goes and is let go. All
-//! elements and frames are given back.
+//! Three pages of the first subpool, obtained, undone and redone; and a cell pool that is built, removed and discarded.
+//! All elements and frames are returned.
 
 use crate::checks::{holds, same};
 use run_set::Run;
@@ -30,7 +30,7 @@ const REST: Run = Run {
     len: 1436,
 };
 
-// The pages become the first subpool's, with the rest behind the area as free storage.
+// The pages become the first subpool's, with the rest after the area as free storage.
 const OBTAIN: [Record; 3] = [
     Record::Pages(PagesRecord {
         run: RUN,
@@ -48,7 +48,7 @@ const OBTAIN: [Record; 3] = [
     }),
 ];
 
-// The storage was made of one block of elements and so many frames.
+// The storage was made of one block of elements and this many frames.
 fn given_back(rt: &impl Abort, storage: Parts, frames: u32) {
     let Parts {
         elements,

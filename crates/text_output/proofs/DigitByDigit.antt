@@ -57,7 +57,7 @@ zeros_push : (k : ℕ) → zeros (suc k) ≡ zeros k ++ 48 ∷ []
 zeros_push zero = refl
 zeros_push (suc k) = ap (λ x. 48 ∷ x) (zeros_push k)
 
--- leading zeros stand before the digits
+-- leading zeros precede the digits
 pub with_zeros : (width : ℕ) (numeral : List ℕ) → padded_integral (format_spec 32 0 4 width (2 ^ 64 - 1)) false [] numeral ≡ zeros (width - length numeral) ++ numeral
 unfolding padded_integral char_count
 with_zeros width numeral =
@@ -68,7 +68,7 @@ with_zeros width numeral =
 filled : (width n : ℕ) (ds : List ℕ) → digits 16 true n ≡ ds → hexadecimal width n ≡ zeros (width - length ds) ++ ds
 filled width n ds is = with_zeros width (digits 16 true n) ∙ ap (λ d. zeros (width - length d) ++ d) is
 
--- One digit, where neither zeros nor digits stand before it,
+-- One digit, if neither zeros nor digits precede it,
 pub hexadecimal_one : (width n : ℕ) → width ≤ 1 → n < 16 → hexadecimal width n ≡ glyph n ∷ []
 hexadecimal_one width n narrow small =
     let none : width - 1 ≡ 0 = omega arith in
@@ -94,7 +94,7 @@ hexadecimal_large width n large small =
     ∙ sym (append_assoc (zeros (width - 1 - length front)) front (glyph n ∷ []))
     ∙ ap (λ z. z ++ glyph n ∷ []) (sym (with_zeros (width - 1) front))
 
--- and else the last digit behind the others.
+-- and otherwise the last digit after the others.
 pub hexadecimal_more : (width n : ℕ) → (1 < width) ⊎ (16 ≤ n) → n < 2 ^ 32 → hexadecimal width n ≡ hexadecimal (width - 1) (n / 16) ++ glyph n ∷ []
 hexadecimal_more width n some small = elim (cases_lt n 16) [
   | inl less ↦ elim some [
@@ -135,7 +135,7 @@ long_over_zeros n first places behind ends written before =
     let same : length (zeros first ++ (ds ++ behind)) ≡ 10 + length behind = omega (arith, all, more, few, ends) in
     ap length (over_zeros n first places behind ends written before) ∙ same
 
--- With some of the zeros in front these are the padded number.
+-- With some of the zeros before them these are the padded number.
 pub padded_over_zeros : (width n first : ℕ) (places behind : List ℕ) → width ≤ 10 → first + length (decimal n) ≡ 10
     → drop first places ≡ decimal n ++ behind → take first places ≡ take first (zeros 10 ++ behind)
     → drop (min first (10 - width)) places ≡ padded_decimal width n ++ behind
@@ -150,7 +150,7 @@ padded_over_zeros width n first places behind narrow ends written before =
     ∙ sym (append_assoc (zeros (width - length ds)) ds behind)
     ∙ ap (λ x. x ++ behind) (sym (with_zeros width ds))
 
--- While digits are left to be written there is a place in front of this one,
+-- While digits are left to be written there is a place before this one,
 pub room_in_front : (digits n place : ℕ) → digits ≤ place + 1 → n < 16 ^ (place + 1) → (1 < digits) ⊎ (16 ≤ n) → 1 ≤ place
 room_in_front digits n zero few small (inl wide) = absurd (omega (arith, few, wide))
 room_in_front digits n zero few small (inr large) = absurd (omega (arith, small, large))
@@ -199,7 +199,7 @@ spelled_in (suc k) (suc j) n h small = elim (cases_lt n 16) [
 few_digits : (n : ℕ) → n < 2 ^ 32 → length (digits 16 true n) ≤ 8
 few_digits n small = subst (λ ds. length ds ≤ 8) (spelled n) (spelled_in 63 7 n (omega arith) (omega (arith, small)))
 
--- Zeros stand before eight digits where more are wanted.
+-- Zeros precede eight digits if more are needed.
 pub zeros_in_front : (width n : ℕ) → n < 2 ^ 32 → hexadecimal width n ≡ zeros (width - 8) ++ hexadecimal (min width 8) n
 zeros_in_front width n small =
     let ds = digits 16 true n in
@@ -208,7 +208,7 @@ zeros_in_front width n small =
     with_zeros width ds ∙ split_zeros (width - length ds) (width - 8) (min width 8 - length ds) ds both
     ∙ ap (λ x. zeros (width - 8) ++ x) (sym (with_zeros (min width 8) ds))
 
--- two places more are written
+-- two more places are written
 two_more : (places : List ℕ) (i a b : ℕ) → 2 * i + 1 < length places → take (2 * (i + 1)) (set (set places (2 * i) a) (2 * i + 1) b) ≡ take (2 * i) places ++ a ∷ b ∷ []
 two_more places i a b room =
     let next : 2 * (i + 1) ≡ 2 * i + 1 + 1 = omega arith in
@@ -218,14 +218,14 @@ two_more places i a b room =
     ∙ ap (λ x. x ++ b ∷ []) (take_more_set places (2 * i) a (omega (arith, room)))
     ∙ append_assoc (take (2 * i) places) (a ∷ []) (b ∷ [])
 
--- the digits of one byte more
+-- the digits of one more byte
 bytes_more : (bytes : List ℕ) (i d : ℕ) → i < length bytes
     → flat_map (hexadecimal 2) (take (i + 1) bytes) ≡ flat_map (hexadecimal 2) (take i bytes) ++ hexadecimal 2 (get_or bytes i d)
 bytes_more bytes i d within =
     ap (flat_map (hexadecimal 2)) (take_more bytes i d within) ∙ flat_map-append (hexadecimal 2) (take i bytes) (get_or bytes i d ∷ [])
     ∙ ap (λ x. flat_map (hexadecimal 2) (take i bytes) ++ x) (append-nil (hexadecimal 2 (get_or bytes i d)))
 
--- The two digits of a byte are written behind those of the bytes before it.
+-- The two digits of a byte are written after those of the bytes before it.
 pub byte_written : (places bytes : List ℕ) (i d n a b : ℕ) → i < length bytes → 2 * i + 1 < length places → n ≡ get_or bytes i d → n < 256
     → a ≡ digit_glyph true (n / 16) → b ≡ digit_glyph true (n % 16) → take (2 * i) places ≡ flat_map (hexadecimal 2) (take i bytes)
     → take (2 * (i + 1)) (set (set places (2 * i) a) (2 * i + 1) b) ≡ flat_map (hexadecimal 2) (take (i + 1) bytes)

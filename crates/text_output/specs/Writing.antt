@@ -4,16 +4,16 @@ use Rattle.std.specs.Prelude.{Ok, Err}
 use Rattle.std.specs.Io.KnownBytes.{Appends}
 use Rattle.text_output.specs.declared.writing.Gathered.{Gathered}
 
--- known bytes grow by a front of the text
+-- known bytes grow by a prefix of the text
 abbrev pub AppendsFront : Option (List ℕ) → Option (List ℕ) → List ℕ → Type 0
 AppendsFront old new text = (front behind : List ℕ) × (text ≡ front ++ behind) × Appends old new front
 
--- Known bytes grow by the text; or by a front of it, where a write failed.
+-- Known bytes grow by the text; or by a prefix of it, if a write failed.
 abbrev pub Writes : {E : Type 0} → Option (List ℕ) → Option (List ℕ) → List ℕ → Result (Unit {0}) E → Type 0
 Writes old new text (Ok u) = Appends old new text
 Writes old new text (Err e) = AppendsFront old new text
 
--- Of the text all but what is gathered went out; or a front of it, where a write has failed.
+-- Of the text everything except what is gathered went out; or a prefix of it, if a write has failed.
 abbrev pub HoldsWhere : Bool → Option (List ℕ) → Option (List ℕ) → List ℕ → List ℕ → Type 0
 HoldsWhere false at_first now gathered text = (out : List ℕ) × (text ≡ out ++ gathered) × Appends at_first now out
 HoldsWhere true at_first now gathered text = AppendsFront at_first now text

@@ -17,7 +17,7 @@ pub fn put_decimal<W: Write>(gathered: &mut Gathered, writer: &mut W, n: u64)
     gathered.put(writer, buffer.format(n).as_bytes());
 }
 
-/// Puts a number in decimal digits, with leading zeros to so many, at most seven.
+/// Puts a number in decimal digits, with leading zeros to this width, at most seven.
 pub fn put_padded_decimal<W: Write>(gathered: &mut Gathered, writer: &mut W, width: usize, n: u32)
     requires { width ≤ 7 }
     ensures { Puts (W.contents writer.old) (W.contents writer.new) gathered.old gathered.new (padded_decimal width n) }
@@ -49,8 +49,8 @@ fn hexadecimal_digit(n: u32) -> u8
     }
 }
 
-/// Writes a number in upper case hexadecimal digits, with leading zeros to so many, up to the last of eight places, and
-/// says which place the first digit has.
+/// Writes a number in upper case hexadecimal digits, with leading zeros to this width, up to the last of eight places,
+/// and returns the place of the first digit.
 fn hexadecimal_digits(places: &mut [u8; 8], width: u32, n: u32) -> usize
     requires { width ≤ 8 }
     ensures digits { drop result places.new ≡ hexadecimal width n }
@@ -69,7 +69,7 @@ fn hexadecimal_digits(places: &mut [u8; 8], width: u32, n: u32) -> usize
     place
 }
 
-/// Puts a number in upper case hexadecimal digits, with leading zeros to so many.
+/// Puts a number in upper case hexadecimal digits, with leading zeros to this width.
 pub fn put_hexadecimal<W: Write>(gathered: &mut Gathered, writer: &mut W, width: u32, n: u32)
     ensures { Puts (W.contents writer.old) (W.contents writer.new) gathered.old gathered.new (hexadecimal width n) }
 {

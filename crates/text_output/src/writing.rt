@@ -7,15 +7,15 @@ use arrayvec::ArrayVec;
 use std::io;
 use std::io::{ErrorKind, Write};
 
-/// The writer took no more.
+/// The writer stopped taking bytes.
 #[derive(Clone, Copy)]
 pub struct WriteFault {
-    /// What the writer said; of the kind `WriteZero` where it took nothing and said nothing.
+    /// What the writer reported; of the kind `WriteZero` if it took nothing and reported nothing.
     pub error: io::Error,
 }
 
-/// Output that is gathered, 4,096 bytes at most, and handed to a writer when there is no room for more or when it's
-/// asked for. Once a write has failed, nothing more goes out.
+/// Output that is gathered, 4,096 bytes at most, and handed to a writer when there is no room for more or on request.
+/// Once a write has failed, nothing more goes out.
 #[derive(Drop)]
 pub struct Gathered {
     text: ArrayVec<u8, 4096>,
@@ -32,7 +32,7 @@ fn nothing_taken() -> WriteFault
     }
 }
 
-/// Writes the whole text; or a front of it, where a write fails or takes nothing. No text is always written.
+/// Writes the whole text; or a prefix of it, if a write fails or takes nothing. An empty text never fails.
 fn write_out<W: Write>(writer: &mut W, text: &[u8]) -> Result<(), WriteFault>
     ensures writes { Writes (W.contents writer.old) (W.contents writer.new) text.now result }
     ensures some { OnErr result (0 < length text.now) }
@@ -59,7 +59,7 @@ impl Gathered {
         }
     }
 
-    /// Hands out what is gathered; the fault of the write that failed, this or an earlier one.
+    /// Hands out what is gathered; returns the fault of the write that failed, this or an earlier one.
     pub fn hand_out<W: Write>(&mut self, writer: &mut W) -> Result<(), WriteFault>
         ensures writes { (at_first : Option (List ℕ)) (text : List ℕ)
             → Holds at_first (W.contents writer.old) self.old text
@@ -76,7 +76,7 @@ impl Gathered {
         outcome
     }
 
-    /// Hands out what is gathered, at the end of a text; what the writer said where a write failed, an earlier one too.
+    /// Hands out what is gathered, at the end of a text; returns the error of a failed write, this or an earlier one.
     pub fn finish<W: Write>(self, writer: &mut W) -> Result<(), io::Error>
         ensures { (at_first : Option (List ℕ)) (text : List ℕ) → Holds at_first (W.contents writer.old) self text
             → Writes at_first (W.contents writer.new) text result }
@@ -88,8 +88,8 @@ impl Gathered {
         }
     }
 
-    /// Puts more text behind what was put before. Where there is no room for it, what was gathered is handed out, and
-    /// then the text: a write fails there alone.
+    /// Puts more text after what was put before. If there is no room for it, what was gathered is handed out, and then
+    /// the text: only then can a write fail.
     pub fn put<W: Write>(&mut self, writer: &mut W, more: &[u8])
         ensures puts { Puts (W.contents writer.old) (W.contents writer.new) self.old self.new more.now }
         ensures room { length self.old.text.items + length more.now ≤ 4096 → self.new.fault ≡ self.old.fault }

@@ -11,7 +11,7 @@ pub type Keyword = (&'static [u8], Kind);
 /// What can be written after an operation that has one of these forms.
 pub struct MacroForm {
     pub operation: &'static [u8],
-    /// What the first operand is. None where the operation has no forms.
+    /// What the first operand is. None if the operation has no forms.
     pub words: &'static [&'static [u8]],
     /// The operands without a keyword.
     pub positions: &'static [Keyword],

@@ -39,7 +39,7 @@ fn add_keywords(words: &mut Words, form: &MacroForm, field: &[u8]) -> bool {
     has_none
 }
 
-/// Appends the operand without a keyword that isn't there.
+/// Appends the operand without a keyword that is missing.
 fn add_position(words: &mut Words, form: &MacroForm, field: &[u8]) {
     let place = if field.is_empty() || form.positions.len() < 2 {
         0

@@ -1,4 +1,4 @@
-//! What is told of an operand that is wrong.
+//! What is said of an operand that is wrong.
 
 use crate::forms::{MacroForm, forms, has_forms, keyword_in, kind_of};
 use crate::guesses::{form_like, keyword_like};
@@ -6,10 +6,10 @@ use crate::values::{expected, slip_in};
 use listed_text::Words;
 use operand_texts::words::is_word;
 
-/// The keywords of ATTACH of which one stands there.
+/// The keywords of ATTACH that exclude each other.
 const APART: [(&'static [u8], &'static [u8]); 2] = [(b"GSPV", b"GSPL"), (b"SHSPV", b"SHSPL")];
 
-/// What stands in front of the first of these bytes; the whole text where there is none.
+/// What is before the first of these bytes; the whole text if it has none.
 pub fn before(text: &[u8], byte: u8) -> &[u8] {
     for i in 0..text.len() {
         if text[i] == byte {
@@ -23,7 +23,7 @@ fn has(text: &[u8], byte: u8) -> bool {
     before(text, byte).len() < text.len()
 }
 
-/// What an operand has as its value: what stands after its keyword, if it has one.
+/// The value of an operand: what follows its keyword, if it has one.
 fn value_of(operand: &[u8]) -> &[u8] {
     let size = before(operand, b'=').len();
     if size < operand.len() {
@@ -33,16 +33,7 @@ fn value_of(operand: &[u8]) -> &[u8] {
     }
 }
 
-/// Appends `; WORD?`.
-pub fn add_guess(words: &mut Words, guess: Option<&'static [u8]>) {
-    if let Some(word) = guess {
-        words.add(b"; ");
-        words.add(word);
-        words.add(b"?");
-    }
-}
-
-/// The keyword beside which a keyword of ATTACH can't stand.
+/// The keyword that excludes a keyword of ATTACH.
 fn excluded_by(word: &[u8]) -> Option<&'static [u8]> {
     for (one, other) in APART {
         if is_word(word, one) {
@@ -64,7 +55,7 @@ fn add_form(words: &mut Words, operation: &'static [u8], field: &[u8]) {
     }
 }
 
-/// Appends why a keyword that the operation has can't stand where it stands, with a value or without one.
+/// Appends why a keyword of the operation is wrong here, with a value or without one.
 fn add_refused(
     words: &mut Words,
     operation: &'static [u8],
@@ -79,7 +70,7 @@ fn add_refused(
         words.add(b"=?");
     } else if let Some(other) = excluded_by(word) {
         words.add(word);
-        words.add(b" can't stand beside ");
+        words.add(b" can't be given with ");
         words.add(other);
     } else {
         words.add(word);
@@ -109,25 +100,37 @@ pub fn add_forms(words: &mut Words, operation: &'static [u8]) {
     }
 }
 
-/// Appends that a first operand is no form of its operation, and which one was meant, or all.
-pub fn add_no_form(words: &mut Words, operation: &'static [u8], key: &[u8]) {
+/// Appends that a first operand is no form of its operation, and all forms if none is like it. Gives the one that was
+/// meant.
+pub fn add_no_form(
+    words: &mut Words,
+    operation: &'static [u8],
+    key: &[u8],
+) -> Option<&'static [u8]> {
     words.add(b"no form of ");
     words.add(operation);
-    match form_like(operation, key) {
-        Some(word) => add_guess(words, Some(word)),
-        None => add_forms(words, operation),
+    let meant = form_like(operation, key);
+    if meant.is_none() {
+        add_forms(words, operation);
     }
+    meant
 }
 
-/// Appends that an operand of this field is none of a form's, and which one was meant.
-pub fn add_no_operand(words: &mut Words, form: &MacroForm, field: &[u8], operand: &[u8]) {
+/// Appends that an operand of this field is none of a form's. Gives the keyword that was meant.
+pub fn add_no_operand(
+    words: &mut Words,
+    form: &MacroForm,
+    field: &[u8],
+    operand: &[u8],
+) -> Option<&'static [u8]> {
     let key = before(operand, b'=');
     if let Some(word) = keyword_in(form.operation, key) {
         add_refused(words, form.operation, field, word, has(operand, b'='));
+        None
     } else {
         words.add(b"no operand of ");
         add_form(words, form.operation, field);
-        add_guess(words, keyword_like(form, key));
+        keyword_like(form, key)
     }
 }
 

@@ -43,14 +43,14 @@ pub enum Slip {
     Above,
     /// A number with other characters among its digits.
     Digits,
-    /// A register that there isn't.
+    /// A register that doesn't exist.
     Register,
     /// Values that are added, or the like.
     Expression,
 }
 
 impl Slip {
-    /// What is told of it.
+    /// What is said of it.
     pub fn text(self) -> &'static [u8] {
         match self {
             Slip::Prefix => b"a hexadecimal number is X'10'",
@@ -134,7 +134,7 @@ fn quoted_slip(text: &[u8]) -> Option<Slip> {
     }
 }
 
-/// The mistake in a text where a number may be written.
+/// The mistake in a text, if a number may be written there.
 fn number_slip(text: &[u8]) -> Option<Slip> {
     if text.len() > 1 && is_word(&text[..2], b"0X") {
         Some(Slip::Prefix)

@@ -1,4 +1,4 @@
--- What clap read of a command line is what its words ask for.
+-- What clap read of a command line is what its arguments ask for.
 use Rattle.std.proofs.Common.{◌≡◌, ◌∙◌, ◌≤◌, Bool, true, false, cond, refl, sym, ap, subst, ⊎_elim, inl, inr, arith, codes, find, map, List, [], ◌∷◌, length, bytes_eq, Some, Result, Ok, Err, option_map, option_and_then}
 use Rattle.std.specs.Prelude.{IfOk, slice_get}
 use Rattle.clap.specs.Words.{App, FailsBy, HasMatchesOf, IsAmong, Kinds, Row, Text, fault_of, first_of, found_of, is_simple, kind_of, matches_of, one_of, rows_of}
@@ -85,7 +85,7 @@ settings_are rows uses is = ap settings_asked is
 pub file_is : (rows : List Row) (uses : Uses) → rows ≡ map row_of_use uses → file_asked rows ≡ given (codes "FILE") uses
 file_is rows uses is = ap file_asked is ∙ first_is (codes "FILE") uses
 
--- no words but the program's name give nothing
+-- no arguments except the program's name give nothing
 pub nothing_asked : (words : List Text) → length words ≤ 1 → asked words ≡ run []
 nothing_asked [] few = refl
 nothing_asked (name ∷ []) few = refl

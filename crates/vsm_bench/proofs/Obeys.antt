@@ -1,4 +1,4 @@
--- What the program does is what its words ask for.
+-- What the program does is what its arguments ask for.
 use Rattle.std.proofs.Common.{arith, map, Bool, ◌≡◌, ◌∙◌, ◌≤◌, ◌⊎◌, inl, inr, ℕ, ap, refl, sym, subst, codes, true, true≢false, List, [], ◌∷◌, length, Option, Some, Err}
 use Rattle.std.specs.Io.KnownBytes.{Appends}
 use Rattle.std.proofs.lemmas.Option.{none-some}
@@ -16,13 +16,13 @@ use Rattle.script_steps.specs.declared.faults.RunFault.TheVariants as fault
 use Rattle.bench_core.specs.NewFault.TheVariants as new_fault
 use Rattle.vsm_bench.proofs.Asked.{file_is, nothing_asked, settings_are}
 
--- as many words as texts
+-- the same number of words and texts
 pub map_few : {A B : Type 0} (f : A → B) (xs : List A) → length xs ≤ 1 → length (map f xs) ≤ 1
 map_few f [] few = few
 map_few f (x ∷ []) few = few
 map_few f (x ∷ y ∷ xs) few = absurd (omega arith)
 
--- without words there is no file
+-- without arguments there is no file
 names_no_file : (words : List Text) (rows : List Row) (path : Text) → Gives rows (asked words) → Some path ≡ file_asked rows → length words ≤ 1 → ⊥
 names_no_file words rows path gives named few =
     none-some path (sym (named ∙ ap file_asked (subst (Gives rows) (nothing_asked words few) gives)))
@@ -38,12 +38,12 @@ module _ {O E : Type 0} (contents : O → Option (List ℕ)) (said : E → E →
     says,
   )
 
-  -- the error of words that have no fault is want of memory
+  -- the error of arguments that have no fault is that memory ran out
   pub refuses_memory : (e : Error) → kind_of e ≡ kind.OutOfMemory → AnswersKind said errors told at_terminal contents (kind_of e) output later code
       → Refuses said errors told at_terminal output later code (fault.New new_fault.NoMemory)
   refuses_memory e memory answers = subst (λ k. AnswersKind said errors told at_terminal contents k output later code) memory answers
 
-  -- the error of wrong words
+  -- the error of wrong arguments
   pub wrong_answer : (k : ErrorKind) → is_wrong k ≡ true → AnswersKind said errors told at_terminal contents k output later code → (later ≡ output) × (code ≡ 16)
   wrong_answer kind.DisplayHelp bad answers = absurd (true≢false (sym bad))
   wrong_answer kind.DisplayVersion bad answers = absurd (true≢false (sym bad))
@@ -58,7 +58,7 @@ module _ {I O E : Type 0} (remaining : I → Option (List ℕ)) (contents : O �
       no_memory contents said output later errors told at_terminal code (remaining input) (refuses_memory contents said output later errors told at_terminal code e memory answers)
   runs_refuse words e (inr is) answers few = absurd (subst (IsKindOf (kind_of e)) (nothing_asked words few) is)
 
-  -- a file that is named is a word
+  -- a file that is named is an argument
   pub runs_named : (words : List Text) (rows : List Row) (path : Text) → Gives rows (asked words) → Some path ≡ file_asked rows → length words ≤ 1
       → Commanded said errors told at_terminal (remaining input) (remaining input) (contents output) (contents later) code
   runs_named words rows path gives named few = absurd (names_no_file words rows path gives named few)
@@ -74,7 +74,7 @@ module _ {F I O E : Type 0} (opened : Text → Option F → Type 0) (unread : F 
       (refl, found.0, found.1)
   answers_kind k (run uses) is answers = absurd is
 
-  -- the words ask for no run, or there was no memory
+  -- the arguments ask for no run, or there was no memory
   pub does_refuse : (words : List Text) (e : Error) → (kind_of e ≡ kind.OutOfMemory) ⊎ IsKindOf (kind_of e) (asked words)
       → AnswersKind said errors told at_terminal contents (kind_of e) output later code → Does opened unread remaining contents said input input output later errors told at_terminal code words
   does_refuse words e (inl memory) answers = inl (refl, refuses_memory contents said output later errors told at_terminal code e memory answers)
@@ -103,7 +103,7 @@ module _ {F I O E : Type 0} (opened : Text → Option F → Type 0) (unread : F 
       → Does opened unread remaining contents said input left output later errors told at_terminal code words
   does_obey words rows gives obeys = inr (answers_run rows (asked words) gives obeys)
 
-  -- without words it's a run by default
+  -- without arguments it's a run by default
   pub runs_obey : (words : List Text) (rows : List Row) → Gives rows (asked words)
       → Obeys opened unread remaining contents said input left output later errors told at_terminal code (settings_asked rows) (file_asked rows) → length words ≤ 1
       → Commanded said errors told at_terminal (remaining input) (remaining left) (contents output) (contents later) code

@@ -1,5 +1,5 @@
--- Each state of a bench is well-formed: what a statement asks for, once its values are looked up, has its values, and each
--- call keeps that all states are.
+-- Each state of a bench is well-formed: what a statement asks for, once its values are looked up, has its values, and
+-- each call keeps all states well-formed.
 use Rattle.std.proofs.Common.{◌≡◌, ℕ, zero, suc, ◌/◌, ◌<◌, Bool, true, Option, Some, None, List, [], ◌∷◌, All, refl, sym, subst, arith}
 use Rattle.std.specs.Prelude.{IfSome, ⊤}
 use Rattle.std.specs.Option.{option_map}
@@ -35,7 +35,7 @@ same_register r n e = cc
 no_register : (n : ℕ) → ◌≡◌ {A = Option ℕ} None (Some n) → ⊥
 no_register n e = cc
 
--- a place that can be written has one of the sixteen registers, if it is one
+-- a place that can be written, if it is a register, is one of the sixteen
 register_is_one : (target : Option Target) → IfSome target IsTarget → IsRegister (register_in target)
 register_is_one None is = λ n e. absurd (no_register n e)
 register_is_one (Some (in_name name)) is = λ n e. absurd (no_register n e)
@@ -125,7 +125,7 @@ asked_is_it m (poke address (word value)) is = word_is_it (looked_up m address) 
 -- ---- statements
 
 module _ (settings : Settings) (valid : settings_valid settings ≡ true) where
-  -- the state behind a service with its name in a form, by what it does
+  -- the state after a service with its name in a form, by what it does
   outcome_kept : (m : NamedState) (x : Act) (service : Service) (o : Outcome NamedState Reply Cause) → IsIt (name_asked x) (Some service) →
       named_step settings m (record { service = service; name = name_asked x }) ≡ o → IsWellFormedNamed settings m →
       IsWellFormedNamed settings (state_after m (or_abend (with_code (family_asked x) service o)))
@@ -139,7 +139,7 @@ module _ (settings : Settings) (valid : settings_valid settings ≡ true) where
   served_kept m x (Some service) is w =
       outcome_kept m x service (named_step settings m (record { service = service; name = name_asked x })) is refl w
 
-  -- the state behind a statement, also of a refused one
+  -- the state after a statement, also of a refused one
   left_well_formed : (m : NamedState) (x : Act) → IsGiven x → IsWellFormedNamed settings m →
       IsWellFormedNamed settings (state_after m (statement_step settings m x))
   left_well_formed m x is w = served_kept m x (service_asked m x) (asked_is_it m x is) w
@@ -157,7 +157,7 @@ reached_is_well_formed settings (x ∷ older) valid all =
 -- ---- calls
 
 module _ (settings : Settings) where
-  -- all states that a bench stands for, one by one
+  -- all states that a bench represents, one by one
   of_bench : (b : Bench NamedState) (past later : List NamedState) (s : NamedState) → b.past ≡ past → b.present ≡ s → b.later ≡ later →
       All (IsWellFormedNamed settings) past → IsWellFormedNamed settings s → All (IsWellFormedNamed settings) later → HasWellFormed settings b
   of_bench b past later s is_past is_present is_later p w l = record {

@@ -45,7 +45,7 @@ parsed text (Err e) h = go (fits (without_leading_plus text)) refl
         let inner = both _ _ outer.0 in
         absurd (h ((ltb-true _ _ inner.0, digits_from (without_leading_plus text) inner.1), ltb-true _ _ outer.1))
 
--- what a typed getter gave, where an option that wasn't written has a default
+-- what a typed getter gave, if an option that wasn't written has a default
 abbrev pub given : {E : Type 0} → ℕ → Result (Option ℕ) E → Option ℕ
 given default (Ok (Some n)) = Some n
 given default (Ok None) = Some default
@@ -67,7 +67,7 @@ module _ {E : Type 0} (gives : Text → Result ℕ E → Type 0) (parses : (t : 
   number_given m name default r none value =
       found (one_text (found_of m) name) default r none value ∙ ap (λ o. option_map_or number_in o (Some default)) (one_text-rows (found_of m) name)
 
--- what isn't 31 is below the line
+-- anything except 31 is below the line
 pub other_residence : (text : Text) → (text ≡ codes "31" → ⊥) → Below ≡ residence_in text
 other_residence text differs = go (bytes_eq text (codes "31")) refl
   where

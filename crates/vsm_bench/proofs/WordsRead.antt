@@ -194,7 +194,7 @@ place false = 1
 abbrev file_place : Uses → ℕ
 file_place uses = place (is_given (codes "FILE") uses)
 
--- what a fault that is already there makes of a later one
+-- what an earlier fault makes of a later one
 abbrev kinds_of : Option ErrorKind → Kinds
 kinds_of None = []
 kinds_of (Some k) = k ∷ []
@@ -238,18 +238,18 @@ letter_stops kinds x = request_stops kinds (104 == x) (86 == x)
 name_stops : (kinds : Kinds) (name : Text) → kinds ≡ name_kind None name None ∷ [] → Stops kinds (requested name)
 name_stops kinds name = request_stops kinds (bytes_eq (codes "help") name) (bytes_eq (codes "version") name)
 
--- what a use comes to: its kinds and its rows, and how far the words then are
+-- the result of a use: its kinds and its rows, and how far the words then are
 abbrev Comes : Uses → Kinds → List Row → Progress → Type 0
 Comes uses kinds rows (ready later) = (kinds ≡ []) × (rows ≡ map row_of_use later) × (is_given (codes "FILE") later ≡ is_given (codes "FILE") uses)
 Comes uses kinds rows (ends wrong) = (k : ErrorKind) × (kinds ≡ k ∷ []) × (is_wrong k ≡ true)
 Comes uses kinds rows _ = ⊥
 
--- which progress follows a path
+-- the progress after a path
 abbrev going : Bool → Uses → Progress
 going false uses = ready uses
 going true uses = operands uses
 
--- what `--name` comes to, where it's known whether it's an option's
+-- the result of `--name`, if it's known whether it's an option's
 abbrev named_so : Bool → Text → Option Text → Uses → Progress
 named_so b name (Some v) uses = cond b (with_option name v uses) (ends wrong)
 named_so b name None uses = cond b (awaits name uses) (requested name)
@@ -334,7 +334,7 @@ module _ (c : List Rule) (facts : Facts c) where
   file_given : (path : Text) (uses : Uses) → is_given (codes "FILE") (uses ++ (codes "FILE", path) ∷ []) ≡ true
   file_given path uses = given_more (codes "FILE") uses (codes "FILE", path) ∙ or_true (is_given (codes "FILE") uses)
 
-  -- ---- a flag word: what it refuses, where the pending use fails by `o`
+  -- ---- a flag word: what it refuses, if the pending use fails by `o`
 
   module _ (rs : List Row) (p : Option (Text × List Text)) (o : Option ErrorKind) (is : settle_fault c false (held rs p) ≡ kinds_of o) where
     letter_fault : (word : Text) (x : ℕ) → Views word (letter x) → other_fault (shape c) None word (held rs p) ≡ letter_kind o x ∷ []
@@ -535,7 +535,7 @@ module _ (c : List Rule) (facts : Facts c) where
     unfolding walked
     operands_goes = file_goes true uses rs p word ok (is_given (codes "FILE") uses) refl refl refl
 
-  -- ---- where a fault is certain, and is yet to be met
+  -- ---- if a fault is certain, and is yet to be met
 
   module _ (b : Bool) (rs : List Row) (p : Option (Text × List Text)) (word : Text) (k : ErrorKind) (fails : settle_fault c false (held rs p) ≡ k ∷ []) (bad : is_wrong k ≡ true) where
     path_dooms : (kinds : Kinds) → kinds ≡ step_fault (shape c) (place b) (held rs p) value → Stops kinds (ends wrong)

@@ -20,17 +20,17 @@ fault_status fault.Write = 8
 fault_status fault.TooLong = 8
 fault_status (fault.New f) = 16
 
--- 0 where no statement was refused, and 4 where one was
+-- 0 if no statement was refused, and 4 if one was
 abbrev pub status : Result RunTotals RunFault → ℕ
 status (Ok totals) = if totals.refused == 0 then 0 else 4
 status (Err e) = fault_status e
 
--- 0 where help went out
+-- 0 if help was written
 abbrev pub help_status : Result (Unit {0}) RunFault → ℕ
 help_status (Ok u) = 0
 help_status (Err e) = fault_status e
 
--- Help went out, the end of which is known; or a front of it; or there was no memory to begin with, and nothing is
+-- Help was written, the end of which is known; or a prefix of it; or there was no memory to begin with, and nothing is
 -- written.
 abbrev pub Helped : Option (List ℕ) → Option (List ℕ) → Result (Unit {0}) RunFault → Type 0
 Helped at_first now (Ok u) = (options : List ℕ) × Appends at_first now (options ++ help_end)
@@ -38,13 +38,13 @@ Helped at_first now (Err fault.Write) = (options : List ℕ) × AppendsFront at_
 Helped at_first now (Err (fault.New new_fault.NoMemory)) = Appends at_first now []
 Helped at_first now (Err _) = ⊥
 
--- The version went out; or a front of it.
+-- The version was written, or a prefix of it.
 abbrev pub Versioned : Option (List ℕ) → Option (List ℕ) → Result (Unit {0}) RunFault → Type 0
 Versioned at_first now (Ok u) = Appends at_first now version_text
 Versioned at_first now (Err fault.Write) = AppendsFront at_first now version_text
 Versioned at_first now (Err _) = ⊥
 
--- `said` is what is said to standard error, which is `errors` at first and `told` then; it may be a terminal.
+-- `said` is what is said to standard error, which is `errors` at first and then `told`; it may be a terminal.
 module _ {E : Type 0} (said : E → E → List ℕ → Bool → Type 0) (errors told : E) (at_terminal : Bool) where
   -- a fault has its text, and nothing is said if there is none
   abbrev pub Reports : {T : Type 0} → Result T RunFault → Type 0
@@ -71,7 +71,7 @@ module _ {E : Type 0} (said : E → E → List ℕ → Bool → Type 0) (errors 
   RunsOpened unread contents settings output later code None =
       (later ≡ output) × (code ≡ 8) × SaysFirst said errors told at_terminal (fault_text fault.Read)
 
-  -- Nothing is written, and a new bench isn't begun for this fault.
+  -- Nothing is written, and a new bench isn't begun because of this fault.
   abbrev pub Refuses : {O : Type 0} → O → O → ℕ → RunFault → Type 0
   Refuses output later code e =
       (later ≡ output) × (code ≡ fault_status e) × SaysFirst said errors told at_terminal (fault_text e)
@@ -93,7 +93,7 @@ module _ {E : Type 0} (said : E → E → List ℕ → Bool → Type 0) (errors 
 module _ {F I O E : Type 0} (opened : List ℕ → Option F → Type 0) (unread : F → Option (List ℕ))
     (remaining : I → Option (List ℕ)) (contents : O → Option (List ℕ)) (said : E → E → List ℕ → Bool → Type 0)
     (input left : I) (output later : O) (errors told : E) (at_terminal : Bool) (code : ℕ) where
-  -- the input is read where the words name no file, and else left as it was
+  -- the input is read if the arguments name no file, and else left as it was
   abbrev pub Runs : Settings → Option (List ℕ) → Type 0
   Runs settings None =
       CommandedWith said errors told at_terminal settings (remaining input) (remaining left) (contents output)
@@ -107,14 +107,14 @@ module _ {F I O E : Type 0} (opened : List ℕ → Option F → Type 0) (unread 
       (left ≡ input) × Refuses said errors told at_terminal output later code (fault.New new_fault.Setting)
   Obeys (Some settings) file = Runs settings file
 
-  -- help, the version, a run with what the words give, or status 16 where they are wrong
+  -- help, the version, a run with what the arguments give, or status 16 if they are wrong
   abbrev pub Answers : Asked → Type 0
   Answers help = (left ≡ input) × Helps said errors told at_terminal (contents output) (contents later) code
   Answers version = (left ≡ input) × Versions said errors told at_terminal (contents output) (contents later) code
   Answers wrong = (left ≡ input) × (later ≡ output) × (code ≡ 16)
   Answers (run uses) = Obeys (settings_in uses) (given (codes "FILE") uses)
 
-  -- or there is no memory to read the words, which is said
+  -- or there is no memory to read the arguments, which is reported
   abbrev pub Does : List (List ℕ) → Type 0
   Does words = ((left ≡ input) × Refuses said errors told at_terminal output later code (fault.New new_fault.NoMemory))
       ⊎ Answers (asked words)

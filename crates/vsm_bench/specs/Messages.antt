@@ -14,13 +14,13 @@ fault_text fault.TooLong = codes "vsm: too long\n"
 fault_text (fault.New new_fault.Setting) = codes "vsm: settings\n"
 fault_text (fault.New new_fault.NoMemory) = codes "vsm: memory\n"
 
--- Known bytes grow by the whole text, or by a front of it.
+-- Known bytes grow by the whole text, or by a prefix of it.
 abbrev pub WritesWhere : Bool → Option (List ℕ) → Option (List ℕ) → List ℕ → Type 0
 WritesWhere true old new text = Appends old new text
 WritesWhere false old new text = AppendsFront old new text
 
--- A text was said, whether or not all of it went out; and nothing else. By `said` each implementor of `Messages` says
--- what that leaves.
+-- A text was said, whether or not all of it was written, and nothing else. By `said` each implementor of `Messages`
+-- says what that leaves.
 module _ {E : Type 0} (said : E → E → List ℕ → Bool → Type 0) (errors told : E) where
   abbrev pub Says : List ℕ → Type 0
   Says text = (whole : Bool) × said errors told text whole

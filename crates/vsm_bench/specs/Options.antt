@@ -1,4 +1,4 @@
--- The command line as clap is told of it, and what clap reads.
+-- The command line as clap is given it, and what clap reads.
 use Rattle.std.specs.Prelude.{◌≡◌, ◌⊎◌, ℕ, Bool, true, false, List, [], ◌∷◌, map, codes, Option, Some, None, Result}
 use Rattle.std.specs.Prelude.{Ok, Err}
 use Rattle.clap.specs.Words.{App, Row, Text, new_app, new_rule, with_rule, first_of, rows_of, found_of}
@@ -37,7 +37,7 @@ row_of_use pair = record {
   reading = reading_of parser.String;
 }
 
--- a kind of error that tells of wrong words
+-- a kind of error that says that arguments are wrong
 abbrev pub is_wrong : ErrorKind → Bool
 is_wrong kind.DisplayHelp = false
 is_wrong kind.DisplayVersion = false
@@ -54,14 +54,14 @@ abbrev pub Gives : List Row → Asked → Type 0
 Gives rows (run uses) = rows ≡ map row_of_use uses
 Gives rows _ = ⊥
 
--- The words were read as they ask: what was read is what they give, or the error is of what they ask for (or memory was
--- wanting).
+-- The arguments were read as they ask: what was read is what they give, or the error is of what they ask for (or memory
+-- ran out).
 abbrev pub Reads : List Text → Result ArgMatches Error → Type 0
 Reads words (Ok m) = Gives (rows_of (found_of m)) (asked words)
 Reads words (Err e) = (kind_of e ≡ kind.OutOfMemory) ⊎ IsKindOf (kind_of e) (asked words)
 
--- An answer to words that gave an error of this kind: help, or the version; or want of memory, which is said; or status
--- 16, and nothing is written.
+-- An answer to arguments that gave an error of this kind: help, or the version; or no memory, which is reported; or
+-- status 16, and nothing is written.
 module _ {E : Type 0} (said : E → E → List ℕ → Bool → Type 0) (errors told : E) (at_terminal : Bool) where
   abbrev pub AnswersKind : {O : Type 0} → (O → Option (List ℕ)) → ErrorKind → O → O → ℕ → Type 0
   AnswersKind contents kind.DisplayHelp output later code =

@@ -9,20 +9,20 @@ use Rattle.vsm_model.specs.WellFormed.{IsWellFormedNamed}
 use Rattle.macro_reader.specs.Requests.{Act, act, IsValidAct, AskedHasBytes}
 use Rattle.bench_core.specs.Machine.{Why, statement_step}
 
--- A statement as a bench is given it: it can be written, and what it stores are bytes, as with each statement of the
+-- A statement as a bench is given it: it can be written, and what it stores are bytes, as for each statement of the
 -- code (`laws::stores_bytes`).
 pub record IsGiven (x : Act) : Type 0 where
   pub valid : IsValidAct x
   pub has_bytes : AskedHasBytes (act x)
 
--- Accepted, it leaves a well-formed state well-formed.
+-- If accepted, it leaves a well-formed state well-formed.
 abbrev pub AcceptedLeavesWellFormed : Type 0
 AcceptedLeavesWellFormed =
     (settings : Settings) (m n : NamedState) (x : Act) (reply : Reply) →
     settings_valid settings ≡ true → IsGiven x → IsWellFormedNamed settings m →
     statement_step settings m x ≡ Accepted n reply → IsWellFormedNamed settings n
 
--- So the state after any list of statements run alone, as the headline runs those that stand, is well-formed,
+-- So the state after any list of statements run alone, as the headline runs those in effect, is well-formed,
 abbrev pub ReachedIsWellFormed : Type 0
 ReachedIsWellFormed =
     (settings : Settings) (xs : List Act) → settings_valid settings ≡ true → All IsGiven xs →
@@ -33,7 +33,7 @@ abbrev pub IsGivenCall : Call Act → Type 0
 IsGivenCall (Apply x) = IsGiven x
 IsGivenCall _ = ⊤
 
--- each state that a bench stands for is well-formed
+-- each state that a bench represents is well-formed
 pub record HasWellFormed (settings : Settings) (b : Bench NamedState) : Type 0 where
   pub past : All (IsWellFormedNamed settings) b.past
   pub present : IsWellFormedNamed settings b.present

@@ -19,7 +19,7 @@ abbrev pub number_option : Text → Rule
 number_option name =
     record (new_rule name) { long = Some name; value_names = 1; parser = Some (parser.Unsigned 0 18446744073709551615) }
 
--- what --residence takes
+-- the values of --residence
 abbrev pub Residences : Type 0
 Residences = Bor (List (Bor Text))
 
@@ -30,7 +30,7 @@ abbrev pub residence_option : Residences → Rule
 residence_option values = record (new_rule (codes "residence"))
     { long = Some (codes "residence"); value_names = 1; parser = Some (parser.Names values) }
 
--- the four options of a bench, each of them once at most
+-- the four options of a bench, each of them at most once
 abbrev pub with_settings : Residences → App → App
 with_settings values app =
     with_rule (with_rule (with_rule (with_rule app (number_option (codes "low"))) (number_option (codes "high")))
@@ -38,14 +38,14 @@ with_settings values app =
 
 -- ---- what they say
 
--- where no option is written: 64K below the line and above it, a caller below it, and 1,024 changes that can be undone
+-- if no option is written: 64K below the line and above it, a caller below it, and 1,024 changes that can be undone
 abbrev pub default_settings : Settings
 default_settings = record { low_k = 64; high_k = 64; residence = Below; history = 1024 }
 
 abbrev pub is_numeral : List ℕ → Bool
 is_numeral digits = nat_lt 0 (length digits) && list_all (λ d. nat_lt (digit_value d) 10) digits
 
--- the number that a text writes, where it has 32 bits
+-- the number that a text writes, if it has 32 bits
 abbrev pub number_in : List ℕ → Option ℕ
 number_in text =
     let digits = without_leading_plus text in

@@ -1,4 +1,4 @@
--- What the words of a command line ask for.
+-- What the arguments of a command line, its words, ask for.
 use Rattle.std.specs.Prelude.{◌==◌, ◌&&◌, ◌||◌, ◌^◌, ◌++◌, ℕ, Bool, not, List, [], ◌∷◌, Option, Some, None, find, fold}
 use Rattle.std.specs.Prelude.{if◌then◌else◌, codes, drop, nat_lt, option_map, slice_get}
 use Rattle.std.specs.List.{after_first, before_first, list_any}
@@ -23,7 +23,7 @@ long_form [] = dashes
 long_form (c ∷ cs) = named (before_first (λ x. x == 61) (c ∷ cs))
     (if list_any (λ x. x == 61) (c ∷ cs) then Some (after_first (λ x. x == 61) (c ∷ cs)) else None)
 
--- by what follows a hyphen (45); bytes that spell no character are of no letter
+-- by what follows a hyphen (45); bytes that spell no character aren't a letter
 abbrev pub hyphen_form : List ℕ → Form
 hyphen_form [] = plain
 hyphen_form (c ∷ cs) =
@@ -74,14 +74,14 @@ pub data Asked : Type 0 where
   wrong : Asked
   run : Uses → Asked
 
--- The next word may be any; or is the value of an option; or is a path, after `--`; or none is read any longer.
+-- The next word may be any; or is the value of an option; or is a path, after `--`; or none is read.
 pub data Progress : Type 0 where
   ready : Uses → Progress
   awaits : List ℕ → Uses → Progress
   operands : Uses → Progress
   ends : Asked → Progress
 
--- each option is given once at most, and so is the path
+-- each option is given at most once, and so is the path
 abbrev pub with_option : List ℕ → List ℕ → Uses → Progress
 with_option name text uses =
     if is_given name uses || not (takes name text) then ends wrong else ready (uses ++ (name, text) ∷ [])
@@ -108,7 +108,7 @@ after_form dashes word uses = operands uses
 after_form (named name text) word uses = after_name name text uses
 after_form plain word uses = with_file ready word uses
 
--- the value of an option looks like no other option
+-- the value of an option doesn't look like another option
 abbrev pub after_value : Form → List ℕ → List ℕ → Uses → Progress
 after_value plain name word uses = with_option name word uses
 after_value _ name word uses = ends wrong

@@ -1,4 +1,4 @@
-//! What a terminal is shown after the first line of a fault: which word, file or setting it is, and what to do.
+//! What a terminal is shown after the first line of a fault: which argument, file or setting it is, and what to do.
 
 use script_steps::{NewFault, RunFault};
 use std::fmt::{Display, Formatter};
@@ -11,13 +11,13 @@ use vsm_model::geometry::{MOST_HIGH_K, MOST_LOW_K, PAGE_K};
 pub(crate) enum Advice<'a> {
     /// The file of this name can't be opened; this is what the system said.
     Unopened(&'a str, io::Error),
-    /// A number of the words has more than 32 bits.
+    /// A number in the arguments has more than 32 bits.
     Number,
-    /// A run with these settings ended so.
+    /// A run with these settings ended with this fault.
     Run(RunFault, Settings),
 }
 
-/// The option whose setting is out of its limits, with these.
+/// The option whose setting is out of its limits, with the limits.
 fn setting_advice(settings: Settings) -> &'static str {
     if settings.low_k < PAGE_K || settings.low_k > MOST_LOW_K || settings.low_k % PAGE_K != 0 {
         "--low is a multiple of 4 from 4 to 16360"

@@ -98,7 +98,7 @@ fn run_opened<S: Read + Drop, O: Write, E: Messages>(
     }
 }
 
-/// Reports a fault of words that ask for no run, and gives its exit status.
+/// Reports a fault of arguments that ask for no run, and gives its exit status.
 fn report_words<E: Messages>(errors: &mut E, at_terminal: bool, fault: RunFault) -> u8
     ensures status { result ≡ fault_status fault }
     ensures says { SaysFirst E.said errors.old errors.new at_terminal (fault_text fault) }
@@ -137,8 +137,8 @@ fn version<O: Write, E: Messages>(output: &mut O, errors: &mut E, at_terminal: b
     }
 }
 
-/// Answers words that ask for no run: writes help or the version to `output`, and what is wrong with the words to
-/// `errors`.
+/// Answers arguments that ask for no run: writes help or the version to `output`, and what is wrong with the arguments
+/// to `errors`.
 fn answer<O: Write, E: Messages>(
     alloc: Global,
     error: &Error,
@@ -164,17 +164,17 @@ fn answer<O: Write, E: Messages>(
     }
 }
 
-/// Runs the program on these words (its name, and what follows): reads the script from the file that they name or else
-/// from `input`, writes its output to `output`, and what is wrong with the words or the run to `errors`. Gives the exit
-/// status.
+/// Runs the program with these arguments (the first is its name): reads the script from the file that they name, or
+/// else from `input`, writes its output to `output`, and what is wrong with the arguments or the run to `errors`. Gives
+/// the exit status.
 ///
-/// If the words name a file, what `rt` opens for it is what is run, from its place when it's opened, and `input` isn't
-/// read. The status is 0 if no statement was refused, or help or the version went out; 4 if a statement was refused; 8
-/// if the file can't be opened, reading or writing failed or the script is too long; and 16 if the words are wrong, the
-/// settings are out of their limits or there is no memory. What is wrong is found in this order: the words, a number
-/// above 32 bits, opening the file, the run. Before the run nothing is read, and only help or the version is written to
-/// `output`. With status 8 or 16 one message is said to `errors`, which a second line follows if that is a terminal
-/// (`at_terminal`); with another status none is.
+/// If the arguments name a file, what `rt` opens for it is run, from its place when it's opened, and `input` isn't
+/// read. The status is 0 if no statement was refused, or help or the version was written; 4 if a statement was refused;
+/// 8 if the file can't be opened, reading or writing failed or the script is too long; and 16 if the arguments are
+/// wrong, the settings are out of their limits or there is no memory. What is wrong is found in this order: the
+/// arguments, a number above 32 bits, opening the file, the run. Before the run nothing is read, and only help or the
+/// version is written to `output`. With status 8 or 16 one message is written to `errors`, which a second line follows
+/// if that is a terminal (`at_terminal`); with any other status none is.
 pub fn command<R: ScriptFiles + AllocGlobal, I: Read, O: Write, E: Messages>(
     rt: &R,
     words: &[String],

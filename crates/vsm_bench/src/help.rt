@@ -1,4 +1,4 @@
-//! Help: what it says of the options, and of all else after that; and the version.
+//! Help: what it says of the options, and of everything else after that; and the version.
 ghost use Rattle.std.specs.Prelude.{◌≡◌, ◌++◌};
 ghost use Rattle.text_output.specs.Writing.{Writes};
 ghost use Rattle.vsm_bench.specs.Command.{Helped, Versioned};
@@ -12,13 +12,11 @@ use std::io;
 use std::io::Write;
 use text_output::Gathered;
 
-const BEHIND_THE_OPTIONS: &str = "
-The low region lies below the 16 MB line, the high region above it. An area that is asked for with LOC=31 or ANY
-lies in the high region, whose size --high sets, or in the low one where that has no room. LOC=RES, which holds where
-LOC is left out, asks by --residence: with 24 for an area below the line, with 31 for one on either side.
+const AFTER_THE_OPTIONS: &str = "
+The low region is below the 16 MB line, the high region above it. LOC=31 or ANY asks for an area in the high region,
+or in the low one if that has no room. LOC=RES, the default, follows --residence: 24 is below the line, 31 either side.
 
-What can be written in a script is told in vsm-statements(5), what is printed in vsm-messages(7): pages of the manual,
-made from STATEMENTS.md and MESSAGES.md.
+See vsm-statements(5) for scripts and vsm-messages(7) for output: manual pages made from STATEMENTS.md and MESSAGES.md.
 
 Exit status:
    0  no statement was refused, or help was asked for
@@ -26,7 +24,7 @@ Exit status:
    8  the script can't be read, the output can't be written, or the script is too long
   16  a wrong command line, settings out of their limits, or no memory
 
-Example: where the file example.vsm has these lines, each behind a blank,
+Example: if the file example.vsm has these lines, each after a blank,
 
    STORAGE OBTAIN,LENGTH=100,SP=1
    STORAGE RELEASE,LENGTH=40,ADDR=X'6000',SP=1
@@ -41,14 +39,14 @@ Example: where the file example.vsm has these lines, each behind a blank,
 nilbozad 0.1.0 (rattle-kit-13f logic dac8208d650f15bf)
 ";
 
-/// Help's end, which stands behind what it says of the options.
+/// Help's end, which follows what it says of the options.
 fn help_end() -> &'static str
     ensures { result.now ≡ help_end }
 {
-    BEHIND_THE_OPTIONS
+    AFTER_THE_OPTIONS
 }
 
-/// Writes what is told of the options, and help's end; or a front of that, where a write fails.
+/// Writes what is said of the options, and help's end; or a prefix of that, if a write fails.
 fn write_both<O: Write>(output: &mut O, options: &str) -> io::Result<()>
     ensures { Writes (O.contents output.old) (O.contents output.new) (options.now ++ help_end) result }
 {
@@ -58,7 +56,7 @@ fn write_both<O: Write>(output: &mut O, options: &str) -> io::Result<()>
     gathered.finish(output)
 }
 
-/// Writes help. `Write` where a write fails, and a front of it went out; `New` where there is no memory to begin with.
+/// Writes help. `Write` if a write fails, with a prefix of it written; `New` if there is no memory to begin with.
 pub(crate) fn write_help<O: Write>(
     alloc: Global,
     options: &Error,
@@ -75,14 +73,14 @@ pub(crate) fn write_help<O: Write>(
     }
 }
 
-/// The version of the program, with the kit's, in a line.
+/// The version of the program and of the kit, in one line.
 pub(crate) fn version_line() -> &'static str
     ensures { result.now ≡ version_text }
 {
     "vsm 0.1.0 (rattle-kit-13f logic dac8208d650f15bf)\n"
 }
 
-/// Writes the version. `Write` if a write fails, and a front of it went out.
+/// Writes the version. `Write` if a write fails, with a prefix of it written.
 pub(crate) fn write_version<O: Write>(output: &mut O) -> Result<(), RunFault>
     ensures { Versioned (O.contents output.old) (O.contents output.new) result }
 {

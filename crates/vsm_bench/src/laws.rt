@@ -9,10 +9,10 @@ ghost use Rattle.vsm_bench.specs.Reached.{AcceptedLeavesWellFormed, ReachedIsWel
 use macro_reader::{Content, Statement};
 
 /// After any list of calls of `apply`, `back` and `forward` on a new bench, whose answers keep the relation of one call
-/// that is their contract, the whole state and the replies of the statements that stand are those of the standing
-/// statements run alone on the plain machine; what is kept and what is undone are as many states as statements, and
-/// together at most the limit. A step forward after a step back gives what was there before, also with refused calls
-/// and readings between.
+/// that is their contract, the whole state and the replies of the statements in effect are those of only these
+/// statements run on the plain machine; there are as many kept and undone states as statements, and together at most
+/// the limit. A step forward after a step back gives what was there before, also with refused calls and readings
+/// between.
 pub fn standing()
     ensures alone { RunsAlone }
     ensures limit { StaysWithinLimit }
@@ -29,7 +29,7 @@ pub fn statements_are_served()
 
 /// Under valid settings, an accepted statement leaves a well-formed state well-formed, if it can be written and what it
 /// stores are bytes. So the state after any list of such statements run alone is well-formed, as `standing` runs those
-/// that stand; and so are all states of a bench after any list of calls with such statements, also with refused ones:
+/// in effect; and so are all states of a bench after any list of calls with such statements, also with refused ones:
 /// the present state, and those that it can go back and forward to.
 pub fn reached_is_well_formed()
     ensures accepted { AcceptedLeavesWellFormed }
@@ -42,7 +42,7 @@ fn are_bytes(bytes: &[u8])
     ensures { HasBytes (spelled bytes.now) }
 {}
 
-// So are those of what is stored.
+// The same holds of what is stored.
 fn has_bytes(content: &Content)
     ensures { HasBytes (stored_in content.now) }
 {

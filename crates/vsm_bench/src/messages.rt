@@ -1,4 +1,4 @@
-//! What the program says of a fault, and whom it tells.
+//! What the program says of a fault, and to whom.
 ghost use Rattle.std.specs.Prelude.{◌≡◌, Bool, List, ℕ, is_ok};
 ghost use Rattle.text_output.specs.Writing.{Writes};
 ghost use Rattle.vsm_bench.specs.Messages.{WritesWhere, fault_text};
@@ -8,17 +8,17 @@ use std::io;
 use std::io::Write;
 use text_output::Gathered;
 
-/// Who is told what is wrong: a writer, or what stands in for it.
+/// The receiver of what is wrong: a writer, or a substitute.
 pub trait Messages: Write {
-    /// That this text was said, all of it or less. What that leaves is each implementor's own.
+    /// That this text was said, all of it or less. What that leaves is up to each implementor.
     ghost said: { Self → Self → List ℕ → Bool → Type 0 };
 
-    /// Says a text; or says why not all of it went out.
+    /// Says a text, or says why not all of it was written.
     fn say(&mut self, text: &str) -> io::Result<()>
         ensures { said self.old self.new text.now (is_ok result) };
 }
 
-/// Writes a text; or a front of it, where a write fails.
+/// Writes a text, or a prefix of it if a write fails.
 pub(crate) fn write_text<W: Write>(writer: &mut W, text: &str) -> io::Result<()>
     ensures { Writes (W.contents writer.old) (W.contents writer.new) text.now result }
 {
@@ -27,7 +27,7 @@ pub(crate) fn write_text<W: Write>(writer: &mut W, text: &str) -> io::Result<()>
     gathered.finish(writer)
 }
 
-/// A writer is written the text, or a front of it where a write fails.
+/// The text is written to a writer, or a prefix of it if a write fails.
 impl<W: Write> Messages for W {
     ghost said = { λ old new text whole. WritesWhere whole (W.contents old) (W.contents new) text };
 

@@ -24,8 +24,7 @@ fn command_line<'a>(alloc: Global) -> Result<Command<'a>, AllocError>
     with_settings(alloc, command)?.arg(file)
 }
 
-/// What the words say, the first of which is the program's name; or the text for whoever wrote them: help, or what is
-/// wrong.
+/// What the arguments say, the first of which is the program's name; or the text for the user: help, or what is wrong.
 pub(crate) fn read_words<'a>(alloc: Global, words: &'a [String]) -> Result<ArgMatches<'a>, Error>
     ensures { Reads (map string_bytes words.entry.now) result }
 {

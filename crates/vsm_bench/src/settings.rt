@@ -8,8 +8,8 @@ use clap::{Arg, ArgMatches, Command, value_parser};
 use std::alloc::{AllocError, Global};
 use vsm_model::{Residence, Settings};
 
-/// The settings where no option is written: 64K below and above the line, a caller below it, and 1,024 changes that can
-/// be undone.
+/// The settings if no option is written: 64K below and above the line, a caller below it, and 1,024 changes that can be
+/// undone.
 pub const DEFAULT_SETTINGS: Settings = Settings {
     low_k: 64,
     high_k: 64,
@@ -17,7 +17,7 @@ pub const DEFAULT_SETTINGS: Settings = Settings {
     history: 1024,
 };
 
-/// What `--residence` takes.
+/// The values of `--residence`.
 static RESIDENCES: [&str; 2] = ["24", "31"];
 
 /// An option that takes a number.
@@ -44,7 +44,7 @@ fn residence_option<'a>(alloc: Global, values: &'a [&'a str]) -> Arg<'a>
         .help("Where the caller resides: below the 16 MB line (24), or above it (31) [default: 24]")
 }
 
-/// Adds an option that takes a number, where there is a command.
+/// Adds an option that takes a number, if there is a command.
 fn with_number<'a>(
     alloc: Global,
     command: Result<Command<'a>, AllocError>,
@@ -61,7 +61,7 @@ fn with_number<'a>(
     }
 }
 
-/// Adds the option that says where the caller resides, where there is a command.
+/// Adds the option that says where the caller resides, if there is a command.
 fn with_residence<'a>(
     alloc: Global,
     command: Result<Command<'a>, AllocError>,
@@ -90,7 +90,7 @@ pub fn with_settings<'a>(alloc: Global, command: Command<'a>) -> Result<Command<
     with_number(alloc, command, "history", "N", history)
 }
 
-/// The number that an option was given, or that it has where it wasn't; `None` above 32 bits.
+/// The number that an option was given, else its default; `None` above 32 bits.
 fn number_asked(matches: &ArgMatches<'_>, name: &str, default: u32) -> Option<u32>
     ensures { result ≡ number_asked name.now default (rows_of (found_of matches.now)) }
 {
@@ -112,7 +112,7 @@ fn residence_asked(matches: &ArgMatches<'_>) -> Residence
     }
 }
 
-/// The settings that were asked for; `None` where a number has more than 32 bits.
+/// The settings that were asked for; `None` if a number has more than 32 bits.
 pub fn settings_asked(matches: &ArgMatches<'_>) -> Option<Settings>
     ensures { result ≡ settings_asked (rows_of (found_of matches.now)) }
 {

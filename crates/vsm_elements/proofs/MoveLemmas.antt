@@ -1,4 +1,4 @@
--- What a call leaves alone, by counts.
+-- What a call leaves unchanged, by counts.
 use Rattle.std.proofs.Common.{◌≡◌, ℕ, ◌+◌, ◌<◌, ◌≤◌, ◌⊎◌, inl, inr, List, Option, IsSome, sym, ◌∙◌, arith, subst}
 use Rattle.std.proofs.lemmas.Bool.Decides.{eqb_tells}
 use Rattle.vsm_elements.specs.declared.element.Element.{Element}

@@ -8,6 +8,6 @@ with_next e next = record e { next = next }
 abbrev pub with_word : Element → ℕ → ℕ → Element
 with_word e k word = record e { words = slice_set e.words k word }
 
--- these four stand from a place on
+-- these four words, from a place on
 abbrev pub with_four : Element → ℕ → List ℕ → Element
 with_four e from four = record e { words = take from e.words ++ four ++ drop (from + 4) e.words }

@@ -11,7 +11,7 @@ use Rattle.clap.specs.declared.parser.ArgMatches.{ArgMatches}
 use Rattle.clap.specs.declared.Error.{Error}
 use Rattle.vsm_bench.specs.Settings.{Residences, with_settings}
 use Rattle.vsm_explain.specs.declared.forms.WordRow.{WordRow}
-use Rattle.vsm_explain.specs.Options.{AreShapesOf, Form, IsCommandLine, IsShapeOf, Reads, app_in, forms, list_form, program, report_form, rule_in, who_form, why_form}
+use Rattle.vsm_explain.specs.Options.{AreShapesOf, CommandRules, IsCommandLine, IsShapeOf, Reads, app_in, forms, list_form, program, report_form, rule_in, who_form, why_form}
 
 abbrev shapes : Residences → Residences → Residences → Residences → List Shape
 shapes a b c d = (app_in a list_form).top ∷ (app_in b why_form).top ∷ (app_in c report_form).top ∷ (app_in d who_form).top ∷ []
@@ -68,7 +68,7 @@ plain_fold : (rules : List Rule) (app : App) → (fold with_rule app rules).top.
 plain_fold [] app = refl
 plain_fold (r ∷ rs) app = plain_fold rs (with_rule app r)
 
-pub shape_is_plain : (form : Form) (shape : Shape) → IsShapeOf form shape → shape.is_plain ≡ true
+pub shape_is_plain : (form : CommandRules) (shape : Shape) → IsShapeOf form shape → shape.is_plain ≡ true
 shape_is_plain form shape (values, are, is) =
     ap (λ (s : Shape). s.is_plain) is ∙ plain_fold form.rules (with_settings values (new_app form.name))
 

@@ -1,4 +1,4 @@
--- What is read of a script, if its reader's bytes are known.
+-- All of a script is read, if the bytes of its reader are known.
 use Rattle.std.proofs.Common.{◌≡◌, ◌≤◌, ◌+◌, ℕ, List, [], ◌++◌, Option, Some, None, inl, inr, arith, ap, length, take, ◌∙◌}
 use Rattle.std.proofs.lemmas.Bool.{cases_lt}
 use Rattle.std.proofs.lemmas.List.{length-take-le, take_all}

@@ -1,8 +1,12 @@
--- What a question is answered, and the exit status that goes with it.
-use Rattle.std.specs.Prelude.{◌≡◌, ℕ, Bool, true, false, List, min, if◌then◌else◌, Option, Result, Ok, Err}
-use Rattle.std.specs.Prelude.{IfOk, ⊤}
+-- The answers of questions, and their exit statuses.
+use Rattle.std.specs.Prelude.{◌≡◌, ℕ, Bool, List, min, if◌then◌else◌, Option, Result, Ok, Err}
+use Rattle.std.specs.Prelude.{⊤}
 use Rattle.vsm_model.specs.declared.limits.Settings.{Settings}
-use Rattle.explain_areas.specs.Texts.{TellsAreas}
+use Rattle.explain_areas.specs.Told.{TellsAreas}
+use Rattle.explain_areas.specs.declared.faults.AreasFault.{AreasFault}
+use Rattle.explain_areas.specs.declared.faults.AreasFault.TheVariants as no_areas
+use Rattle.explain_areas.specs.declared.orders.AreaOrder.{AreaOrder}
+use Rattle.explain_areas.specs.declared.orders.AreaOrder.TheVariants as order
 use Rattle.explain_list.specs.Listing.{Shows}
 use Rattle.explain_list.specs.declared.checking.Shown.{Shown}
 use Rattle.explain_list.specs.declared.checking.Shown.TheVariants as shown
@@ -17,17 +21,18 @@ use Rattle.explain_report.specs.Reports.{Reports}
 use Rattle.explain_report.specs.declared.faults.ReportFault.{ReportFault}
 use Rattle.explain_report.specs.declared.faults.ReportFault.TheVariants as report
 use Rattle.explain_who.specs.Told.{NamesChanges, NamesStatements}
-use Rattle.explain_who.specs.declared.faults.WhoFault.{WhoFault}
-use Rattle.explain_who.specs.declared.faults.WhoFault.TheVariants as who
-use Rattle.explain_who.specs.declared.readings.Subject.{Subject}
-use Rattle.explain_who.specs.declared.readings.Subject.TheVariants as subject
-use Rattle.explain_why.specs.Explained.{IsExplained}
+use Rattle.line_changes.specs.declared.faults.WhoFault.{WhoFault}
+use Rattle.line_changes.specs.declared.faults.WhoFault.TheVariants as who
+use Rattle.line_changes.specs.declared.readings.Subject.{Subject}
+use Rattle.line_changes.specs.declared.readings.Subject.TheVariants as subject
+use Rattle.listed_text.specs.declared.json.Form.{Form}
+use Rattle.explain_why.specs.Forms.{Explains}
 use Rattle.explain_why.specs.declared.faults.WhyFault.{WhyFault}
 use Rattle.explain_why.specs.declared.faults.WhyFault.TheVariants as why
 use Rattle.vsm_explain.specs.Status.{IsWordless}
 
 -- ---- the status: 4 if a statement was refused, 8 if the script is too long or the output can't be written, 16 if what
--- is asked for isn't in the script, or there is no memory
+-- is asked for isn't in the script, or memory runs out
 
 abbrev pub of_refused : Bool → ℕ
 of_refused refused = if refused then 4 else 0
@@ -56,13 +61,21 @@ who_status (Err who.TooLong) = 8
 who_status (Err who.Write) = 8
 who_status (Err _) = 16
 
+abbrev pub areas_status : Result (Unit {0}) AreasFault → ℕ
+areas_status (Ok u) = 0
+areas_status (Err (no_areas.Line fault)) = report_status (Err fault)
+areas_status (Err (no_areas.Areas fault)) = who_status (Err fault)
+
 -- ---- what is asked for
 
--- the places of faults, or the listing
-abbrev pub IsShown : Bool → Shown → Type 0
-IsShown true (shown.Check name) = ⊤
-IsShown false shown.Listing = ⊤
-IsShown _ _ = ⊥
+-- a listing in this form, only of refused statements if these are asked for; or the places of faults
+abbrev pub IsShown : Form → Question → Shown → Type 0
+IsShown form (question.List only) (shown.Listing layout) = (layout.form ≡ form) × (layout.only_refused ≡ only)
+IsShown form question.Check (shown.Check name) = ⊤
+IsShown _ _ _ = ⊥
+
+abbrev pub order_of : Bool → AreaOrder
+order_of longest = if longest then order.LongestFirst else order.ByAddress
 
 abbrev pub subject_of : About → Subject
 subject_of (about.Bytes address count) = subject.Bytes address (min count 256)
@@ -74,28 +87,34 @@ subject_of (about.Taken address) = subject.Taken address
 
 -- ---- the answers
 
--- A question is answered of a script that runs under these settings: what is written, and the status. Of what an answer
--- means (`why S878`) nothing is said here.
-abbrev pub IsAnswered : Settings → List ℕ → Question → Option (List ℕ) → Option (List ℕ) → ℕ → Type 0
-IsAnswered settings script (question.List is_check) old new code =
-    (its : Shown) × IsShown is_check its × (outcome : Result Bool ListFault)
+abbrev pub IsListed : Settings → List ℕ → Form → Question → Option (List ℕ) → Option (List ℕ) → ℕ → Type 0
+IsListed settings script form question old new code =
+    (its : Shown) × IsShown form question its × (outcome : Result Bool ListFault)
     × Shows settings script its old new outcome × (code ≡ list_status outcome)
-IsAnswered settings script (question.Why line) old new code =
-    (outcome : Result Bool WhyFault) × IfOk outcome (IsExplained settings script line old new)
+
+-- A question about a script that runs under these settings is answered: what is written, and the status. What is
+-- written about an answer's meaning (`why S878`) is open.
+abbrev pub IsAnswered : Settings → List ℕ → Form → Question → Option (List ℕ) → Option (List ℕ) → ℕ → Type 0
+IsAnswered settings script form (question.List only) old new code =
+    IsListed settings script form (question.List only) old new code
+IsAnswered settings script form question.Check old new code =
+    IsListed settings script form question.Check old new code
+IsAnswered settings script form (question.Why line) old new code =
+    (outcome : Result Bool WhyFault) × Explains settings script form line old new outcome
     × (code ≡ why_status outcome)
-IsAnswered settings script (question.Report line) old new code =
-    (outcome : Result (Unit {0}) ReportFault) × Reports settings script line old new outcome
+IsAnswered settings script form (question.Report line) old new code =
+    (outcome : Result (Unit {0}) ReportFault) × Reports settings script form line old new outcome
     × (code ≡ report_status outcome)
-IsAnswered settings script (question.OverTime seen) old new code =
-    (outcome : Result (Unit {0}) ReportFault) × ReportsOverTime settings script seen old new outcome
+IsAnswered settings script form (question.OverTime seen) old new code =
+    (outcome : Result (Unit {0}) ReportFault) × ReportsOverTime settings script form seen old new outcome
     × (code ≡ report_status outcome)
-IsAnswered settings script question.Areas old new code =
-    (outcome : Result (Unit {0}) WhoFault) × TellsAreas settings script old new outcome
+IsAnswered settings script form (question.Areas line longest) old new code =
+    (outcome : Result (Unit {0}) AreasFault)
+    × TellsAreas settings script form line (order_of longest) old new outcome × (code ≡ areas_status outcome)
+IsAnswered settings script form (question.Who it) old new code =
+    (outcome : Result (Unit {0}) WhoFault) × NamesChanges settings script form (subject_of it) old new outcome
     × (code ≡ who_status outcome)
-IsAnswered settings script (question.Who it) old new code =
-    (outcome : Result (Unit {0}) WhoFault) × NamesChanges settings script (subject_of it) old new outcome
+IsAnswered settings script form question.Log old new code =
+    (outcome : Result (Unit {0}) WhoFault) × NamesStatements settings script form old new outcome
     × (code ≡ who_status outcome)
-IsAnswered settings script question.Log old new code =
-    (outcome : Result (Unit {0}) WhoFault) × NamesStatements settings script old new outcome
-    × (code ≡ who_status outcome)
-IsAnswered settings script (question.Code first second) old new code = IsWordless code
+IsAnswered settings script form (question.Code first second) old new code = IsWordless code

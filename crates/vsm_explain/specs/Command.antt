@@ -1,4 +1,4 @@
--- What the program does with its words, its script and its output.
+-- What the program does with its arguments, its script and its output.
 use Rattle.std.specs.Prelude.{◌≡◌, ◌⊎◌, ℕ, true, List, ◌∷◌, [], codes, if◌then◌else◌, length, Option, Some, None}
 use Rattle.std.specs.Prelude.{IfSome, option_map}
 use Rattle.std.specs.Str.{bytes_eq}
@@ -23,8 +23,8 @@ path_in (Some path) = if bytes_eq path (codes "-") then None else Some path
 abbrev pub IsAll : Option (List ℕ) → List ℕ → Type 0
 IsAll left script = IfSome left (λ text. script ≡ text)
 
--- The script is what the file has of this path, or the input: `opened` says what opening a path gave, `unread` what an
--- open script has left to be read, and `remaining` what the input has.
+-- The script is the content of the file at this path, or the input: `opened` says what opening a path gave, `unread`
+-- what an open script has left to be read, and `remaining` what the input has.
 abbrev pub IsScriptOf : {F I : Type 0} → (List ℕ → Option F → Type 0) → (F → Option (List ℕ)) → (I → Option (List ℕ))
     → I → Option Text → List ℕ → Type 0
 IsScriptOf opened unread remaining input None script = IsAll (remaining input) script
@@ -40,22 +40,22 @@ module _ {F I O : Type 0} (opened : List ℕ → Option F → Type 0) (unread : 
   abbrev pub Fails : Type 0
   Fails = (later ≡ output) × IsFailure code
 
-  -- or the question is answered of it. Of what an answer means only the status is said.
+  -- or the question about it is answered. Of an answer's meaning only the status is known.
   abbrev pub AnswersOf : Asking → Question → Type 0
   AnswersOf asking (question.Code first second) = IsWordless code
   AnswersOf asking _ =
       Fails ⊎ ((script : List ℕ)
       × IsScriptOf opened unread remaining input (path_in (option_map (λ s. s.now) asking.file)) script
-      × IsAnswered asking.settings script asking.question (contents output) (contents later) code)
+      × IsAnswered asking.settings script asking.form asking.question (contents output) (contents later) code)
 
-  -- The words of a command are wrong, and nothing is written; or what they ask is answered.
+  -- The arguments of a command are wrong, and nothing is written; or what they ask is answered.
   abbrev pub Obeys : Text → List Row → Type 0
   Obeys command rows =
       ((refusal : WordRefusal) × IsWrong rows refusal × (later ≡ output) × (code ≡ 16))
       ⊎ ((asking : Asking) × Asks command rows asking × AnswersOf asking asking.question)
 
-  -- If the words are those of a command, that is obeyed, or there is no memory to read them, and nothing is written.
-  -- Else they ask for help or the version, or are wrong: only the status is said.
+  -- If the words are those of a command, that is obeyed, or memory runs out while they're read, and nothing is written.
+  -- Else they ask for help or the version, or are wrong: only the status is known.
   abbrev pub Does : List Text → Type 0
   Does words =
       ((code ≡ 16) × (later ≡ output))

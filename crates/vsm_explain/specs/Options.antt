@@ -1,4 +1,4 @@
--- The command line as clap is told of it.
+-- The command line as it is given to clap.
 use Rattle.std.specs.Prelude.{◌≡◌, ◌⊎◌, ℕ, Result, Ok, Err, true, false, List, [], ◌∷◌, codes, fold, map, Some}
 use Rattle.clap.specs.Simple.{new_shape}
 use Rattle.clap.specs.Words.{App, Rule, Shape, Text, kind_of, new_app, new_rule, subcommand_of, subcommand_rows_of}
@@ -28,45 +28,52 @@ abbrev pub needed : Text → Rule
 needed name = record (new_rule name) { required = true }
 
 -- a command: its name, and its options and operands in order
-pub record Form : Type 0 where
+pub record CommandRules : Type 0 where
   pub name : Text
   pub rules : List Rule
 
-abbrev pub list_form : Form
-list_form = record { name = codes "list"; rules = flag (codes "check") ∷ operand (codes "FILE") ∷ [] }
+abbrev pub list_form : CommandRules
+list_form = record {
+  name = codes "list";
+  rules = flag (codes "check") ∷ valued (codes "only") ∷ flag (codes "json") ∷ operand (codes "FILE") ∷ [];
+}
 
-abbrev pub why_form : Form
-why_form = record { name = codes "why"; rules = needed (codes "FILE") ∷ operand (codes "LINE") ∷ [] }
+abbrev pub why_form : CommandRules
+why_form = record {
+  name = codes "why";
+  rules = flag (codes "json") ∷ needed (codes "FILE") ∷ operand (codes "LINE") ∷ [];
+}
 
-abbrev pub report_form : Form
+abbrev pub report_form : CommandRules
 report_form = record {
   name = codes "report";
   rules =
-      flag (codes "over-time") ∷ flag (codes "areas") ∷ valued (codes "subpool") ∷ operand (codes "FILE")
-      ∷ operand (codes "LINE") ∷ [];
+      flag (codes "over-time") ∷ flag (codes "areas") ∷ flag (codes "longest") ∷ valued (codes "subpool")
+      ∷ flag (codes "json") ∷ operand (codes "FILE") ∷ operand (codes "LINE") ∷ [];
 }
 
-abbrev pub who_form : Form
+abbrev pub who_form : CommandRules
 who_form = record {
   name = codes "who";
   rules =
       valued (codes "register") ∷ valued (codes "name") ∷ valued (codes "subpool") ∷ valued (codes "holds")
-      ∷ valued (codes "taken") ∷ flag (codes "log") ∷ operand (codes "FILE") ∷ operand (codes "ADDRESS") ∷ operand (codes "COUNT") ∷ [];
+      ∷ valued (codes "taken") ∷ flag (codes "log") ∷ flag (codes "json") ∷ operand (codes "FILE")
+      ∷ operand (codes "ADDRESS") ∷ operand (codes "COUNT") ∷ [];
 }
 
-abbrev pub forms : List Form
+abbrev pub forms : List CommandRules
 forms = list_form ∷ why_form ∷ report_form ∷ who_form ∷ []
 
 -- ---- the program
 
--- a command has the options of a bench before its own
-abbrev pub app_in : Residences → Form → App
+-- a command's own options follow those of a bench
+abbrev pub app_in : Residences → CommandRules → App
 app_in values form = fold with_rule (with_settings values (new_app form.name)) form.rules
 
-abbrev pub IsShapeOf : Form → Shape → Type 0
+abbrev pub IsShapeOf : CommandRules → Shape → Type 0
 IsShapeOf form shape = (values : Residences) × AreResidences values × (shape ≡ (app_in values form).top)
 
-abbrev pub AreShapesOf : List Form → List Shape → Type 0
+abbrev pub AreShapesOf : List CommandRules → List Shape → Type 0
 AreShapesOf [] [] = Unit {0}
 AreShapesOf (form ∷ forms) (shape ∷ shapes) = IsShapeOf form shape × AreShapesOf forms shapes
 AreShapesOf _ _ = ⊥
@@ -94,13 +101,13 @@ rule_by kind.File name = needed name
 abbrev pub rule_in : WordRow → Rule
 rule_in row = rule_by row.kind row.name.now
 
-abbrev pub form_in : CommandForm → Form
+abbrev pub form_in : CommandForm → CommandRules
 form_in form = record { name = form.name.now; rules = map rule_in form.rows.now }
 
 -- ---- what is read
 
--- What was read is what the words give to the command that they name; or they are no words of a command, or there is no
--- memory.
+-- What was read is what the words give to the command that they name; or they are no words of a command, or memory runs
+-- out.
 abbrev pub Reads : List Text → Result ArgMatches Error → Type 0
 Reads words (Ok m) = (app : App) × IsCommandLine app × (subcommand_rows_of m ≡ subcommand_of app words)
 Reads words (Err e) =

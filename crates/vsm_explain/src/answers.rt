@@ -1,25 +1,27 @@
-//! Which answer a question has.
+//! The answers of questions.
 ghost use Rattle.std.specs.Prelude.{◌≡◌, Bool, Err, List, Result, ℕ};
 ghost use Rattle.explain_list.specs.Listing.{Shows};
 ghost use Rattle.explain_list.specs.declared.faults.ListFault.{ListFault};
-ghost use Rattle.vsm_explain.specs.Answers.{IsAnswered, IsShown, list_status, report_status, subject_of, who_status};
-ghost use Rattle.vsm_explain.specs.Answers.{why_status};
+ghost use Rattle.vsm_explain.specs.Answers.{IsAnswered, areas_status, list_status, order_of, report_status};
+ghost use Rattle.vsm_explain.specs.Answers.{subject_of, who_status, why_status};
 ghost use Rattle.vsm_explain.specs.Status.{IsWordless, fault_status, status};
 
 use crate::faults::CommandFault;
 use crate::scripts::excess_of;
-use explain_areas::areas;
-use explain_list::{ListFault, Shown, list};
+use explain_areas::{AreaOrder, AreasFault, areas};
+use explain_list::{Layout, ListFault, Shown, list};
 use explain_questions::{About, Asking, Question, WordRefusal};
 use explain_report::{ReportFault, over_time, report};
-use explain_who::{Subject, WhoFault, log, who};
+use explain_who::{log, who};
 use explain_why::{MeaningFault, WhyFault, code, why};
+use line_changes::{Subject, WhoFault};
+use listed_text::Form;
 use script_steps::{NewFault, Watch};
 use std::alloc::Global;
 use std::io::Write;
 use vsm_model::Settings;
 
-/// What is said where there is no bench.
+/// The fault if the bench can't be made.
 fn new_fault<'a>(fault: NewFault) -> CommandFault<'a>
     ensures { fault_status result ≡ 16 }
 {
@@ -29,7 +31,7 @@ fn new_fault<'a>(fault: NewFault) -> CommandFault<'a>
     }
 }
 
-/// What is said where a script can't be listed.
+/// The fault if a script can't be listed.
 fn list_fault<'a>(script: &[u8], fault: ListFault) -> CommandFault<'a>
     ensures { fault_status result ≡ list_status (Err fault) }
 {
@@ -40,7 +42,7 @@ fn list_fault<'a>(script: &[u8], fault: ListFault) -> CommandFault<'a>
     }
 }
 
-/// What is said where the statement of a line can't be explained.
+/// The fault if the statement of a line can't be explained.
 fn why_fault<'a>(script: &[u8], line: u32, fault: WhyFault) -> CommandFault<'a>
     ensures { fault_status result ≡ why_status (Err fault) }
 {
@@ -48,13 +50,14 @@ fn why_fault<'a>(script: &[u8], line: u32, fault: WhyFault) -> CommandFault<'a>
         WhyFault::New(fault) => new_fault(fault),
         WhyFault::TooLong => CommandFault::TooLong(excess_of(script)),
         WhyFault::Write => CommandFault::Write,
+        WhyFault::Memory => CommandFault::Memory,
         WhyFault::NoLine(lines) => CommandFault::NoLine { line, lines },
         WhyFault::Aside => CommandFault::Aside(line),
         WhyFault::Dropped => CommandFault::Dropped(line),
     }
 }
 
-/// What is said where there is no report behind a line.
+/// The fault if no report can be made after a line.
 fn report_fault<'a>(script: &[u8], line: Option<u32>, fault: ReportFault) -> CommandFault<'a>
     ensures { fault_status result ≡ report_status (Err fault) }
 {
@@ -69,7 +72,7 @@ fn report_fault<'a>(script: &[u8], line: Option<u32>, fault: ReportFault) -> Com
     }
 }
 
-/// What is said where no lines can be named.
+/// The fault if no lines can be named.
 fn who_fault<'a>(script: &[u8], fault: WhoFault) -> CommandFault<'a>
     ensures { fault_status result ≡ who_status (Err fault) }
 {
@@ -84,7 +87,7 @@ fn who_fault<'a>(script: &[u8], fault: WhoFault) -> CommandFault<'a>
     }
 }
 
-/// Lists a script, or the places of its faults alone. `true` where a statement was refused.
+/// Lists a script, or only the places of its faults. `true` if a statement was refused.
 fn list_shown<'a, W: Write, P: Watch>(
     alloc: Global,
     script: &[u8],
@@ -103,35 +106,26 @@ fn list_shown<'a, W: Write, P: Watch>(
     }
 }
 
-/// What a listing shows: the script with its answers, or the places of its faults alone.
-fn shown(is_check: bool, name: &str) -> Shown<'_>
-    ensures { IsShown is_check result }
-{
-    if is_check {
-        Shown::Check(name.as_bytes())
-    } else {
-        Shown::Listing
-    }
-}
-
 /// Prints what the answer of these words means.
 fn explain_words<'a, W: Write>(
+    form: Form,
     words: &str,
     first: &'a str,
     out: &mut W,
 ) -> Result<bool, CommandFault<'a>>
     ensures { IsWordless (status result) }
 {
-    match code(words.as_bytes(), out) {
+    match code(form, words.as_bytes(), out) {
         Ok(()) => Ok(false),
         Err(MeaningFault::NoAnswer) => Err(CommandFault::Words(WordRefusal::NoLine(first))),
         Err(MeaningFault::Write) => Err(CommandFault::Write),
     }
 }
 
-/// Prints what an answer means, that is written as one word or two.
+/// Prints what an answer means that is written as one or two words.
 pub(crate) fn explain_code<'a, W: Write>(
     alloc: Global,
+    form: Form,
     first: &'a str,
     second: Option<&'a str>,
     out: &mut W,
@@ -139,15 +133,15 @@ pub(crate) fn explain_code<'a, W: Write>(
     ensures { IsWordless (status result) }
 {
     let Some(second) = second else {
-        return explain_words(first, first, out);
+        return explain_words(form, first, first, out);
     };
     match format!(in alloc; "{first} {second}") {
-        Ok(both) => explain_words(both.as_str(), first, out),
+        Ok(both) => explain_words(form, both.as_str(), first, out),
         Err(_) => Err(CommandFault::Memory),
     }
 }
 
-/// What is asked for, as it's asked of a bench.
+/// What is asked for, as `who` takes it.
 fn asked(about: About) -> Subject
     ensures { result ≡ subject_of about }
 {
@@ -164,7 +158,7 @@ fn asked(about: About) -> Subject
     }
 }
 
-/// What `why` came to. `true` where the statement of the line was refused.
+/// The outcome of `why`. `true` if the statement of the line was refused.
 fn explained<'a>(
     script: &[u8],
     line: u32,
@@ -178,7 +172,7 @@ fn explained<'a>(
     }
 }
 
-/// What a report behind this line came to, which tells of no refusal.
+/// The outcome of a report after this line, which reports no refusal.
 fn reported<'a>(
     script: &[u8],
     line: Option<u32>,
@@ -192,7 +186,7 @@ fn reported<'a>(
     }
 }
 
-/// What `who` came to, which tells of no refusal.
+/// The outcome of `who`, which reports no refusal.
 fn followed<'a>(script: &[u8], outcome: Result<(), WhoFault>) -> Result<bool, CommandFault<'a>>
     ensures { status result ≡ who_status outcome }
 {
@@ -202,7 +196,33 @@ fn followed<'a>(script: &[u8], outcome: Result<(), WhoFault>) -> Result<bool, Co
     }
 }
 
-/// Answers a question that is asked of a script. `true` where status 4 tells of a refusal.
+/// In which order areas are shown.
+fn order_of(longest: bool) -> AreaOrder
+    ensures { result ≡ order_of longest }
+{
+    if longest {
+        AreaOrder::LongestFirst
+    } else {
+        AreaOrder::ByAddress
+    }
+}
+
+/// The outcome of `report --areas`, after the statement of this line.
+fn listed<'a>(
+    script: &[u8],
+    line: Option<u32>,
+    outcome: Result<(), AreasFault>,
+) -> Result<bool, CommandFault<'a>>
+    ensures { status result ≡ areas_status outcome }
+{
+    match outcome {
+        Ok(()) => Ok(false),
+        Err(AreasFault::Line(fault)) => Err(report_fault(script, line, fault)),
+        Err(AreasFault::Areas(fault)) => Err(who_fault(script, fault)),
+    }
+}
+
+/// Answers a question about a script. `true` if status 4 reports a refusal.
 pub(crate) fn answer<'a, W: Write, P: Watch>(
     alloc: Global,
     asking: &Asking<'a>,
@@ -211,38 +231,45 @@ pub(crate) fn answer<'a, W: Write, P: Watch>(
     out: &mut W,
     watch: &mut P,
 ) -> Result<bool, CommandFault<'a>>
-    ensures { IsAnswered asking.now.settings script.now asking.now.question (W.contents out.old) (W.contents out.new)
-        (status result) }
+    ensures { IsAnswered asking.now.settings script.now asking.now.form asking.now.question (W.contents out.old)
+        (W.contents out.new) (status result) }
 {
     let settings = asking.settings;
+    let form = asking.form;
     match asking.question {
-        Question::List { is_check } => {
-            list_shown(alloc, script, settings, shown(is_check, name), out, watch)
+        Question::List { only_refused } => {
+            let shown = Shown::Listing(Layout { form, only_refused });
+            list_shown(alloc, script, settings, shown, out, watch)
+        }
+        Question::Check => {
+            let shown = Shown::Check(name.as_bytes());
+            list_shown(alloc, script, settings, shown, out, watch)
         }
         Question::Why { line } => {
-            let outcome = why(alloc, script, settings, line, out, watch);
+            let outcome = why(alloc, script, settings, form, line, out, watch);
             explained(script, line, outcome)
         }
         Question::Report { line } => {
-            let outcome = report(alloc, script, settings, line, out, watch);
+            let outcome = report(alloc, script, settings, form, line, out, watch);
             reported(script, line, outcome)
         }
         Question::OverTime { subpool } => {
-            let outcome = over_time(alloc, script, settings, subpool, out, watch);
+            let outcome = over_time(alloc, script, settings, form, subpool, out, watch);
             reported(script, None, outcome)
         }
-        Question::Areas => {
-            let outcome = areas(alloc, script, settings, out, watch);
-            followed(script, outcome)
+        Question::Areas { line, longest } => {
+            let order = order_of(longest);
+            let outcome = areas(alloc, script, settings, form, line, order, out, watch);
+            listed(script, line, outcome)
         }
         Question::Who(about) => {
-            let outcome = who(alloc, script, settings, asked(about), out, watch);
+            let outcome = who(alloc, script, settings, form, asked(about), out, watch);
             followed(script, outcome)
         }
         Question::Log => {
-            let outcome = log(alloc, script, settings, out, watch);
+            let outcome = log(alloc, script, settings, form, out, watch);
             followed(script, outcome)
         }
-        Question::Code { first, second } => explain_code(alloc, first, second, out),
+        Question::Code { first, second } => explain_code(alloc, form, first, second, out),
     }
 }

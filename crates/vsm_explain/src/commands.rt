@@ -1,4 +1,4 @@
-//! The command line: answers what the words ask, and gives the exit status.
+//! The command line: answers what the arguments ask, and returns the exit status.
 ghost use Rattle.std.specs.Prelude.{◌≡◌, IfErr, IfOk, map, option_map};
 ghost use Rattle.std.specs.String.{string_bytes};
 ghost use Rattle.clap.specs.Words.{kind_of};
@@ -25,10 +25,10 @@ pub struct Terminals {
     pub errors: bool,
 }
 
-/// What a script is called where it comes from standard input.
+/// What a script from standard input is called.
 const NO_NAME: &str = "standard input";
 
-/// The first paragraph of a text in one line, without the word `error:` at its head.
+/// Writes the first paragraph of a text in one line, without `error:` at its head.
 fn put_first_paragraph<E: Write>(errors: &mut E, text: &str) {
     let text = text.strip_prefix("error: ").unwrap_or(text);
     let _ = errors.write_all(b"vsm-explain:");
@@ -42,7 +42,7 @@ fn put_first_paragraph<E: Write>(errors: &mut E, text: &str) {
     let _ = errors.write_all(b"\n");
 }
 
-/// Answers words that ask no question: help and the version on `output`, what is wrong on `errors`.
+/// Answers arguments that ask no question: help and the version on `output`, what is wrong on `errors`.
 fn answer_words<O: Write, E: Write>(
     alloc: Global,
     error: &Error,
@@ -68,7 +68,7 @@ fn answer_words<O: Write, E: Write>(
     }
 }
 
-/// The path of the script that is asked of; `None` for standard input, which `-` names too.
+/// The path of the script that is asked about; `None` for standard input, which `-` names too.
 fn path_of<'a>(asking: &Asking<'a>) -> Option<&'a str>
     ensures { option_map (λ s. s.now) result ≡ path_in (option_map (λ s. s.now) asking.now.file) }
 {
@@ -78,7 +78,7 @@ fn path_of<'a>(asking: &Asking<'a>) -> Option<&'a str>
     }
 }
 
-/// The script that is asked of, whole.
+/// The whole script that is asked about.
 fn script_of<'a, R: ScriptFiles, I: Read>(
     rt: &R,
     alloc: Global,
@@ -109,12 +109,12 @@ fn script_of<'a, R: ScriptFiles, I: Read>(
     }
 }
 
-/// Whether a listing is asked for, which tells itself what is no text.
+/// Whether a listing is asked for, which itself reports what is no text.
 fn is_listing(question: &Question<'_>) -> bool {
-    matches!(question, Question::List { .. })
+    matches!(question, Question::List { .. } | Question::Check)
 }
 
-/// Answers what is asked; `true` where status 4 tells of a refusal.
+/// Answers what is asked; `true` if status 4 reports a refusal.
 fn answer_asking<'a, R: ScriptFiles + Stopwatch + AllocGlobal, I: Read, O: Write, E: Write>(
     rt: &R,
     asking: &Asking<'a>,
@@ -127,7 +127,7 @@ fn answer_asking<'a, R: ScriptFiles + Stopwatch + AllocGlobal, I: Read, O: Write
         (status result) asking.now asking.now.question }
 {
     if let Question::Code { first, second } = asking.question {
-        return explain_code(rt.alloc(), first, second, output);
+        return explain_code(rt.alloc(), asking.form, first, second, output);
     }
     let script = script_of(rt, rt.alloc(), asking, terminals, input)?;
     let name = path_of(asking).unwrap_or(NO_NAME);
@@ -145,7 +145,7 @@ fn answer_asking<'a, R: ScriptFiles + Stopwatch + AllocGlobal, I: Read, O: Write
     )
 }
 
-/// The exit status of an answer; a fault is said on `errors`.
+/// The exit status of an answer; a fault is reported on `errors`.
 fn end<E: Write>(errors: &mut E, outcome: Result<bool, CommandFault<'_>>) -> u8
     ensures status { result ≡ status outcome.entry }
     ensures all { IsStatus result }
@@ -157,13 +157,13 @@ fn end<E: Write>(errors: &mut E, outcome: Result<bool, CommandFault<'_>>) -> u8
     }
 }
 
-/// Answers what these words ask (the program's name, and what follows): writes the answer to `output`, and what is
-/// wrong with the words, the script or the question to `errors`, in one line. Gives the exit status.
+/// Answers what these words ask (the program's name and its arguments): writes the answer to `output`, and what is
+/// wrong with the arguments, the script or the question to `errors`, in one line. Returns the exit status.
 ///
-/// The script is what `rt` opens for the file that the words name, or `input` where they name none or `-`. The status
-/// is 0 where the question was answered, 4 where a listed statement or the one that was asked for was refused, 8 where
-/// the script can't be read or the output can't be written, and 16 where the words are wrong, what they ask for isn't
-/// there, the settings are out of their limits or there is no memory.
+/// The script is what `rt` opens for the file that the arguments name, or `input` if they name none or `-`. The status
+/// is 0 if the question was answered, 4 if a listed statement or the one that was asked about was refused, 8 if the
+/// script can't be read or the output can't be written, and 16 if the arguments are wrong, what they ask for doesn't
+/// exist, the settings are out of their limits or memory runs out.
 pub fn command<R: ScriptFiles + Stopwatch + AllocGlobal, I: Read, O: Write, E: Write>(
     rt: &R,
     words: &[String],

@@ -1,4 +1,4 @@
-//! What is said where a question has no answer, and the exit status that goes with it.
+//! The messages of questions without an answer, and their exit statuses.
 ghost use Rattle.std.specs.Prelude.{◌≡◌};
 ghost use Rattle.vsm_explain.specs.Status.{fault_status, IsFailure};
 
@@ -11,31 +11,31 @@ use std::io::Write;
 /// Why a question has no answer.
 #[derive(Clone, Copy)]
 pub(crate) enum CommandFault<'a> {
-    /// The words ask for nothing.
+    /// An argument is wrong.
     Words(WordRefusal<'a>),
     /// No script is named, and standard input is a terminal.
     Terminal,
-    /// The script of this name can't be explained.
+    /// The script of this name can't be read, or isn't text.
     Script(&'a str, Unread),
-    /// There is no memory.
+    /// Out of memory.
     Memory,
-    /// The script has more lines than the bench takes, or a longer one.
+    /// The script has more lines than the bench takes, or a longer line.
     TooLong(Excess),
     /// The output can't be written.
     Write,
-    /// The script has no such line: it has so many.
+    /// The script has no such line: `lines` is the number that it has.
     NoLine { line: u32, lines: u32 },
     /// The line is a comment or empty.
     Aside(u32),
-    /// The line isn't carried out, since one before it breaks a rule of continuation.
+    /// The line isn't carried out, since a line before it breaks a rule of continuation.
     Dropped(u32),
-    /// There never is such a task.
+    /// The task never exists.
     NoTask(u8),
-    /// There never is the name that is asked for.
+    /// The name that is asked for is never defined.
     NoName,
 }
 
-/// What is said of a script that can't be explained.
+/// The message about a script that can't be read, or isn't text.
 #[derive(Clone, Copy)]
 struct UnreadText<'a>(&'a str, Unread);
 
@@ -59,7 +59,7 @@ impl Display for CommandFault<'_> {
                 "no FILE is named, and standard input is a terminal",
             ),
             CommandFault::Script(name, unread) => write!(f, "{}", UnreadText(name, unread)),
-            CommandFault::Memory => f.write_str("there is no memory"),
+            CommandFault::Memory => f.write_str("memory ran out"),
             CommandFault::TooLong(Excess::Lines) => {
                 write!(
                     f,
@@ -73,7 +73,7 @@ impl Display for CommandFault<'_> {
             CommandFault::Write => f.write_str("the output can't be written"),
             CommandFault::NoLine { line, lines } => write!(
                 f,
-                "there is no line {line}: the script has {lines}"
+                "line {line} doesn't exist: the script has {lines}"
             ),
             CommandFault::Aside(line) => write!(
                 f,
@@ -83,15 +83,15 @@ impl Display for CommandFault<'_> {
                 f,
                 "line {line} isn't carried out: a line before it breaks a rule of continuation",
             ),
-            CommandFault::NoTask(task) => write!(f, "no statement that stands makes a task {task}"),
+            CommandFault::NoTask(task) => write!(f, "no statement in effect makes a task {task}"),
             CommandFault::NoName => f.write_str(
-                "no statement that stands defines the name that --name asks for",
+                "no statement in effect defines the name that --name asks for",
             ),
         }
     }
 }
 
-/// The exit status of a fault: 8 where the script can't be read or the output can't be written, else 16.
+/// The exit status of a fault: 8 if the script can't be read or the output can't be written, else 16.
 fn status_of(fault: &CommandFault<'_>) -> u8
     ensures status { result ≡ fault_status fault.now }
     ensures failure { IsFailure result }
@@ -109,7 +109,7 @@ fn status_of(fault: &CommandFault<'_>) -> u8
     }
 }
 
-/// Says on standard error why a question has no answer, and gives the exit status.
+/// Reports on standard error why a question has no answer, and returns the exit status.
 pub(crate) fn report<E: Write>(errors: &mut E, fault: CommandFault<'_>) -> u8
     ensures status { result ≡ fault_status fault.entry }
     ensures failure { IsFailure result }

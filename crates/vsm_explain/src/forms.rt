@@ -6,15 +6,15 @@ use crate::help::{
     LIST_ABOUT, LIST_AFTER, REPORT_ABOUT, REPORT_AFTER, WHO_ABOUT, WHO_AFTER, WHY_ABOUT, WHY_AFTER,
 };
 
-/// What a command takes a word for; a value has a name of its own in help.
+/// What a command takes an argument for; a value has a name of its own in help.
 pub(crate) enum WordKind {
-    /// An option that is there or isn't.
+    /// An option without a value.
     Flag,
-    /// An option that takes a value.
+    /// An option with a value.
     Valued(&'static str),
-    /// A word that stands for itself, by its place.
+    /// An argument that is known by its place.
     Operand(&'static str),
-    /// The name of a file, which has to be there.
+    /// The name of a file, which is required.
     File,
 }
 
@@ -25,7 +25,14 @@ pub(crate) struct WordRow {
     pub(crate) help: &'static str,
 }
 
-/// A command: what it's for, how it's used, and what it takes besides vsm's options.
+/// The answer as JSON.
+const JSON: WordRow = WordRow {
+    name: "json",
+    kind: WordKind::Flag,
+    help: "Print the answer as JSON for programs, an object a line",
+};
+
+/// A command: what it's for, how it's used, and what it takes in addition to vsm's options.
 pub(crate) struct CommandForm {
     pub(crate) name: &'static str,
     pub(crate) about: &'static str,
@@ -41,8 +48,14 @@ static LIST: CommandForm = CommandForm {
         WordRow {
             name: "check",
             kind: WordKind::Flag,
-            help: "Print the places of faults alone, as FILE:LINE:COLUMN: text; COLUMN counts bytes",
+            help: "Print only the places of faults, as FILE:LINE:COLUMN: text; COLUMN counts bytes",
         },
+        WordRow {
+            name: "only",
+            kind: WordKind::Valued("refused"),
+            help: "List only statements that are FAULT, REFUSED or ABEND",
+        },
+        JSON,
         WordRow {
             name: "FILE",
             kind: WordKind::Operand("FILE"),
@@ -56,6 +69,7 @@ static WHY: CommandForm = CommandForm {
     about: WHY_ABOUT,
     after: WHY_AFTER,
     rows: &[
+        JSON,
         WordRow {
             name: "FILE",
             kind: WordKind::File,
@@ -77,18 +91,24 @@ static REPORT: CommandForm = CommandForm {
         WordRow {
             name: "over-time",
             kind: WordKind::Flag,
-            help: "Print a row of CSV behind each statement",
+            help: "Print a row of CSV after each statement",
         },
         WordRow {
             name: "areas",
             kind: WordKind::Flag,
-            help: "Print each area that is taken at the end, with the line that obtained it",
+            help: "Print each area that is taken then, with the line that obtained it",
+        },
+        WordRow {
+            name: "longest",
+            kind: WordKind::Flag,
+            help: "With --areas: the longest first, and not by subpools and addresses",
         },
         WordRow {
             name: "subpool",
             kind: WordKind::Valued("T,N"),
-            help: "With --over-time: only of the subpool that task T, or with N alone task 1, sees at N",
+            help: "With --over-time: only of the subpool that task T sees at N; T is 1 if it's left out",
         },
+        JSON,
         WordRow {
             name: "FILE",
             kind: WordKind::Operand("FILE"),
@@ -97,7 +117,7 @@ static REPORT: CommandForm = CommandForm {
         WordRow {
             name: "LINE",
             kind: WordKind::Operand("LINE"),
-            help: "The line of the statement behind which it is reported [default: the last]",
+            help: "The line of the statement after which it is reported [default: the last]",
         },
     ],
 };
@@ -115,12 +135,12 @@ static WHO: CommandForm = CommandForm {
         WordRow {
             name: "name",
             kind: WordKind::Valued("P"),
-            help: "Ask for the word of name P",
+            help: "Ask for the value of name P",
         },
         WordRow {
             name: "subpool",
             kind: WordKind::Valued("T,N"),
-            help: "Ask for pages and free storage of the subpool that task T, or with N alone task 1, sees at N",
+            help: "Ask for pages and free storage of the subpool that task T sees at N; T is 1 if it's left out",
         },
         WordRow {
             name: "holds",
@@ -137,6 +157,7 @@ static WHO: CommandForm = CommandForm {
             kind: WordKind::Flag,
             help: "List each change that is kept, and each that is undone, with its line",
         },
+        JSON,
         WordRow {
             name: "FILE",
             kind: WordKind::Operand("FILE"),

@@ -1,6 +1,6 @@
-//! What help says.
+//! The texts of help.
 
-/// What `--version` prints behind the program's name: the version, and the kit.
+/// What `--version` prints after the program's name: the version, and the kit.
 pub(crate) const VERSION: &str = "0.1.0 (rattle-kit-13f logic dac8208d650f15bf)";
 
 pub(crate) const ABOUT: &str =
@@ -8,37 +8,36 @@ pub(crate) const ABOUT: &str =
         who changed what.";
 
 pub(crate) const AFTER: &str =
-    "'vsm-explain COMMAND --help' tells the words of a command, with an example. The options of vsm go after a
-command's name: the script runs under them. EXPLAIN.md has a worked hunt for each command; vsm(1) tells of the options,
-vsm-statements(5) what can stand in a script, vsm-messages(7) what is answered.
+    "'vsm-explain COMMAND --help' lists the arguments of a command, with an example. Give the options of vsm after the
+command's name: the script runs under them. EXPLAIN.md has a worked hunt for each command, vsm(1) the options,
+vsm-statements(5) the statements of a script, vsm-messages(7) the answers.
 
 Exit status:
    0  the question was answered
    4  list: at least one line is FAULT, REFUSED or ABEND, or was not carried out; why: the line's answer is one of these
-   8  the script can't be read, is too long or is empty, or the output can't be written
-  16  a wrong command line, a line or place that isn't there, settings out of their limits, or no memory
+   8  the script can't be read, is empty or too long, or the output can't be written
+  16  a wrong argument; a missing line, task or name; settings out of their limits; or no memory
 ";
 
 pub(crate) const LIST_ABOUT: &str =
-    "Lists a script with its answers, and tells where each mistake is.";
+    "Lists a script with its answers, and shows where each mistake is.";
 
 pub(crate) const LIST_AFTER: &str =
-    "Each line stands with its number, behind a statement its answer with the number of changes that are kept
-in brackets, under its first wrong operand what is expected there. 'x' marks a line that was not carried out. A point
-is shown for each byte that is no printing character.
+    "Lists numbered lines; each statement is followed by its answer and, in brackets, the number of kept changes;
+what was expected appears under the first wrong operand. 'x' marks a line that was not carried out. A point is shown for
+each byte that isn't a printing character.
 
-Example: where the file example.vsm has ' STORAGE OBTAIN,LENGHT=8', 'vsm-explain list --check example.vsm' prints the
-place of the fault alone, as compilers do, for an editor to go there.
+Example: if the file example.vsm has ' STORAGE OBTAIN,LENGHT=8', 'vsm-explain list --check example.vsm' prints only the
+place of the fault, as compilers do, so that an editor can go there.
 ";
 
 pub(crate) const WHY_ABOUT: &str =
     "Says why a line was answered as it was, or what an answer means.";
 
 pub(crate) const WHY_AFTER: &str =
-    "LINE is the line on which a statement begins, or another of its lines. Without LINE the words are an answer:
-S878, U3008, RC=4, FAULT VALUE, REFUSED NAME.
+    "LINE is any line of a statement. Without LINE, FILE is an answer: S878, U3008, RC=4, FAULT VALUE, REFUSED NAME.
 
-Examples: 'vsm-explain why example.vsm 85' tells for line 85 which places the rules looked at, in order;
+Examples: 'vsm-explain why example.vsm 85' lists for line 85 which places the rules looked at, in order;
 'vsm-explain why S878' prints what vsm-messages(7) says of S878.
 ";
 
@@ -48,8 +47,8 @@ pub(crate) const REPORT_AFTER: &str =
     "For each subpool: its owner, its pages, bytes taken and free, how many free areas, the largest and where,
 and how fragmented the free storage is. For each side of the 16 MB line: unassigned pages, their runs, the longest.
 
-Example: 'vsm-explain report example.vsm 40' shows what was left behind the statement of line 40;
-'vsm-explain report --areas example.vsm' names each area that is taken at the end, and the line that obtained it;
+Example: 'vsm-explain report example.vsm 40' shows what was left after the statement of line 40;
+'vsm-explain report --areas example.vsm 40' lists each area that is taken then, and the line that obtained it;
 'vsm-explain report --over-time example.vsm > rows.csv' makes a row of CSV for each statement.
 ";
 
@@ -59,8 +58,8 @@ pub(crate) const WHO_ABOUT: &str =
 
 pub(crate) const WHO_AFTER: &str =
     "ADDRESS and N are numbers as in a script: 24582 or X'6006'. ADDRESS is hexadecimal in eight digits that begin with
-0, as answers print it, and after 0x. Ask for one thing: N bytes at ADDRESS, or what one of the options names. The
-first line of the answer says what was asked for.
+0, as answers print it, and after 0x. Ask for one thing: N bytes at ADDRESS, or one option. The first line of the
+answer says what was asked for.
 
 Examples, as a shell takes them:
   vsm-explain who example.vsm 00006006 2       names the lines that changed the two bytes there,

@@ -1,4 +1,4 @@
-//! The program `vsm-explain`: reads a script, answers what the words ask of it, and gives the exit status.
+//! The program `vsm-explain`: reads a script, answers what the arguments ask about it, and returns the exit status.
 #![tactic(auto)]
 
 mod answers;

@@ -1,4 +1,4 @@
-//! The command line: the commands of `forms`, as clap has them.
+//! The command line: the commands of `forms`, for clap.
 ghost use Rattle.std.specs.Prelude.{◌≡◌, IfOk, [], false, fold, map};
 ghost use Rattle.std.specs.String.{string_bytes};
 ghost use Rattle.clap.specs.Words.{App, Shape, app_of, rule_of, shape_of, with_rule, with_subcommand};
@@ -10,7 +10,7 @@ use clap::{Arg, ArgAction, ArgMatches, Command, Error};
 use std::alloc::{AllocError, Global};
 use vsm_bench::with_settings;
 
-/// The argument that an option or operand is.
+/// An option or operand as an argument of clap.
 fn argument_of<'a>(alloc: Global, row: &'static WordRow) -> Arg<'a>
     ensures rule { rule_of result ≡ rule_in row.now }
     ensures local { result.global ≡ false }
@@ -49,7 +49,7 @@ fn command_of<'a>(alloc: Global, form: &'static CommandForm) -> Result<Command<'
     with_rows(alloc, with_settings(alloc, command)?, form.rows)
 }
 
-/// A command with one more below it.
+/// A command with another one below it.
 fn with_command<'a>(
     alloc: Global,
     command: Command<'a>,
@@ -62,7 +62,7 @@ fn with_command<'a>(
     command.subcommand(its)
 }
 
-/// The program, with what it says of itself. One of its commands has to be named, and none of them is for help.
+/// The program, with its own help. One of its commands has to be named, and none of them is for help.
 fn program<'a>(alloc: Global) -> Result<Command<'a>, AllocError>
     ensures { IfOk result (λ c. app_of c ≡ (record { top = program; subs = [] })) }
 {
@@ -86,8 +86,8 @@ fn command_line<'a>(alloc: Global) -> Result<Command<'a>, AllocError>
     with_command(alloc, third, who_form())
 }
 
-/// What the words say, the first of which is the program's name; or the text for whoever wrote them: help, the version,
-/// or what is wrong.
+/// What the words say, of which the first is the program's name; or the text to show: help, the version, or what is
+/// wrong.
 pub(crate) fn read_words<'a>(alloc: Global, words: &'a [String]) -> Result<ArgMatches<'a>, Error>
     ensures { Reads (map string_bytes words.entry.now) result }
 {

@@ -1,18 +1,18 @@
-//! How far a long run is, told on standard error.
+//! How far a long run is, reported on standard error.
 
 use script_steps::Watch;
 use std::io::Write;
 use std::time::Clock;
 
-/// How long a run may take before it's told how far it is, and how often that is then told; in milliseconds.
+/// How long a run may take before its progress is reported, and how often that is then repeated; in milliseconds.
 const PATIENCE: u64 = 2000;
 
-/// So many lines are taken between two looks at the clock.
+/// How many lines are taken between two looks at the clock.
 const LINES_BETWEEN: u32 = 64;
 
-/// What tells the time: the clock of a runtime, or what stands in for it.
+/// A source of time: the clock of a runtime, or a substitute.
 pub trait Stopwatch {
-    /// Milliseconds since some moment, the same each time; `None` where there is no clock.
+    /// Milliseconds since a fixed moment; `None` without a clock.
     fn milliseconds(&self) -> Option<u64>;
 }
 
@@ -23,19 +23,19 @@ impl<R: Clock> Stopwatch for R {
     }
 }
 
-/// Tells every two seconds how many lines have been taken.
+/// Reports every two seconds how many lines have been taken.
 #[derive(Drop)]
 pub(crate) struct Progress<'a, R, E> {
     clock: &'a R,
     errors: &'a mut E,
-    // When the run began; `None` where nothing is to be told.
+    // When the run began; `None` if nothing is to be reported.
     began: Option<u64>,
-    // When it's told next.
+    // When the next report is due.
     next: u64,
 }
 
 impl<'a, R: Stopwatch, E: Write> Progress<'a, R, E> {
-    /// Nothing is told where `is_shown` is false or there is no clock.
+    /// Nothing is reported if `is_shown` is false or no clock works.
     pub(crate) fn new(clock: &'a R, errors: &'a mut E, is_shown: bool) -> Progress<'a, R, E> {
         let began = if is_shown { clock.milliseconds() } else { None };
         let next = began.unwrap_or(0).saturating_add(PATIENCE);
@@ -47,7 +47,7 @@ impl<'a, R: Stopwatch, E: Write> Progress<'a, R, E> {
         }
     }
 
-    /// Tells how far the run is, where it's time.
+    /// Reports how far the run is, if a report is due.
     fn look(&mut self, began: u64, lines: u32) {
         let Some(now) = self.clock.milliseconds() else {
             return;

@@ -7,23 +7,23 @@ use std::alloc::Global;
 use std::io;
 use std::io::Read;
 
-/// The most bytes of a script that is explained: 256 for each of the lines that it may have.
+/// The most bytes of a script: 256 for each of the lines that it may have.
 pub(crate) const MOST_BYTES: u64 = 268_435_456;
 
-/// Why a script isn't there to be explained.
+/// Why a script can't be explained.
 #[derive(Clone, Copy)]
 pub(crate) enum Unread {
-    /// It can't be opened or read; this is what the system said.
+    /// It can't be opened or read; this is the system's message.
     Read(io::Error),
-    /// It has no bytes.
+    /// It's empty.
     Empty,
     /// It has more bytes than can be explained.
     TooLong,
-    /// It has a byte X'00', which no text has.
+    /// It has a byte X'00', so it isn't text.
     Binary,
 }
 
-/// All that a reader has left, where that is no more than a script may have.
+/// All that a reader has left, if that isn't more than a script may have.
 pub(crate) fn read_whole<S: Read>(alloc: Global, script: &mut S) -> Result<Vec<u8>, Unread>
     ensures { IfOk result (λ bytes. IsAll (S.remaining script.old) bytes.items) }
 {
@@ -48,11 +48,11 @@ pub(crate) const MOST_COLUMNS: usize = 65_536;
 pub(crate) enum Excess {
     /// It has too many lines.
     Lines,
-    /// This line has too many bytes, and none before it.
+    /// This line is the first with too many bytes.
     Bytes(u32),
 }
 
-/// What a script has too much of that has too much of something.
+/// What a script that is too long has too much of.
 pub(crate) fn excess_of(script: &[u8]) -> Excess {
     let mut line = 1u32;
     let mut columns = 0usize;

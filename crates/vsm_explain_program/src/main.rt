@@ -6,12 +6,12 @@ use std::process::ExitCode;
 use std::{env, io};
 use vsm_explain::{Terminals, command};
 
-const NO_MEMORY: &str = "vsm-explain: there is no memory\n";
+const NO_MEMORY: &str = "vsm-explain: memory ran out\n";
 
 const NOT_UTF_8: &str =
-    "vsm-explain: a word of the command line isn't UTF-8: a file of such a name is read by - < FILE\n";
+    "vsm-explain: an argument isn't UTF-8: a file of such a name is read by - < FILE\n";
 
-/// The words of the command line; or what is wrong, in a line.
+/// The arguments; or what is wrong, in one line.
 fn words_of(rt: &HostRuntime) -> Result<Vec<String>, &'static str> {
     match env::args(rt) {
         Ok(words) => match words.collect::<Vec<String>>(rt.alloc()) {
@@ -25,7 +25,7 @@ fn words_of(rt: &HostRuntime) -> Result<Vec<String>, &'static str> {
     }
 }
 
-/// Calls `command` with the words of the command line and the standard streams, and ends with the status that it gives.
+/// Calls `command` with the arguments and the standard streams, and exits with the status that it returns.
 fn main(rt: HostRuntime) -> ExitCode {
     let mut errors = rt.stderr();
     let words = match words_of(&rt) {

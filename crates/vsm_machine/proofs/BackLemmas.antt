@@ -15,7 +15,7 @@ use Rattle.vsm_machine.specs.Laws.{SwapsLeadBack}
 can-fits : (m : Machine) (c : MachineChange) → CanSwap m c → fit (shown m) (means m c)
 can-fits m c h = (h.fits, can_fit m.names (step_of c) h.can)
 
--- and one that fits it, and stands ready beside the storage, can be exchanged
+-- and one that fits it, and is ready for the storage, can be exchanged
 fits-can : (m : Machine) (c : MachineChange) → swap.Ready m.storage.parts c.storage → fit (shown m) (means m c) → CanSwap m c
 fits-can m c r f = record {
   ready = r;

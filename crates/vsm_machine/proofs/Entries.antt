@@ -18,7 +18,7 @@ use Rattle.vsm_machine.proofs.TableRows.{word_of-within, word_of-behind, word_of
 abbrev Entry : Type 0
 Entry = ArrayString × ℕ
 
--- how the map compares two keys
+-- how the map compares two keys,
 abbrev pub same_key : ArrayString → ArrayString → Bool
 same_key k l = pointwise nat_eq k.bytes l.bytes
 
@@ -67,7 +67,7 @@ front-found key es n i at below =
     word_of-within (map row_of es) n i key.bytes no_row below (omega (arith, within, length-rows es)) (test-is key es i no_key no_row within ∙ found.1)
     ∙ sym (lookup-is key es)
 
--- and one that is found behind it isn't in the front.
+-- and one that is found after it isn't in the front.
 pub front-lacks : (key : ArrayString) (es : List Entry) (n i : ℕ) → position (same_key key) (keys_of es) ≡ Some i → n ≤ i →
     word_of (take n (map row_of es)) key.bytes ≡ None
 front-lacks key es n i at behind =
@@ -80,7 +80,7 @@ front-lacks key es n i at behind =
 pub front-none : (key : ArrayString) (es : List Entry) (n : ℕ) → lookup (same_key key) es ≡ None → word_of (take n (map row_of es)) key.bytes ≡ None
 front-none key es n none = word_of-none (map row_of es) n key.bytes (sym (lookup-is key es) ∙ none)
 
--- what `move_index` makes of a list, where it moves an item towards the front
+-- what `move_index` makes of a list, if it moves an item towards the front
 module _ {X : Type 0} (xs : List X) (i n : ℕ) (d : X) (below : n ≤ i) (within : i < length xs) where
   moved : move_index xs i n ≡ take n (remove xs i) ++ get_or xs i d ∷ drop n (remove xs i)
   moved = ap (λ o. option_map_or (λ x. insert (remove xs i) n x) o xs) (slice_get-get_or xs i d within)
@@ -93,11 +93,11 @@ module _ {X : Type 0} (xs : List X) (i n : ℕ) (d : X) (below : n ≤ i) (withi
   front-long : length (take n (remove xs i)) ≡ n
   front-long = ap length front ∙ length-take-le n xs (omega arith)
 
-  -- what stands before its new place stays
+  -- what is before its new place stays
   pub moved-front : take n (move_index xs i n) ≡ take n xs
   moved-front = ap (take n) moved ∙ take_at (take n (remove xs i)) (get_or xs i d ∷ drop n (remove xs i)) n front-long ∙ front
 
-  -- and the item comes next
+  -- and the item is next
   pub moved-next : take (n + 1) (move_index xs i n) ≡ take n xs ++ get_or xs i d ∷ []
   moved-next =
       let part = take n (remove xs i) in
@@ -113,7 +113,7 @@ name_at key [] i h same = absurd (omega arith)
 name_at key (e ∷ es) zero h same = same_name-is e.0.bytes key.bytes (sym (same_key-is key.bytes e.0.bytes) ∙ same)
 name_at key (e ∷ es) (suc i) h same = name_at key es i (omega arith) same
 
--- the name that is found behind the front is brought next to it
+-- the name that is found after the front is brought next to it
 pub name-next : (key : ArrayString) (es : List Entry) (n i : ℕ) → position (same_key key) (keys_of es) ≡ Some i → n ≤ i →
     (word : ℕ) × (take (n + 1) (map row_of (move_index es i n)) ≡ take n (map row_of (move_index es i n)) ++ (key.bytes, word) ∷ [])
 name-next key es n i at behind =
@@ -132,7 +132,7 @@ pub rows-moved : (es : List Entry) (n i : ℕ) → n ≤ i → i < length es →
 rows-moved es n i behind within =
     take-map row_of n (move_index es i n) ∙ ap (map row_of) (moved-front es i n no_entry behind within) ∙ sym (take-map row_of n es)
 
--- a write at a key that is there
+-- a write at a present key
 pub rows-written : (key : ArrayString) (es : List Entry) (word : ℕ) → is_some (word_of (map row_of es) key.bytes) ≡ true →
     map row_of (set_value (same_key key) es word) ≡ with_name (map row_of es) key.bytes word
 rows-written key [] word known = absurd (true≢false (sym known))
@@ -148,14 +148,14 @@ rows-written key (e ∷ es) word known =
           ∙ sym (cond-false (same_name e.0.bytes key.bytes) ((e.0.bytes, word) ∷ map row_of es) (row_of e ∷ with_name (map row_of es) key.bytes word) other)
     ]
 
--- the rows of a front of the entries
+-- the rows of the first entries
 pub rows-kept : (es new : List Entry) (m n : ℕ) → m ≤ n → new ≡ take n es → take m (map row_of new) ≡ take m (map row_of es)
 rows-kept es new m n a is = ap (λ l. take m (map row_of l)) is ∙ ap (take m) (sym (take-map row_of n es)) ∙ take-front m n (map row_of es) a
 
 pub all-kept : (es new : List Entry) (n : ℕ) → new ≡ take n es → map row_of new ≡ take n (map row_of es)
 all-kept es new n is = ap (map row_of) is ∙ sym (take-map row_of n es)
 
--- the names that are left once all are forgotten but the defined ones and the next,
+-- the names that are left once all are forgotten except the defined ones and the next,
 pub left-with-next : (es new : List Entry) (n : ℕ) (rows : List (List ℕ × ℕ)) (known : List ℕ → Bool) (name : List ℕ) (word : ℕ) → new ≡ take (n + 1) es →
     take (n + 1) (map row_of es) ≡ take n (map row_of es) ++ (name, word) ∷ [] → take n (map row_of es) ≡ rows → known name ≡ true → (other : List ℕ) →
     is_some (word_of (map row_of new) other) ≡ (is_some (word_of rows other) || (same_name name other && known other))
@@ -163,7 +163,7 @@ left-with-next es new n rows known name word is next front there other =
     ap (λ l. is_some (word_of l other)) (all-kept es new (n + 1) is ∙ next ∙ ap (λ l. l ++ (name, word) ∷ []) front)
     ∙ forgot-but rows known name word there other
 
--- and once all are forgotten but the defined ones.
+-- and once all are forgotten except the defined ones.
 pub left-without : (es new : List Entry) (n : ℕ) (rows : List (List ℕ × ℕ)) (known : List ℕ → Bool) (name : List ℕ) → new ≡ take n es →
     take n (map row_of es) ≡ rows → false ≡ (not (is_some (word_of rows name)) && known name) → (other : List ℕ) →
     is_some (word_of (map row_of new) other) ≡ (is_some (word_of rows other) || (same_name name other && known other))

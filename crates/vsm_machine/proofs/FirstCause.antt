@@ -41,7 +41,7 @@ not_conditional (get name g) h = h
 not_conditional (free name cell) h = refl
 not_conditional (delete name) h = refl
 
--- can be planned where it can,
+-- can be planned if it can,
 pub still_planned : (x : Service) → CanBePlanned x → CanBePlanned (unconditional x)
 still_planned (obtain o) h = h
 still_planned (release r) h = h
@@ -56,7 +56,7 @@ still_planned (get name g) h = h
 still_planned (free name cell) h = h
 still_planned (delete name) h = h
 
--- and is refused where there is one.
+-- and is refused if there is one.
 none_holds : (settings : Settings) (s : State) (x : Service) (cause : Option Cause) → is_conditional x ≡ false →
     outcome.IsAccepted (answered settings s x cause) → cause ≡ None
 none_holds settings s x None plain h = refl

@@ -1,4 +1,4 @@
--- A change has frames for just the pages that come to be assigned by it.
+-- A change has frames for exactly the pages that it assigns.
 use Rattle.std.proofs.Common.{◌≡◌, ℕ, ◌*◌, ◌/◌, ap, sym, ◌∙◌, arith}
 use Rattle.storage_changes.proofs.AssignedPages.{assigned-brought}
 use Rattle.vsm_machine.specs.Changes.{overlay}

@@ -30,7 +30,7 @@ makes_in_all m r t u x p c d cs can made swaps all =
 pub made_none : (m : Machine) (x : Act) (p : Planned) → MakesFor m x p m
 made_none m x p = record { elements = omega arith; frames = omega arith }
 
--- for one that is refused for want of memory it's what was made before that
+-- for one that is refused because memory runs out, it's what was made before that
 pub makes_wanting : (m r : Machine) (x : Act) (p : Planned) → CanCarryOut (shown m) x p
     → Makes m.storage.parts r.storage.parts (elements_needed (shown m).storage p.plan) (fresh_pages p.plan).len → MakesFor m x p r
 makes_wanting m r x p can made =

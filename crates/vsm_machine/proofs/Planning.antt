@@ -89,7 +89,7 @@ gives names (Some name) (Attached task) = refl
 gives names (Some name) (Turn task) = refl
 gives names (Some name) Stored = refl
 
--- a service that is accepted is so with its name and in its form
+-- a service that is accepted stays accepted with its name and in its form
 formed_accepted : (family : Family) (service : Service) (names : List (List ℕ × ℕ)) (name : Option (List ℕ)) (o : Outcome State Reply Cause) → outcome.IsAccepted o →
     outcome.IsAccepted (or_abend (with_code family service (named names name o)))
 formed_accepted family service names name (Accepted s reply) h = tt
@@ -137,6 +137,6 @@ module _ (m : MachineState) (x : Act) (service : Service) (is : Some service ≡
     told,
   )
 
--- a name that is put into a table is there
+-- a name that is put into a table is in it
 pub now_known : (name : List ℕ) (b c : Bool) → b ≡ (same_name name name || c) → b ≡ true
 now_known name b c e = e ∙ ap (λ s. s || c) (same_name-self name)

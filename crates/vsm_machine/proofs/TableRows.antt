@@ -1,4 +1,4 @@
--- The rows in front of a table: what they say of a name, and how they change with the table.
+-- The first rows of a table, its front: what they say of a name, and how they change with the table.
 use Rattle.std.proofs.Common.{◌≡◌, ℕ, zero, suc, ◌+◌, ◌-◌, ◌<◌, ◌≤◌, Bool, true, false, not, ◌&&◌, ◌||◌, if◌then◌else◌, Some, None, is_some, List, [], ◌∷◌, ◌++◌, length, take, get_or, refl, sym, ap, ◌∙◌, arith, inl, inr, true≢false}
 use Rattle.std.proofs.lemmas.Bool.{cases_Bool, cond-true, cond-false}
 use Rattle.std.proofs.lemmas.List.{take_at, length-take-le, length_push}
@@ -17,7 +17,7 @@ take-front (suc m) zero xs a = absurd (omega arith)
 take-front (suc m) (suc n) [] a = refl
 take-front (suc m) (suc n) (x ∷ xs) a = ap (λ l. x ∷ l) (take-front m n xs (omega arith))
 
--- a name that the front has, all rows have with the same word
+-- a name of the front has the same word in all rows
 pub word_of-front : (rows : Rows) (n : ℕ) (name : List ℕ) → is_some (word_of (take n rows) name) ≡ true → word_of (take n rows) name ≡ word_of rows name
 word_of-front rows zero name some = absurd (true≢false (sym some))
 word_of-front [] (suc n) name some = refl
@@ -32,7 +32,7 @@ word_of-front (row ∷ rows) (suc n) name some =
 pub known-front : (rows : Rows) (n : ℕ) (name : List ℕ) → is_some (word_of (take n rows) name) ≡ true → is_some (word_of rows name) ≡ true
 known-front rows n name some = ap is_some (sym (word_of-front rows n name some)) ∙ some
 
--- a name that the rows don't have, the front doesn't
+-- a name that the rows lack, the front lacks
 pub word_of-none : (rows : Rows) (n : ℕ) (name : List ℕ) → word_of rows name ≡ None → word_of (take n rows) name ≡ None
 word_of-none rows zero name none = refl
 word_of-none [] (suc n) name none = refl
@@ -40,7 +40,7 @@ word_of-none (row ∷ rows) (suc n) name none =
     let parts = first_is_other (same_name row.0 name) row.1 (word_of rows name) none in
     cond-false (same_name row.0 name) (Some row.1) (word_of (take n rows) name) parts.0 ∙ word_of-none rows n name parts.1
 
--- a name whose row stands in the front
+-- a name whose row is in the front
 pub word_of-within : (rows : Rows) (n i : ℕ) (name : List ℕ) (d : List ℕ × ℕ) → i < n → i < length rows → same_name (get_or rows i d).0 name ≡ true →
     word_of (take n rows) name ≡ word_of rows name
 word_of-within rows zero i name d a b is = absurd (omega arith)
@@ -73,7 +73,7 @@ knows-more (row ∷ rows) name other word =
       | false ↦ knows-more rows name other word
     ]
 
--- a name that is there already is no other name
+-- a name that is already in the rows is no other name
 pub knows-again : (rows : Rows) (name other : List ℕ) → is_some (word_of rows name) ≡ true →
     is_some (word_of rows other) ≡ (same_name name other || is_some (word_of rows other))
 knows-again rows name other known =
@@ -116,7 +116,7 @@ with_name-last (row ∷ rows) name old word none =
     cond-false (same_name row.0 name) ((row.0, word) ∷ (rows ++ (name, old) ∷ [])) (row ∷ with_name (rows ++ (name, old) ∷ []) name word) parts.0
     ∙ ap (λ l. row ∷ l) (with_name-last rows name old word parts.1)
 
--- A name is defined: its row stands next, and gets its word.
+-- A name is defined: its row is next, and gets its word.
 pub rows-defined : (all later : Rows) (n : ℕ) (name : List ℕ) (old word : ℕ) → word_of (take n all) name ≡ None → take (n + 1) all ≡ take n all ++ (name, old) ∷ [] →
     later ≡ with_name all name word → take (n + 1) later ≡ with_name (take n all) name word
 rows-defined all later n name old word none next is =
@@ -124,7 +124,7 @@ rows-defined all later n name old word none next is =
     ap (take (n + 1)) is ∙ take-with_name all (n + 1) name word known ∙ ap (λ l. with_name l name word) next
     ∙ with_name-last (take n all) name old word none ∙ sym (with_name-new (take n all) name word none)
 
--- The last name is undefined: the rows in front of it are left.
+-- The last name is undefined: the rows before it are left.
 pub rows-undefined : (all : Rows) (n : ℕ) (name : List ℕ) → n ≤ length all → IsLast (take n all) name → take (n - 1) all ≡ without_name (take n all) name
 rows-undefined all n name a last =
     let front : length (take n all) ≡ n = length-take-le n all a in
@@ -145,7 +145,7 @@ neither : (x k : Bool) → (not x && k) ≡ false → x ≡ (x || k)
 neither true k e = refl
 neither false k e = sym e
 
--- all names are forgotten but those of the rows and one that was known
+-- all names are forgotten except those of the rows and one that was known
 pub forgot-but : (rows : Rows) (known : List ℕ → Bool) (name : List ℕ) (word : ℕ) → known name ≡ true → (other : List ℕ) →
     is_some (word_of (rows ++ (name, word) ∷ []) other) ≡ (is_some (word_of rows other) || (same_name name other && known other))
 forgot-but rows known name word there other =
@@ -155,7 +155,7 @@ forgot-but rows known name word there other =
       | false ↦ λ _. or-false (is_some (word_of rows other))
     ] refl
 
--- all names are forgotten but those of the rows, where the other one is among these or wasn't known
+-- all names are forgotten except those of the rows, if the other one is among these or wasn't known
 pub forgot-all : (rows : Rows) (known : List ℕ → Bool) (name : List ℕ) → false ≡ (not (is_some (word_of rows name)) && known name) → (other : List ℕ) →
     is_some (word_of rows other) ≡ (is_some (word_of rows other) || (same_name name other && known other))
 forgot-all rows known name none other =

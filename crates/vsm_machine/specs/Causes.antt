@@ -1,4 +1,4 @@
--- The first cause of a statement, also where it is answered 4.
+-- The first cause of a statement, also if it returns 4.
 use Rattle.std.specs.Prelude.{◌≡◌, ◌⊎◌, Bool, false, Option, Some, None, IsSome, Result, Ok, Err}
 use Rattle.vsm_model.specs.declared.causes.Cause.{Cause}
 use Rattle.vsm_model.specs.Causes.{first_cause}
@@ -11,8 +11,8 @@ use Rattle.vsm_machine.specs.Changes.{MachineState, named_of}
 use Rattle.vsm_machine.specs.Machine.{name_asked, service_asked}
 use Rattle.vsm_machine.specs.declared.causes.UnknownName.{UnknownName}
 
--- The same service, not conditional; but GET, whose causes differ then: with no free cell a conditional GET asks for no
--- extent.
+-- The same service, not conditional; except GET, whose causes would differ: with no free cell a conditional GET asks
+-- for no extent.
 abbrev pub unconditional : Service → Service
 unconditional (obtain o) = obtain (record o { conditional = false })
 unconditional (release r) = release (record r { conditional = false })
@@ -33,7 +33,7 @@ is_conditional_get (get name g) = g.conditional
 is_conditional_get _ = false
 
 -- A statement whose names are all defined is this service, of whose causes this is the first that holds, or none holds
--- (a conditional GET may have been answered 4 then); or a name of it isn't defined.
+-- (a conditional GET may then have returned 4); or a name of it isn't defined.
 abbrev pub IsCause : MachineState → Act → Result (Option Cause) UnknownName → Type 0
 IsCause m x (Ok cause) =
     (service : Service) × (service_asked (named_of m) x ≡ Some service)

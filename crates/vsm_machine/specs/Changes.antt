@@ -62,8 +62,8 @@ plain_of m = named_of (shown m)
 abbrev pub step_of : MachineChange → Option NameStep
 step_of c = option_map step_in c.name
 
--- What a change means: the change of the storage, and the step of a name. A name that it defines has to be in the
--- machine's table already.
+-- What a change means: the change of the storage, and the step of a name. A name that it defines must already be in the
+-- machine's table.
 pub record Difference : Type 0 where
   pub storage : StorageChange
   pub step : Option NameStep
@@ -76,15 +76,15 @@ means m c = record {
   known = is_ready m.names (step_of c);
 }
 
--- A change of the storage fits, leads from a sound state to a sound one, and has frames for no page but those that it
--- leaves assigned.
+-- A change of the storage fits, leads from a sound state to a sound one, and has frames only for pages that it leaves
+-- assigned.
 pub record StorageFits (settings : Settings) (m : StorageState) (d : StorageChange) : Type 0 where
   pub fits : Fit m d
   pub before : ∥ IsSound settings m ∥₁
   pub after : ∥ IsSound settings (storage.overlay m d) ∥₁
   pub frames : AssignsItsFrames m d
 
--- A difference fits a state where its two parts do; it leads to another state, from which its inverse leads back.
+-- A difference fits a state if its two parts do; it leads to another state, from which its inverse leads back.
 abbrev pub fit : MachineState → Difference → Type 0
 fit m d = StorageFits m.settings m.storage d.storage × ((can_take_by m.names d.known d.step && d.known) ≡ true)
 
@@ -110,7 +110,7 @@ storages cs = map (λ c. c.storage) cs
 abbrev pub Apart : Machine → List MachineChange → Type 0
 Apart m cs = AreApart m.storage.parts (storages cs)
 
--- and together all that there are.
+-- and together all that exist.
 abbrev pub Whole : Machine → List MachineChange → Type 0
 Whole m cs = AreWhole m.storage.parts (storages cs)
 
@@ -130,7 +130,7 @@ pub record Swaps (m : Machine) (c : MachineChange) (n : Machine) (d : MachineCha
   pub same : (name : List ℕ) → knows n.names name ≡ knows m.names name
   pub ready : is_ready n.names (step_of d) ≡ true
 
--- no element and no frame was made, and as many are spare
+-- no element and no frame was made, and the same numbers are spare
 abbrev pub HasSameMemory : Machine → Machine → Type 0
 HasSameMemory m n = SameMemory m.storage.parts n.storage.parts
 
@@ -183,7 +183,7 @@ turns_back m d f =
     let named = name_turns_back m.names d.known d.step (names_fit m d f).0 in
     λ i. record { storage = back.2 i; step = named i; known = sym (names_fit m d f).1 i }
 
--- a change means the same where its change of the storage does, and the table is ready for it alike
+-- a change means the same if its change of the storage does and the table is equally ready for it
 pub same_meaning : (m n : Machine) (c : MachineChange)
     → swap.means n.storage.parts.elements c.storage ≡ swap.means m.storage.parts.elements c.storage
     → is_ready n.names (step_of c) ≡ is_ready m.names (step_of c) → means n c ≡ means m c
@@ -263,13 +263,13 @@ fits_after_prop : (m : MachineState) (ds : List Difference) → IsProp (FitsAfte
 fits_after_prop m [] = Unit-prop
 fits_after_prop m (d ∷ ds) = ×_prop (fit-prop m d) (fits_after_prop (overlay m d) ds)
 
--- whether changes fit is a question with one answer
+-- changes fit in at most one way
 pub machine_fits_prop : (ks : List MachineChange) (m : Machine) (us : List MachineChange)
     → IsProp (machine_fits ks m us)
 machine_fits_prop ks m us = ×_prop (×_prop (fits_before_prop (map (means m) ks) (shown m))
     (fits_after_prop (shown m) (map (means m) us))) (AreApart-prop m.storage.parts (storages (ks ++ us)))
 
--- nothing is missing from a machine and its kept and undone changes: a question with one answer too
+-- nothing is missing from a machine and its kept and undone changes: that too holds in at most one way
 abbrev pub IsWhole : List MachineChange → Machine → List MachineChange → Type 0
 IsWhole ks m us = Whole m (ks ++ us)
 

@@ -11,8 +11,8 @@ SwapsLeadBack = (m : Machine) (c : MachineChange) (n : Machine) (d : MachineChan
     → CanSwap n d
     × ((u : Machine) (e : MachineChange) → Swaps n d u e → (shown u ≡ shown m) × (means u e ≡ means m c))
 
--- A change that fits has a frame for each page that comes to be assigned by it, and for no other: a page's frame has
--- the byte of its first address.
+-- A change that fits has a frame for each page that it assigns, and for no other: a page's frame has the byte of its
+-- first address.
 abbrev pub FramesAreExact : Type 0
 FramesAreExact = (m : MachineState) (d : Difference) → fit m d → (page : ℕ)
     → IsSome (d.storage.frames (4096 * page))

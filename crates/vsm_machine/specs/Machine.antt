@@ -31,7 +31,7 @@ pub data Why : Type 0 where
   unknown_name : Why
   abended : Code → Why
 
--- the word that a value stands for, where its name is defined; a register is one of the current task
+-- the word that a value stands for, if its name is defined; a register is one of the current task
 abbrev pub looked_up : NamedState → Written → Option ℕ
 looked_up m (number n) = Some n
 looked_up m (named name) = word_of m.names name
@@ -47,12 +47,12 @@ abbrev pub name_in : Option Target → Option (List ℕ)
 name_in (Some (in_name name)) = Some name
 name_in _ = None
 
--- the register that is given it besides register 1, if one is
+-- the register that is given it as well as register 1, if one is
 abbrev pub register_in : Option Target → Option ℕ
 register_in (Some (in_register r)) = Some r
 register_in _ = None
 
--- the service in which so many words are looked up; there is none where one of them isn't there
+-- the service in which this many words are looked up; there is none if one of them is missing
 abbrev pub with_three : (ℕ → ℕ → ℕ → Service) → Option ℕ → Option ℕ → Option ℕ → Option Service
 with_three f (Some a) (Some b) (Some c) = Some (f a b c)
 with_three f _ _ _ = None
@@ -87,7 +87,7 @@ area_asked r boundary location conditional lengths subpool =
       conditional = conditional;
     })
 
--- an area that is given back
+-- an area that is released
 abbrev pub area_back : Bool → ℕ → ℕ → ℕ → Service
 area_back conditional bytes first subpool =
     services.release
@@ -98,7 +98,7 @@ abbrev pub left_or_looked_up : NamedState → Option Written → Option (Option 
 left_or_looked_up m None = Some None
 left_or_looked_up m (Some value) = option_map Some (looked_up m value)
 
--- the numbers of a new cell pool: of cells at first and of further ones, the size of a cell and the subpool
+-- the numbers of a new cell pool: its first cells and further ones, the size of a cell and the subpool
 abbrev pub with_cells : Location → Option ℕ → Option (Option ℕ) → Option ℕ → Option ℕ → Option Build
 with_cells location (Some primary) (Some secondary) (Some size) (Some subpool) =
     Some
@@ -121,8 +121,7 @@ with_passed shares_zero (Some given) (Some shared) =
     Some (services.attach (record { given = given; shared = shared; shares_zero = shares_zero }))
 with_passed shares_zero _ _ = None
 
--- The service that a statement asks for, with the words of its values; there is none where one of its names isn't
--- defined.
+-- The service that a statement asks for, with the words of its values; there is none if one of its names isn't defined.
 abbrev pub service_asked : NamedState → Act → Option Service
 service_asked m (obtain length subpool target boundary location form) =
     with_lengths (area_asked (register_in target) boundary location form.conditional)
@@ -191,7 +190,7 @@ served settings m x (Some service) =
 abbrev pub statement_step : Settings → NamedState → Act → Outcome NamedState Reply Why
 statement_step settings m x = served settings m x (service_asked m x)
 
--- bytes that are loaded, or where one of them isn't there the completion code of a reference to it, 0C4
+-- bytes that are loaded, or if one of them is missing the completion code of a reference to it, 0C4
 abbrev pub or_abended : Option (List ℕ) → Result (List ℕ) Why
 or_abended None = Err (abended (System 0x0c4))
 or_abended (Some bytes) = Ok bytes
@@ -201,6 +200,6 @@ abbrev pub loaded_at : NamedState → Option ℕ → ℕ → Result (List ℕ) W
 loaded_at m None count = Err unknown_name
 loaded_at m (Some address) count = or_abended (load m.storage address count)
 
--- What a reading of so many bytes shows, or why it is refused. It changes nothing.
+-- What a reading of this many bytes shows, or why it is refused. It changes nothing.
 abbrev pub shown_at : NamedState → Written → ℕ → Result (List ℕ) Why
 shown_at m address count = loaded_at m (looked_up m address) count

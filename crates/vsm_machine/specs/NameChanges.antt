@@ -7,9 +7,9 @@ use Rattle.vsm_machine.specs.declared.name_changes.NameChange.TheVariants.{Defin
 
 -- one step of the names
 pub data NameStep : Type 0 where
-  -- the name is defined, with this word, behind the others
+  -- the name is defined, with this word, after the others
   define : List ℕ → ℕ → NameStep
-  -- the name, which is the last, isn't defined any more
+  -- the name, which is the last, is no longer defined
   undefine : List ℕ → NameStep
   -- the name, which is defined, stands for this word
   reword : List ℕ → ℕ → NameStep
@@ -26,11 +26,11 @@ name_of (define name word) = name
 name_of (undefine name) = name
 name_of (reword name word) = name
 
--- all rows but those of the name
+-- all rows except those of the name
 abbrev pub without_name : List (List ℕ × ℕ) → List ℕ → List (List ℕ × ℕ)
 without_name names name = filter (λ row. not (same_name row.0 name)) names
 
--- the word, or 0 where there is none
+-- the word, or 0 if there is none
 abbrev pub word_or_zero : Option ℕ → ℕ
 word_or_zero (Some word) = word
 word_or_zero None = 0
@@ -41,19 +41,19 @@ stepped names (define name word) = with_name names name word
 stepped names (undefine name) = without_name names name
 stepped names (reword name word) = with_name names name word
 
--- the step that takes back a step which was taken from these names
+-- the step that takes back a step that was taken from these names
 abbrev pub turned : List (List ℕ × ℕ) → NameStep → NameStep
 turned names (define name word) = undefine name
 turned names (undefine name) = define name (word_or_zero (word_of names name))
 turned names (reword name word) = reword name (word_or_zero (word_of names name))
 
--- the name is the last of the names, and stands there alone
+-- the name is the last of the names, and occurs only there
 abbrev pub IsLast : List (List ℕ × ℕ) → List ℕ → Type 0
 IsLast names name =
     (front : List (List ℕ × ℕ)) × (word : ℕ) × (names ≡ front ++ (name, word) ∷ []) × (word_of front name ≡ None)
 
--- A step can be taken from these names, where the table holds those that are known: a name that is defined wasn't, and
--- is known, a name that is undefined is the last, and a name with a new word is defined.
+-- A step can be taken from these names, if the table holds those that are known: a name that is defined wasn't before,
+-- and is known; a name that is undefined is the last; and a name with a new word is defined.
 abbrev pub CanStep : List (List ℕ × ℕ) → (List ℕ → Bool) → NameStep → Type 0
 CanStep names known (define name word) = (word_of names name ≡ None) × (known name ≡ true)
 CanStep names known (undefine name) = IsLast names name

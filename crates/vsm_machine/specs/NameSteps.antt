@@ -30,12 +30,12 @@ abbrev pub CanStepBy : List (List ℕ × ℕ) → (List ℕ → Bool) → Option
 CanStepBy names known None = Unit {0}
 CanStepBy names known (Some step) = CanStep names known step
 
--- the name is the last of the names, and stands there alone
+-- the name is the last of the names, and occurs only there
 abbrev pub is_last : List (List ℕ × ℕ) → List ℕ → Bool
 is_last [] name = false
 is_last (row ∷ rows) name = if same_name row.0 name then length rows == 0 else is_last rows name
 
--- the step can be taken from these names, where a name that it defines is or isn't known
+-- the step can be taken from these names, given whether a name that it defines is known
 abbrev pub can_take : List (List ℕ × ℕ) → Bool → NameStep → Bool
 can_take names known (define name word) = not (is_some (word_of names name)) && known
 can_take names known (undefine name) = is_last names name
@@ -103,7 +103,7 @@ is_taken names known (define name word) can =
 is_taken names known (undefine name) can = ap (λ l. is_last l name) can.2 ∙ is_the_last can.0 name can.1 can.3
 is_taken names known (reword name word) can = can
 
--- the step that takes a step back can be taken where that was,
+-- the step that takes a step back can be taken from where that led,
 pub name_fits_back : (names : List (List ℕ × ℕ)) (known : Bool) (step : Option NameStep)
     → can_take_by names known step ≡ true → can_take_by (stepped_by names step) true (turned_by names step) ≡ true
 name_fits_back names known None h = refl

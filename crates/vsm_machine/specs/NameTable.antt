@@ -23,11 +23,11 @@ rows_of t = take t.defined (all_rows t)
 abbrev pub knows : NameTable → List ℕ → Bool
 knows t name = is_some (word_of (all_rows t) name)
 
--- the table holds the name, or one more can come without memory
+-- the table holds the name, or can add another without memory
 abbrev pub HasRoom : NameTable → List ℕ → Type 0
 HasRoom t name = (knows t name ≡ true) ⊎ (0 < spare t.table)
 
--- the first row behind the defined ones is that of the name
+-- the first row after the defined ones is that of the name
 abbrev pub IsNext : NameTable → List ℕ → Type 0
 IsNext t name = (word : ℕ) × (take (t.defined + 1) (all_rows t) ≡ rows_of t ++ (name, word) ∷ [])
 

@@ -38,12 +38,12 @@ defined_by _ = None
 abbrev pub step_planned : Planned → Option NameStep
 step_planned p = option_map step_in p.name
 
--- what the change of the plan will mean, where a cell pool that comes has this id
+-- what the change of the plan will mean, if a new cell pool has this id
 abbrev pub difference_in : MachineState → ℕ → Planned → Difference
 difference_in m id p = record { storage = change_for m.storage id p.plan; step = step_planned p; known = true }
 
--- A statement was planned: it is accepted, with this reply, in the state that the plan's change leads to, where a cell
--- pool that comes has this id; and that change fits.
+-- A statement was planned: it is accepted, with this reply, in the state that the plan's change leads to, if a new cell
+-- pool has this id; and that change fits.
 pub record IsAcceptedBy (m : MachineState) (x : Act) (p : Planned) (id : ℕ) : Type 0 where
   pub accepted :
       statement_step m.settings (named_of m) x
@@ -52,7 +52,7 @@ pub record IsAcceptedBy (m : MachineState) (x : Act) (p : Planned) (id : ℕ) : 
   pub can : CanStepBy m.names (λ name. true) (step_planned p)
   pub gives : undefines_none (step_planned p) ≡ true
 
--- how much a statement weighs, once its values are looked up: as its service does
+-- how much a statement weighs, once its values are looked up: the weight of its service
 abbrev pub weight_served : StorageState → Option Service → ℕ
 weight_served m None = 0
 weight_served m (Some service) = weight m service
@@ -60,8 +60,8 @@ weight_served m (Some service) = weight m service
 abbrev pub weight_asked : MachineState → Act → ℕ
 weight_asked m x = weight_served m.storage (service_asked (named_of m) x)
 
--- It's accepted, under whatever id that a cell pool that comes can have; the change can be made, takes no more elements
--- than the statement's weight allows, and has frames for just the pages that come to be assigned.
+-- It's accepted, under any id that a new cell pool can have; the change can be made, takes no more elements than the
+-- statement's weight allows, and has frames for exactly the pages that become assigned.
 pub record CanCarryOut (m : MachineState) (x : Act) (p : Planned) : Type 0 where
   pub accepts : outcome.IsAccepted (statement_step m.settings (named_of m) x)
   pub accepted : (id : ℕ) → IsIdFor m.storage p.plan id → ∥ IsAcceptedBy m x p id ∥₁
@@ -72,13 +72,13 @@ pub record CanCarryOut (m : MachineState) (x : Act) (p : Planned) : Type 0 where
       (id : ℕ) → IsIdFor m.storage p.plan id
       → AssignsOnly m.storage (change_for m.storage id p.plan) (fresh_pages p.plan)
 
--- A statement was planned; or it is refused for this.
+-- A statement was planned, or it is refused for this.
 abbrev pub IsPlanned : MachineState → Act → Result Planned Refusal → Type 0
 IsPlanned m x (Ok p) = CanCarryOut m x p
 IsPlanned m x (Err e) = (why : Why) × (statement_step m.settings (named_of m) x ≡ Refused why) × (e ≡ refusal_for why)
 
--- The change was made of the plan: that of its storage beside this one, in which a cell pool that comes has an id that
--- none had, and the step of its name.
+-- The change was made of the plan: the change of its storage, in which a new cell pool has an id that none had, and the
+-- step of its name.
 pub record IsChangeOf (m : Machine) (p : Planned) (n : Machine) (c : MachineChange) : Type 0 where
   pub id : ℕ
   pub free : IsIdFor (state_in_place m.storage) p.plan id

@@ -1,4 +1,4 @@
--- How a refusal of the plain machine is told.
+-- How a refusal of the plain machine is reported.
 use Rattle.std.specs.Prelude.{◌≡◌, ℕ, List, Result, Err}
 use Rattle.vsm_machine.specs.Machine.{Why, unknown_name, abended}
 use Rattle.vsm_machine.specs.declared.refusals.Refusal.{Refusal}

@@ -15,7 +15,7 @@ pub first_is_other : (b : Bool) (w : ℕ) (o : Option ℕ) → (if b then Some w
 first_is_other true w o e = absurd (some_is_not w e)
 first_is_other false w o e = (refl, e)
 
--- a name that isn't defined comes last
+-- a name that isn't defined becomes the last
 pub with_name-new : (rows : List (List ℕ × ℕ)) (name : List ℕ) (word : ℕ) → word_of rows name ≡ None
     → with_name rows name word ≡ rows ++ (name, word) ∷ []
 with_name-new [] name word none = refl
@@ -24,7 +24,7 @@ with_name-new (row ∷ rows) name word none =
     cond-false (same_name row.0 name) ((row.0, word) ∷ rows) (row ∷ with_name rows name word) parts.0
     ∙ ap (λ l. row ∷ l) (with_name-new rows name word parts.1)
 
--- the last name stands for its word, where it stands alone
+-- the last name stands for its word, if it occurs only there
 pub word_of-last : (rows : List (List ℕ × ℕ)) (name : List ℕ) (word : ℕ) → word_of rows name ≡ None
     → word_of (rows ++ (name, word) ∷ []) name ≡ Some word
 word_of-last [] name word none = cond-true (same_name name name) (Some word) None (same_name-self name)
@@ -33,7 +33,7 @@ word_of-last (row ∷ rows) name word none =
     cond-false (same_name row.0 name) (Some row.1) (word_of (rows ++ (name, word) ∷ []) name) parts.0
     ∙ word_of-last rows name word parts.1
 
--- nothing but the last name goes with it
+-- no other name is removed with the last
 pub without_name-last : (rows : List (List ℕ × ℕ)) (name : List ℕ) (word : ℕ) → word_of rows name ≡ None
     → without_name (rows ++ (name, word) ∷ []) name ≡ rows
 without_name-last [] name word none = ap (λ b. if not b then (name, word) ∷ [] else []) (same_name-self name)
@@ -62,7 +62,7 @@ with_name-back (row ∷ rows) name word some =
           ∙ ap (λ l. row ∷ l) (with_name-back rows name word known)
     ]
 
--- the step that takes a step back can be taken, where the table still holds the name
+-- the step that takes a step back can be taken, if the table still holds the name
 pub step_back_fits : (names : List (List ℕ × ℕ)) (known later : List ℕ → Bool) (step : NameStep)
     → CanStep names known step → later (name_of step) ≡ true →
     CanStep (stepped names step) later (turned names step)
@@ -74,7 +74,7 @@ step_back_fits names known later (undefine name) can there =
     (ap (λ l. word_of l name) left ∙ can.3, there)
 step_back_fits names known later (reword name word) can there = ap is_some (name_stands names name word)
 
--- a step can still be taken, where the table still holds its name
+-- a step can still be taken, if the table still holds its name
 pub step_still_fits : (names : List (List ℕ × ℕ)) (known later : List ℕ → Bool) (step : NameStep)
     → CanStep names known step → later (name_of step) ≡ true →
     CanStep names later step
@@ -119,7 +119,7 @@ step_turns_back names known (undefine name) can = refl
 step_turns_back names known (reword name word) can =
     ap (λ o. reword name (word_or_zero o)) (name_stands names name word)
 
--- The step to a word can be taken where the table holds the name,
+-- The step to a word can be taken if the table holds the name,
 pub step_to_can : (names : List (List ℕ × ℕ)) (known : List ℕ → Bool) (name : List ℕ) (word : ℕ) → known name ≡ true →
     CanStep names known (step_to names name word)
 step_to_can names known name word there =

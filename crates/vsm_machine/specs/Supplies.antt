@@ -1,4 +1,4 @@
--- Where there is memory for a statement already.
+-- When there is already memory for a statement.
 use Rattle.std.specs.Prelude.{◌≡◌, ℕ, ◌+◌, ◌*◌, ◌≤◌, ⊤, IfSome, IsSome, Result, Ok, Err, List}
 use Rattle.vsm_model.specs.declared.replies.Reply.{Reply}
 use Rattle.vsm_model.specs.Names.{NamedState, word_of}
@@ -17,20 +17,20 @@ use Rattle.vsm_machine.specs.Machine.{statement_step}
 use Rattle.vsm_machine.specs.Meaning.{settings_of}
 use Rattle.vsm_machine.specs.Planned.{defined_by, step_planned, weight_asked}
 
--- There is room for the name that the plan defines, if it defines one, and a frame is spare, and a table there, for
--- each page that comes to be assigned by it.
+-- There is room for the name that the plan defines, if it defines one, and each page that it assigns has a spare frame
+-- and a table.
 pub record NeedsNoMore (machine : Machine) (p : Planned) : Type 0 where
   pub named : IfSome (defined_by (step_planned p)) (HasRoom machine.names)
   pub pages : IsSpareFor machine.storage.parts 0 (fresh_pages p.plan)
 
--- For this state to come a frame is spare, and a table there, for each page that is newly assigned in it, and each name
--- that is defined in it is in the table, or one more can come.
+-- Each page that is newly assigned in this next state has a spare frame and a table, and each name that is defined in
+-- it is in the table, or another can be added.
 pub record HasMemoryFor (machine : Machine) (n : NamedState) : Type 0 where
   pub pages : HasFramesFor machine.storage.parts (plain_of machine).storage n.storage
   pub names : (name : List ℕ) → IsSome (word_of n.names name) → HasRoom machine.names name
 
--- As many elements are spare as the statement's weight asks for, and there is memory for the state to which the plain
--- machine goes by it.
+-- At least as many elements are spare as the statement's weight asks for, and there is memory for the state that the
+-- plain machine reaches by it.
 pub record IsSupplied (machine : Machine) (x : Act) : Type 0 where
   pub elements : 32 + 8 * weight_asked (shown machine) x ≤ machine.storage.parts.elements.spare
   pub next :
@@ -38,13 +38,13 @@ pub record IsSupplied (machine : Machine) (x : Act) : Type 0 where
       → statement_step (settings_of machine.storage) (plain_of machine) x ≡ Accepted n reply
       → HasMemoryFor machine n
 
--- a statement isn't refused for want of memory
+-- a statement isn't refused because memory runs out
 abbrev pub FindsMemory : Result Reply Refusal → Type 0
 FindsMemory (Err NoMemory) = ⊥
 FindsMemory _ = ⊤
 
 -- For a statement with this plan at most a block of elements was made beyond the live ones and those that its weight
--- asks for, and no frame beyond those of the pages that come to be assigned and those that weren't spare.
+-- asks for, and no frame beyond those of the pages that become assigned and those that weren't spare.
 abbrev pub MakesFor : Machine → Act → Planned → Machine → Type 0
 MakesFor m x p n =
     Makes m.storage.parts n.storage.parts (32 + 8 * weight_asked (shown m) x) (fresh_pages p.plan).len

@@ -1,4 +1,4 @@
-//! Why a statement is refused, or answered 4: the first cause that holds.
+//! Why a statement is refused, or returns 4: the first cause that holds.
 ghost use Rattle.std.specs.Prelude.{◌≡◌, None};
 ghost use Rattle.vsm_model.specs.Meaning.{service_in};
 ghost use Rattle.macro_statements.specs.Requests.{act_in, IsValidAct};
@@ -15,7 +15,7 @@ use storage_core::{Cause, Obtain, Release, Service};
 #[derive(Clone, Copy)]
 pub struct UnknownName;
 
-/// The same service in its unconditional form; a GET as it is.
+/// The same service in its unconditional form; a GET unchanged.
 fn unconditional(service: Service<'_>) -> Service<'_>
     ensures { service_in result ≡ unconditional (service_in service.entry) }
 {
@@ -32,8 +32,8 @@ fn unconditional(service: Service<'_>) -> Service<'_>
     }
 }
 
-/// The first cause of a statement: why it's refused, or, in its conditional form, answered 4; none where it has its
-/// effect, and where a conditional GET is answered 4. Reads alone, and takes no memory.
+/// The first cause of a statement: why it's refused, or, in its conditional form, returns 4; none if it has its effect,
+/// or if a conditional GET returns 4. It only reads, and takes no memory.
 ///
 /// It's found by the plan of the same service in its unconditional form, which has the same causes.
 pub fn cause_of(machine: &Machine, statement: &Statement) -> Result<Option<Cause>, UnknownName>

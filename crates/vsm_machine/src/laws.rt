@@ -9,8 +9,8 @@ pub fn swaps_lead_back()
     ensures { SwapsLeadBack }
 {}
 
-/// A change that fits has a frame for each page that comes to be assigned by it, and for no other. So have the changes
-/// that a bench keeps, those that are undone, and one that leads back.
+/// A change that fits has a frame for each page that it assigns, and for no other. The same holds of the changes that a
+/// bench keeps, of those that are undone, and of one that leads back.
 pub fn frames_are_exact()
     ensures { FramesAreExact }
 {}

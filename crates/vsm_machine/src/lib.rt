@@ -1,12 +1,12 @@
 //! The machine of a bench: its storage with the names that its statements define, plans of statements, and the changes
 //! that carry them out.
 //!
-//! [`plan_of`] finds by reading alone what a statement will do, or why it's refused; [`reserve`] makes a
+//! [`plan_of`] finds what a statement will do, or why it's refused, by only reading; [`reserve`] makes a
 //! [`MachineChange`] of the plan, with all the memory that it needs; and the machine's `swap` applies the change and
-//! leaves what takes it back.
+//! leaves its inverse.
 //!
 //! A [`NameTable`] holds the names that are defined now and those of statements that were undone. A [`NameChange`] is
-//! one step of a statement: [`NameTable::swap`] takes it and leaves the step that takes it back.
+//! one step of a statement: [`NameTable::swap`] takes it and leaves its inverse.
 #![tactic(auto)]
 
 mod causes;

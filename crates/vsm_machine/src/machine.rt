@@ -13,23 +13,22 @@ use storage_core::Storage;
 /// The machine of a bench: its storage, and the names that its statements defined.
 #[derive(Drop)]
 pub struct Machine {
-    /// The private storage, with its bytes and registers, and the settings that it was made under.
+    /// The private storage, with its bytes and registers, and the settings that it was made with.
     pub storage: Storage,
     /// The defined names with their words, and those of undone statements.
     pub names: NameTable,
 }
 
-/// What takes a machine to another state, and back from there: a change of its storage, and at most one name with its
-/// other word.
+/// What takes a machine to another state and back: a change of its storage, and at most one name with its other word.
 #[derive(Drop)]
 pub struct MachineChange {
     /// The change of the storage.
     pub storage: storage_core::Change,
-    /// The step of a name, where the statement gives one an address.
+    /// The step of a name, if the statement gives one an address.
     pub name: Option<NameChange>,
 }
 
-/// Takes the step of a name, if there is one, and leaves the one that takes it back.
+/// Takes the step of a name, if there is one, and leaves its inverse.
 fn swap_name(names: &mut NameTable, change: &mut Option<NameChange>)
     requires { CanStepBy (rows_of names.old) (knows names.old) (option_map step_in change.old) }
     ensures rows { rows_of names.new ≡ stepped_by (rows_of names.old) (option_map step_in change.old) }

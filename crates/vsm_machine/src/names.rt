@@ -12,8 +12,8 @@ const MOST_NAMES: usize = 1024;
 
 /// The names of a bench with their words.
 ///
-/// First stand those that are defined, in the order in which they were defined, then those of undone statements, in no
-/// order of their own. These stay, so that doing a statement again inserts nothing.
+/// Those that are defined are first, in the order in which they were defined, then those of undone statements, in no
+/// particular order. These stay, so that doing a statement again inserts nothing.
 #[derive(Drop)]
 pub struct NameTable {
     table: IndexMap<Name, u32>,
@@ -42,7 +42,7 @@ impl NameTable {
         }
     }
 
-    /// The word that a name stands for, where it is defined.
+    /// The word that a name stands for, if it is defined.
     pub fn word(&self, name: &Name) -> Option<u32>
         ensures { result ≡ word_of (rows_of self.now) name.now.bytes }
     {
@@ -64,7 +64,7 @@ impl NameTable {
         ensures row { option_map row_of result ≡ slice_get (rows_of self.now) index }
         ensures fits { IfSome result (λ _. index < 2 ^ 63) }
     {
-        // The length is what says that the index fits.
+        // The length shows that the index fits.
         let _len = self.table.len();
         if index >= self.defined {
             return None;
@@ -80,8 +80,7 @@ impl NameTable {
         MOST_NAMES <= self.defined
     }
 
-    /// The change after which the name stands for `word`: a name that is defined keeps its place, another one comes
-    /// last.
+    /// The change after which the name stands for `word`: a defined name keeps its place, any other becomes the last.
     pub fn change_to(&self, name: Name, word: u32) -> NameChange
         ensures { step_in result ≡ step_to (rows_of self.now) name.bytes word }
     {
@@ -91,8 +90,8 @@ impl NameTable {
         }
     }
 
-    /// Sees that the table holds the name, not yet defined where it is new: behind all others. On `AllocError` the
-    /// table holds what it held. Where it holds the name already, or has room for one more, no memory is asked for.
+    /// Ensures that the table holds the name, not yet defined if it is new: after all others. On `AllocError` the table
+    /// holds what it held. If it already holds the name, or has room for another, no memory is asked for.
     pub fn reserve(&mut self, name: Name) -> Result<(), AllocError>
         ensures rows { rows_of self.new ≡ rows_of self.old }
         ensures ok { OnOk result ((other : List ℕ)
@@ -109,7 +108,7 @@ impl NameTable {
         }
     }
 
-    /// Takes every undone name out of the table but `own`, so that the table holds the defined names and, where it held
+    /// Takes every undone name out of the table except `own`, so that the table holds the defined names and, if it held
     /// it, `own`. Nothing is inserted.
     pub fn forget_undone(&mut self, own: Option<Name>)
         ensures rows { rows_of self.new ≡ rows_of self.old }
@@ -129,8 +128,7 @@ impl NameTable {
         }
     }
 
-    /// Takes the step, and leaves in `change` the one that takes it back. This takes no memory, and no name leaves the
-    /// table.
+    /// Takes the step, and leaves its inverse in `change`. This takes no memory, and no name leaves the table.
     pub fn swap(&mut self, change: &mut NameChange)
         requires { CanStep (rows_of self.old) (knows self.old) (step_in change.old) }
         ensures rows { rows_of self.new ≡ stepped (rows_of self.old) (step_in change.old) }
@@ -141,7 +139,7 @@ impl NameTable {
         *change = self.step(*change);
     }
 
-    // Takes the step, and returns the one that takes it back.
+    // Takes the step, and returns its inverse.
     fn step(&mut self, change: NameChange) -> NameChange
         requires { CanStep (rows_of self.old) (knows self.old) (step_in change) }
         ensures rows { rows_of self.new ≡ stepped (rows_of self.old) (step_in change) }
@@ -165,7 +163,7 @@ impl NameTable {
         }
     }
 
-    // Defines a name that the table holds, and that isn't defined, behind the others.
+    // Defines a name that the table holds, and that isn't defined, after the others.
     fn define(&mut self, name: &Name, word: u32)
         requires new { word_of (rows_of self.old) name.now.bytes ≡ None }
         requires known { knows self.old name.now.bytes ≡ true }
@@ -199,7 +197,7 @@ impl NameTable {
         self.exchange(name, word)
     }
 
-    // Brings a name that is undone to the first place behind the defined ones. Whether it is undone.
+    // Brings an undone name to the first place after the defined ones. Returns whether it is undone.
     fn put_next(&mut self, name: &Name) -> bool
         ensures rows { rows_of self.new ≡ rows_of self.old }
         ensures defined { self.new.defined ≡ self.old.defined }
@@ -209,7 +207,7 @@ impl NameTable {
         ensures next { IsTrue result → IsNext self.new name.now.bytes }
         ensures fits { self.new.defined < 2 ^ 63 }
     {
-        // The length is what says that one more than `defined` fits.
+        // The length shows that one more than `defined` fits.
         let _len = self.table.len();
         match self.table.get_index_of(name) {
             Some(index) => {

@@ -1,4 +1,4 @@
-//! What a statement will do to a machine, found by reading alone, and the change that does it.
+//! What a statement will do to a machine, found by only reading, and the change that does it.
 ghost use Rattle.std.specs.Prelude.{◌≡◌, ℕ, ◌≤◌, true, List, IfOk, IfSome, IsOk, OnErr, OnOk};
 ghost use Rattle.std.specs.Option.{option_map};
 ghost use Rattle.vsm_model.specs.Names.{is_one_too_many};
@@ -30,11 +30,11 @@ use storage_core::{Plan, Reply};
 pub struct Planned {
     /// The plan of the service.
     pub plan: Plan,
-    /// The step of the name; `None` where the statement names none.
+    /// The step of the name; `None` if the statement names none.
     pub name: Option<NameChange>,
 }
 
-/// Whether the name is a new one, and as many as there may be are defined.
+/// Whether the name is new, and the most names are already defined.
 pub(crate) fn is_one_too_many(names: &NameTable, name: Option<&Name>) -> bool
     ensures { result ≡ is_one_too_many (rows_of names.now) (option_map (λ n. n.now.bytes) name.entry) }
 {
@@ -92,8 +92,8 @@ fn new_name(change: &Option<NameChange>) -> Option<Name>
     }
 }
 
-/// Puts a new name behind all others of the table, and takes the names of undone statements out of it; where there is
-/// no memory for the new one, all names stay.
+/// Puts a new name after all others of the table, and takes the names of undone statements out of it; if there is no
+/// memory for the new one, all names stay.
 fn make_ready(names: &mut NameTable, new: Option<Name>) -> Result<(), AllocError>
     ensures rows { rows_of names.new ≡ rows_of names.old }
     ensures ok { OnOk result (IfSome new (λ name. knows names.new name.bytes ≡ true)) }
@@ -116,13 +116,13 @@ fn make_ready(names: &mut NameTable, new: Option<Name>) -> Result<(), AllocError
 }
 
 /// The change that carries out a plan, with all the memory that it needs: the storage's, and last room for a new name.
-/// Behind that nothing can be refused, and the names of undone statements are taken out. The storage and the defined
+/// After that nothing can be refused, and the names of undone statements are taken out. The storage and the defined
 /// names are as they were, whatever the answer.
 ///
-/// Refused where there is no memory for it; the table then holds the names that it held. Where as many elements are
-/// spare as the change takes, and a frame and a table for each page that comes to be assigned, and there is room for
-/// the name that is defined, if one is, it takes no memory. At most a block of elements is made beyond those that the
-/// change takes, and no frame beyond those of its pages, whatever the answer: they stay as spare ones.
+/// Refused if there is no memory for it; the table then holds the names that it held. It takes no memory if as many
+/// elements are spare as the change takes, and a frame and a table for each page that becomes assigned, and there is
+/// room for the name that is defined, if one is. At most a block of elements is made beyond those that the change
+/// takes, and no frame beyond those of its pages, whatever the answer: they stay as spare ones.
 pub fn reserve(machine: &mut Machine, planned: Planned) -> Result<MachineChange, AllocError>
     requires { CanBeReserved (state_in_place machine.old.storage) planned.plan }
     ensures is { IfOk result (λ c. IsChangeOf machine.old planned machine.new c) }

@@ -7,7 +7,7 @@ use vsm_model::Code;
 /// Why a statement is refused. A refused statement changes nothing.
 #[derive(Clone, Copy, PartialEq, Eq)]
 pub enum Refusal {
-    /// A name that stands for a value isn't defined.
+    /// A name used as a value isn't defined.
     Name,
     /// The completion code of the first cause that holds.
     Abend(Code),

@@ -20,10 +20,10 @@ use operand_texts::{Content, Name, Place, Value};
 use storage_core::{Attach, Boundary, Lengths, Location, Obtain, Passed, Release, Service};
 use vsm_model::{Build, Get};
 
-/// The service that is asked for; `None` where a name in one of its values isn't defined.
+/// The service that is asked for; `None` if a name in one of its values isn't defined.
 pub type ServiceAsked<'a> = Option<Service<'a>>;
 
-/// The register that is set besides register 1, if the place is one.
+/// The register that is set as well as register 1, if the place is one.
 fn register_of(place: &Option<Place>) -> Option<u8>
     ensures { result ≡ register_in (option_map target_in place.now) }
 {
@@ -33,7 +33,7 @@ fn register_of(place: &Option<Place>) -> Option<u8>
     }
 }
 
-/// The length that is asked for, with the words of its values; `None` where a name in one of them isn't defined.
+/// The length that is asked for, with the words of its values; `None` if a name in one of them isn't defined.
 fn lengths_of(machine: &Machine, length: &Length) -> Option<Lengths>
     requires { IsLength (length_in length.now) }
     ensures { result ≡ lengths_asked (plain_of machine.now) (length_in length.now) }
@@ -47,7 +47,7 @@ fn lengths_of(machine: &Machine, length: &Length) -> Option<Lengths>
     }
 }
 
-/// The subpools that a new task is given, or that it shares; `None` where a name in their value isn't defined.
+/// The subpools that a new task is given, or that it shares; `None` if a name in their value isn't defined.
 fn passed_of(machine: &Machine, subpools: &Subpools) -> Option<Passed>
     requires { IsSubpools (subpools_in subpools.now) }
     ensures { result ≡ passed_asked (plain_of machine.now) (subpools_in subpools.now) }
@@ -61,7 +61,7 @@ fn passed_of(machine: &Machine, subpools: &Subpools) -> Option<Passed>
     }
 }
 
-/// The new task that a statement asks for; `None` where a name in one of its values isn't defined.
+/// The new task that a statement asks for; `None` if a name in one of its values isn't defined.
 fn attach_of<'a>(
     machine: &Machine,
     given: &Subpools,
@@ -82,7 +82,7 @@ fn attach_of<'a>(
     }))
 }
 
-/// The area that a statement asks for; `None` where a name in one of its values isn't defined.
+/// The area that a statement asks for; `None` if a name in one of its values isn't defined.
 fn obtain_of<'a>(
     machine: &Machine,
     length: &Length,
@@ -111,7 +111,7 @@ fn obtain_of<'a>(
     }))
 }
 
-/// The release of an area that a statement asks for; `None` where a name in one of its values isn't defined.
+/// The release of an area that a statement asks for; `None` if a name in one of its values isn't defined.
 fn release_of<'a>(
     machine: &Machine,
     length: &Value,
@@ -136,8 +136,8 @@ fn release_of<'a>(
     }))
 }
 
-/// The store that a statement asks for; `None` where a name in one of its values isn't defined. A value that is stored
-/// is written into `room`.
+/// The store that a statement asks for; `None` if a name in one of its values isn't defined. A value that is stored is
+/// written into `room`.
 fn store_of<'a>(
     machine: &Machine,
     address: &Value,
@@ -156,7 +156,7 @@ fn store_of<'a>(
     })
 }
 
-/// The number of cells of a further extent, if it isn't left out; `None` where a name in its value isn't defined.
+/// The number of cells of a further extent, if it isn't left out; `None` if a name in its value isn't defined.
 fn secondary_of(machine: &Machine, secondary: &Option<Value>) -> Option<Option<u32>>
     requires { IfSome (option_map written_in secondary.now) IsValue }
     ensures { result ≡ left_or_looked_up (plain_of machine.now) (option_map written_in secondary.now) }
@@ -167,7 +167,7 @@ fn secondary_of(machine: &Machine, secondary: &Option<Value>) -> Option<Option<u
     }
 }
 
-/// The numbers of a new cell pool, with the words of their values; `None` where a name in one of them isn't defined.
+/// The numbers of a new cell pool, with the words of their values; `None` if a name in one of them isn't defined.
 fn numbers_of(machine: &Machine, cells: &NewCellPool) -> Option<Build>
     requires primary { IsValue (written_in cells.now.primary) }
     requires secondary { IfSome (option_map written_in cells.now.secondary) IsValue }
@@ -198,7 +198,7 @@ fn header_text(header: &Option<Header>) -> Option<&str>
     }
 }
 
-/// The cell pool that a statement asks for; `None` where a name in one of its values isn't defined.
+/// The cell pool that a statement asks for; `None` if a name in one of its values isn't defined.
 fn build_of<'a>(machine: &Machine, cells: &'a NewCellPool) -> ServiceAsked<'a>
     requires valid { IsValidAct (build_in cells.now) }
     ensures is { option_map service_in result ≡ service_asked (plain_of machine.now) (build_in cells.now) }
@@ -226,7 +226,7 @@ fn get_of<'a>(pool: &'a Name, place: &Option<Place>, conditional: bool) -> Servi
     }
 }
 
-/// The release of a whole subpool; `None` where a name in the value isn't defined.
+/// The release of a whole subpool; `None` if a name in the value isn't defined.
 fn whole_of<'a>(machine: &Machine, subpool: &Value) -> ServiceAsked<'a>
     requires { IsValue (written_in subpool.now) }
     ensures is { option_map service_in result
@@ -237,7 +237,7 @@ fn whole_of<'a>(machine: &Machine, subpool: &Value) -> ServiceAsked<'a>
     Some(Service::Whole { number })
 }
 
-/// The end of a task; `None` where a name in the value isn't defined.
+/// The end of a task; `None` if a name in the value isn't defined.
 fn detach_of<'a>(machine: &Machine, task: &Value) -> ServiceAsked<'a>
     requires { IsValue (written_in task.now) }
     ensures is { option_map service_in result
@@ -248,7 +248,7 @@ fn detach_of<'a>(machine: &Machine, task: &Value) -> ServiceAsked<'a>
     Some(Service::Detach { task })
 }
 
-/// The turn of a task; `None` where a name in the value isn't defined.
+/// The turn of a task; `None` if a name in the value isn't defined.
 fn run_of<'a>(machine: &Machine, task: &Value) -> ServiceAsked<'a>
     requires { IsValue (written_in task.now) }
     ensures is { option_map service_in result
@@ -259,8 +259,8 @@ fn run_of<'a>(machine: &Machine, task: &Value) -> ServiceAsked<'a>
     Some(Service::Run { task })
 }
 
-/// The service that a statement asks for, with the words of its values; `None` where a name in one of them isn't
-/// defined. A value that is stored is written into `room`.
+/// The service that a statement asks for, with the words of its values; `None` if a name in one of them isn't defined.
+/// A value that is stored is written into `room`.
 pub fn service_of<'a>(
     machine: &Machine,
     statement: &'a Statement,

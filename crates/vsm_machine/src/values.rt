@@ -10,7 +10,7 @@ use byteorder::{BigEndian, ByteOrder};
 use operand_texts::{Content, Value};
 
 /// The word that a value stands for: a number itself, a name the word that it was given, a register of the current task
-/// what it has. `None` where a name isn't defined.
+/// its contents. `None` if a name isn't defined.
 pub fn look_up(machine: &Machine, value: &Value) -> Option<u32>
     requires { IsValue (written_in value.now) }
     ensures { result ≡ looked_up (plain_of machine.now) (written_in value.now) }
@@ -25,11 +25,11 @@ pub fn look_up(machine: &Machine, value: &Value) -> Option<u32>
     }
 }
 
-/// Where the bytes of a value that is stored are written.
+/// The place where the bytes of a value that is stored are written.
 pub type Room<'a> = &'a mut [u8; 4];
 
-/// The bytes that are stored, where the name in them is defined: those that are spelled, or a value, which is written
-/// into `room` as a fullword, the most significant byte first.
+/// The bytes that are stored, if the name in them is defined: those that are spelled, or a value, which is written into
+/// `room` as a fullword, the most significant byte first.
 pub(crate) fn bytes_of<'a>(
     machine: &Machine,
     content: &'a Content,

@@ -69,7 +69,7 @@ otherwise_names_stay settings m n x r e none =
     (accepted_named m.names x.name (step settings (is_one_too_many m.names x.name) m.storage x.service) n r e).1
     ∙ names_stay m.names x.name r none
 
--- one name in front of names in their order
+-- one name before names in their order
 behind : (b : Bool) (x name : List ℕ) (xs : List (List ℕ)) →
     x ∷ (if b then xs else xs ++ name ∷ []) ≡ (if b then x ∷ xs else (x ∷ xs) ++ name ∷ [])
 behind true x name xs = refl
@@ -84,7 +84,7 @@ names_keep_their_order (row ∷ rows) name word =
       | false ↦ ap (λ xs. row.0 ∷ xs) (names_keep_their_order rows name word) ∙ behind (is_some (word_of rows name)) row.0 name (map (λ row. row.0) rows)
     ]
 
--- names stay distinct and few behind a reply, where one that gives an address comes with room for the name
+-- names stay distinct and few after a reply, if there is room for the name whenever the reply gives an address
 pub names_stay_sound : (names : Rows) (name : Option (List ℕ)) (r : Reply) →
     ((address : ℕ) → GivesAddress r address → is_one_too_many names name ≡ false) → AreDistinct names → length names ≤ 1024 →
     AreDistinct (names_after names name r) × (length (names_after names name r) ≤ 1024)

@@ -7,7 +7,7 @@ use Rattle.vsm_model.specs.CellPools.{CellPool, CellExtent}
 use Rattle.vsm_model.specs.Registers.{with_register, with_registers}
 use Rattle.vsm_model.specs.WellFormed.{PagesAreSound, SightIsSound, TasksAreSound, IsInSubpool, PoolIsSound, CellPoolsAreSound, IsWellFormed}
 
--- A cell pool stays sound where its subpool stays, with its extents in it.
+-- A cell pool stays sound if its subpool stays, with its extents in it.
 pub pool_still : (s t : State) (pool : CellPool) →
     (s.subpools pool.subpool.number pool.subpool.owner ≡ true → t.subpools pool.subpool.number pool.subpool.owner ≡ true) →
     ((x : CellExtent) → IsInSubpool s pool x → IsInSubpool t pool x) → PoolIsSound s pool → PoolIsSound t pool
@@ -79,7 +79,7 @@ registers_leave_well_formed settings [] s words w = w
 registers_leave_well_formed settings (row ∷ rows) s words w =
     registers_leave_well_formed settings rows (with_register s row.0 row.1) words.2 (register_leaves_well_formed s row.0 row.1 settings words.0 words.1 w)
 
--- Registers alone change.
+-- Only registers change.
 pub words_alone : (rows : List (ℕ × ℕ)) (s : State) → with_registers s rows ≡ record s { words = (with_registers s rows).words }
 words_alone [] s = refl
 words_alone (row ∷ rows) s = words_alone rows (with_register s row.0 row.1)

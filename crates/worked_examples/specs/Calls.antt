@@ -1,4 +1,4 @@
--- The words of the worked examples: settings, calls with few operands, answers, and what is looked at after a list of
+-- The terms of the worked examples: settings, calls with few operands, answers, and what is looked at after a list of
 -- calls. A search for a place is computed number by number, so some examples have smaller regions than the default
 -- settings.
 use Rattle.std.specs.Prelude.{ℕ, ◌+◌, ◌*◌, Bool, true, false, Option, Some, None, List, map, flat_map, codes, length}
@@ -28,7 +28,7 @@ use Rattle.vsm_model.specs.Forms.{FormedService, formed_step}
 use Rattle.vsm_model.specs.Map.{line, map_text}
 use Rattle.vsm_model.specs.declared.limits.Residence.TheVariants as residence
 
--- regions of so many pages below and above the line, for a caller that resides below it
+-- regions of this many pages below and above the line, for a caller that resides below it
 abbrev pub pages : ℕ → ℕ → Settings
 pages low high = record { low_k = 4 * low; high_k = 4 * high; residence = residence.Below; history = 1024 }
 
@@ -36,7 +36,7 @@ pages low high = record { low_k = 4 * low; high_k = 4 * high; residence = reside
 abbrev pub standard : Settings
 standard = pages 16 16
 
--- these, with a history of so many changes
+-- these, with a history of this many changes
 abbrev pub with_history : ℕ → Settings
 with_history changes = record standard { history = changes }
 
@@ -73,7 +73,7 @@ asks family x = Apply (record { family = family; asked = record { service = x; n
 abbrev pub asks_with_name : Family → List ℕ → Service → Call FormedService
 asks_with_name family name x = Apply (record { family = family; asked = record { service = x; name = Some name } })
 
--- so many bytes from a subpool, on a doubleword, where the caller resides
+-- this many bytes from a subpool, on a doubleword, where the caller resides
 abbrev pub area : ℕ → ℕ → Obtain
 area length number =
     record {
@@ -89,18 +89,18 @@ area length number =
 abbrev pub variable : ℕ → ℕ → Obtain
 variable most least = record (area 8 0) { lengths = Variable most least }
 
--- STORAGE OBTAIN of so many bytes from a subpool, and with COND=YES
+-- STORAGE OBTAIN of this many bytes from a subpool, and with COND=YES
 abbrev pub storage_obtain : ℕ → ℕ → Call FormedService
 storage_obtain length number = asks S (obtain (area length number))
 
 abbrev pub conditional_obtain : ℕ → ℕ → Call FormedService
 conditional_obtain length number = asks S (obtain (record (area length number) { conditional = true }))
 
--- GETMAIN RU of so many bytes from subpool 0 with LOC
+-- GETMAIN RU of this many bytes from subpool 0 with LOC
 abbrev pub getmain : ℕ → Location → Call FormedService
 getmain length location = asks S (obtain (record (area length 0) { location = location }))
 
--- so many bytes at an address, to a subpool
+-- this many bytes at an address, to a subpool
 abbrev pub given_back : ℕ → ℕ → ℕ → Release
 given_back length at number = record { length = length; address = at; number = number; conditional = false }
 
@@ -138,7 +138,7 @@ pool_name = codes "CP"
 abbrev pub build_cells : Build → Call FormedService
 build_cells b = asks S (build pool_name None b)
 
--- so many cells in each extent, of a size in bytes, from a subpool
+-- this many cells in each extent, of a size in bytes, from a subpool
 abbrev pub cells : ℕ → ℕ → ℕ → Build
 cells count size number =
     record { primary = count; secondary = None; size = size; number = number; location = Caller }
@@ -180,7 +180,7 @@ system_abend code = RefusedFor (System code)
 abbrev pub user_abend : ℕ → Answer Reply Code
 user_abend code = RefusedFor (User code)
 
--- what PEEK of so many bytes at an address reads after these calls
+-- what PEEK of this many bytes at an address reads after these calls
 abbrev pub peeked : Settings → List (Call FormedService) → ℕ → ℕ → Option (List ℕ)
 peeked settings calls at count = load (after settings calls).storage at count
 

@@ -70,7 +70,7 @@ calls_with_a_given_pool =
     ∷ conditional_get
     ∷ []
 
--- A cell pool follows its subpool to a new owner, and leaves with a whole release; a step back brings it back.
+-- A cell pool follows its subpool to a new owner, and is gone after a whole release; a step back restores it.
 abbrev pub ACellPoolFollowsItsSubpool : Type 0
 ACellPoolFollowsItsSubpool =
     (answers standard (calls_with_a_given_pool ++ free_cell (address 6 8) ∷ conditional_get ∷ [])
@@ -89,8 +89,8 @@ ACellPoolFollowsItsSubpool =
     ∷ [])
     × (name_after standard calls_with_a_given_pool (codes "Q") ≡ Some (address 6 8))
 
--- Without a place for a further extent an unconditional GET has the code of want of storage; a cell that is freed can
--- be had by either form.
+-- Without a place for a further extent an unconditional GET has the code for a lack of storage; either form can get a
+-- cell that is freed.
 abbrev pub NoPlaceForAFurtherExtent : Type 0
 NoPlaceForAFurtherExtent =
     answers (pages 1 1)

@@ -30,7 +30,7 @@ use Rattle.worked_examples.specs.Calls.{pages, answers, after, address, asks, ar
 use Rattle.worked_examples.specs.Calls.{release_whole, pool_name, build_cells, cells, get_operands, get_cell, granted}
 use Rattle.worked_examples.specs.Calls.{returned, system_abend, user_abend}
 
--- what these services are answered in a state
+-- the answers to these services in a state
 abbrev pub first_answers : State → Bool → List Service → List (Answer Reply Cause)
 first_answers s names_full = map (λ x. outcome_answer (step (pages 1 1) names_full s x))
 
@@ -46,7 +46,7 @@ abbrev pub attaches : Passed → Passed → Service
 attaches given shared = attach (record { given = given; shared = shared; shares_zero = true })
 
 -- The first cause that holds is the answer. Each list goes down the causes of a service in their order, and most
--- services in it have causes behind their own, too.
+-- services in it also have later causes.
 abbrev pub CausesComeInOrder : Type 0
 CausesComeInOrder =
     (first_answers first_state true
@@ -106,8 +106,8 @@ CausesComeInOrder =
     ∷ [])
     ≡ RefusedFor NoStorage ∷ RefusedFor NotAssigned ∷ RefusedFor BadList ∷ [])
 
--- The same release is refused with another code in each family of forms, and answered 4 where it is conditional. Cells
--- are not released as an area.
+-- The same release is refused with another code in each family of forms, and returns 4 if it is conditional. Cells are
+-- not released as an area.
 abbrev pub FormsAndTheirCodes : Type 0
 FormsAndTheirCodes =
     answers (pages 2 1)
@@ -146,8 +146,8 @@ an_obtain = obtain (area 8 0)
 abbrev pub a_release : Service
 a_release = release (given_back 8 (address 6 0) 0)
 
--- The codes of all causes as they are printed for STORAGE; and those whose last two digits are others in other forms:
--- of an E form that obtains, of one that releases, and of an R form.
+-- The codes of all causes as they are printed for STORAGE; and those whose last two digits differ in other forms: of an
+-- E form that obtains, of one that releases, and of an R form.
 abbrev pub CompletionCodesAsTexts : Type 0
 CompletionCodesAsTexts =
     (code_texts S a_release
@@ -241,7 +241,7 @@ Limits =
     × (is_one_too_many many_names (Some (codes "PP")) ≡ false)
     × (is_one_too_many many_names None ≡ false)
 
--- a cell pool whose one cell is in use, and 1,024 names, P not among them
+-- a cell pool whose one cell is in use, and 1,024 names without P
 abbrev pub full_of_names : NamedState
 full_of_names = record (after (pages 1 1) (build_cells (cells 1 8 0) ∷ get_cell ∷ [])) { names = many_names }
 

@@ -44,7 +44,8 @@ cells_above = record { primary = 2; secondary = None; size = 12; number = 5; loc
 abbrev pub attach_without_zero : Passed → Call FormedService
 attach_without_zero shared = asks S (attach (record { given = Nothing; shared = shared; shares_zero = false }))
 
--- Three tasks besides task 1: two share subpool 5, of which one has a subpool 0 of its own, and the last is given it.
+-- Three tasks in addition to task 1: two share subpool 5, of which one has a subpool 0 of its own, and the last is
+-- given it.
 abbrev pub calls_of_all_kinds : List (Call FormedService)
 calls_of_all_kinds =
     asks_with_name S (codes "P") (obtain (area 8 5))
@@ -59,8 +60,8 @@ calls_of_all_kinds =
     ∷ release_whole 5
     ∷ []
 
--- Who doesn't own a subpool can't give it away, nor release it whole; but can obtain from it, and have cells of its
--- cell pool.
+-- A task that doesn't own a subpool can't give it to another, nor release it whole; but it can obtain from it, and get
+-- cells of its cell pool.
 abbrev pub OnlyTheOwnerGivesASubpool : Type 0
 OnlyTheOwnerGivesASubpool =
     answers (pages 2 1) calls_of_all_kinds
@@ -126,8 +127,8 @@ calls_past_an_end =
     ∷ storage_obtain 8 5
     ∷ []
 
--- The end of the owner takes the subpool and its cell pool from those who shared it: one of them gets a new subpool of
--- the number.
+-- The end of the owner takes the subpool and its cell pool from the tasks that shared it: one of them gets a new
+-- subpool of the number.
 abbrev pub AnEndTakesACellPool : Type 0
 AnEndTakesACellPool =
     answers (pages 2 1) (calls_past_an_end ++ Back 1 ∷ Back 5 ∷ [])
@@ -152,8 +153,8 @@ AnEndTakesACellPool =
     ∷ Moved
     ∷ []
 
--- Steps back over the end of a subpool's owner, and over what came before it, give the map from before all that: the
--- whole cell pool is there again, and the name that a cell was given is gone.
+-- Steps back over the end of a subpool's owner, and over what was before it, give the map from before all that: the
+-- whole cell pool exists again, and the name that a cell was given is gone.
 abbrev pub AMapFromBeforeAnEnd : Type 0
 AMapFromBeforeAnEnd =
     map_after (pages 2 1) (calls_past_an_end ++ Back 1 ∷ Back 5 ∷ [])

@@ -1,5 +1,5 @@
--- Steps back and forward, and the history that they move along. Behind each answer stand the numbers of changes that
--- are kept and undone then.
+-- Steps back and forward, and the history that they move along. Each answer is followed by the numbers of changes that
+-- are then kept and undone.
 use Rattle.std.specs.Prelude.{◌≡◌, Some, None, List, [], ◌∷◌, ◌++◌}
 use Rattle.vsm_model.specs.declared.replies.Reply.TheVariants.{Stored}
 use Rattle.vsm_model.specs.declared.services.Passed.TheVariants.{Nothing, Number}
@@ -52,7 +52,7 @@ ARefusedStatementIsNotKept =
     ∷ (granted (address 6 16) 8, (3, 0))
     ∷ []
 
--- What was undone can be done again until another statement is accepted.
+-- What was undone can be redone until another statement is accepted.
 abbrev pub ForwardUntilANewStatement : Type 0
 ForwardUntilANewStatement =
     counted_answers standard (three_areas ++ Back 2 ∷ Forward 2 ∷ Back 2 ∷ storage_obtain 24 1 ∷ Forward 1 ∷ [])
@@ -66,7 +66,7 @@ ForwardUntilANewStatement =
     ∷ (TooFar 0, (2, 0))
     ∷ []
 
--- A step forward over as many statements gives the bench from before the step back.
+-- A step forward over the same number of statements gives the bench from before the step back.
 abbrev pub ForwardGivesTheBenchBack : Type 0
 ForwardGivesTheBenchBack =
     bench_after standard (three_areas ++ Back 2 ∷ Forward 2 ∷ []) ≡ bench_after standard three_areas
@@ -88,8 +88,8 @@ TheOldestChangeIsForgotten =
     ∷ (TooFar 0, (1, 0))
     ∷ []
 
--- A history of one change takes one step back. An answer 4 is a change like any other: what was undone is gone then. A
--- step of none is always made.
+-- A history of one change takes one step back. An answer 4 is a change like any other: what was undone is then gone. A
+-- step over none is always made.
 abbrev pub AHistoryOfOneChange : Type 0
 AHistoryOfOneChange =
     counted_answers (with_history 1)
@@ -117,7 +117,7 @@ AHistoryOfOneChange =
 abbrev pub calls_that_fill_the_region : List (Call FormedService)
 calls_that_fill_the_region = storage_obtain 65536 0 ∷ conditional_obtain 8 0 ∷ []
 
--- An answer 4 is kept, and sets register 15 alone; a step back takes that back.
+-- An answer 4 is kept, and sets only register 15; a step back undoes that.
 abbrev pub AnAnswerOf4IsKept : Type 0
 AnAnswerOf4IsKept =
     (counted_answers standard (calls_that_fill_the_region ++ Back 1 ∷ [])
@@ -129,7 +129,7 @@ AnAnswerOf4IsKept =
 abbrev pub calls_around_a_page : List (Call FormedService)
 calls_around_a_page = storage_obtain 8 1 ∷ Back 1 ∷ storage_release 8 (address 6 0) 1 ∷ []
 
--- A page that a step back takes away is there again after the step forward; an answer 4 discards what was undone.
+-- A page that a step back takes away exists again after the step forward; an answer 4 discards what was undone.
 abbrev pub AnAnswerOf4DiscardsWhatWasUndone : Type 0
 AnAnswerOf4DiscardsWhatWasUndone =
     (counted_answers (pages 1 1)
@@ -156,7 +156,7 @@ calls_on_one_page =
     ∷ poke (address 6 0) (0xc2 ∷ [])
     ∷ []
 
--- A page that was given and left with its owner comes back by steps, with its byte; and at last there is the first
+-- A page that was given and was gone with its owner is restored by steps, with its byte; the last step gives the first
 -- state.
 abbrev pub ThereAndBack : Type 0
 ThereAndBack =

@@ -51,7 +51,7 @@ calls_for_too_much =
     ∷ asks_with_name E (codes "P") (obtain (record large { location = Low; conditional = true }))
     ∷ []
 
--- Want of storage has the code of the form; a conditional form is answered 4, and defines no name.
+-- Running out of storage has the code of the form; a conditional form returns 4, and defines no name.
 abbrev pub WantOfStorage : Type 0
 WantOfStorage =
     (answers standard calls_for_too_much
@@ -61,14 +61,14 @@ WantOfStorage =
 abbrev pub calls_in_subpool_5 : List (Call FormedService)
 calls_in_subpool_5 = storage_obtain 4096 0 ∷ conditional_obtain 8 5 ∷ []
 
--- An obtain that is answered 4 makes no subpool, so that a release from that number finds none.
+-- An obtain that returns 4 makes no subpool, so that a release from that number finds none.
 abbrev pub AnAnswerOf4MakesNoSubpool : Type 0
 AnAnswerOf4MakesNoSubpool =
     (owner_after (pages 1 1) calls_in_subpool_5 1 5 ≡ None)
     × (answers (pages 1 1) (calls_in_subpool_5 ++ storage_release 8 (address 6 0) 5 ∷ [])
     ≡ granted (address 6 0) 4096 ∷ returned 4 ∷ user_abend 3003 ∷ [])
 
--- An area on a page boundary doesn't fit into the subpool's page, which goes on being used.
+-- An area on a page boundary doesn't fit into the subpool's page, which stays in use.
 abbrev pub AnAreaOnAPage : Type 0
 AnAreaOnAPage =
     answers standard (storage_obtain 8 2 ∷ asks S (obtain (record (area 8 2) { boundary = Page }))
@@ -96,7 +96,7 @@ VariableLengths =
 abbrev pub located : ℕ → Obtain → Call FormedService
 located number o = asks S (obtain (record o { number = number; location = Either }))
 
--- A longer area below the line wins over a shorter one above it; a fixed length goes above it where it fits.
+-- A longer area below the line wins over a shorter one above it; a fixed length goes above it if it fits.
 abbrev pub ALongerAreaBelowWins : Type 0
 ALongerAreaBelowWins =
     answers (pages 2 1)
@@ -110,7 +110,7 @@ ALongerAreaBelowWins =
 abbrev pub two_areas : List (Call FormedService)
 two_areas = storage_obtain 8 1 ∷ storage_obtain 8 2 ∷ []
 
--- Releases that are refused or answered 4, in the order of their causes.
+-- Releases that are refused or return 4, in the order of their causes.
 abbrev pub ReleasesThatFreeNothing : Type 0
 ReleasesThatFreeNothing =
     (answers standard
@@ -154,9 +154,9 @@ calls_not_answered_4 =
     ∷ conditional_release 8 (address 6 0) 1
     ∷ []
 
--- A conditional release is answered 4, and frees nothing, where a doubleword of the area is free storage or lies in an
--- unassigned page, where one lies in a page of another subpool or outside the region, and where the subpool isn't seen;
--- in all other cases it is what it is without COND=YES.
+-- A conditional release returns 4, and frees nothing, if a doubleword of the area is free storage or lies in an
+-- unassigned page, if one lies in a page of another subpool or outside the region, or if the subpool isn't seen; in
+-- all other cases it is what it is without COND=YES.
 abbrev pub ConditionalReleases : Type 0
 ConditionalReleases =
     (answers standard (calls_answered_4 ++ calls_not_answered_4)
@@ -173,7 +173,7 @@ ConditionalReleases =
     × (peeked standard calls_answered_4 (address 6 0) 1 ≡ Some (0 ∷ []))
     × (owner_after standard calls_answered_4 1 3 ≡ None)
 
--- Storage on either side of the line is above it where there is room.
+-- Storage on either side of the line is above it if there is room.
 abbrev pub BothSidesOfTheLine : Type 0
 BothSidesOfTheLine =
     answers (pages 3 3)
@@ -217,7 +217,7 @@ EndsOfTheRegions =
     ∷ user_abend 3003
     ∷ []
 
--- Whole releases, which their owner alone can make, and never of subpool 0; and numbers that aren't those of private
+-- Whole releases, which only their owner can make, and never of subpool 0; and numbers that aren't those of private
 -- storage.
 abbrev pub WholeReleasesAndNumbers : Type 0
 WholeReleasesAndNumbers =
@@ -315,7 +315,7 @@ abbrev pub too_much_with_name : Call FormedService
 too_much_with_name = asks_with_name S (codes "P") (obtain (record (area 8192 0) { conditional = true }))
 
 -- An accepted obtain gives its address to its name, and the next one gives the name another; an answer 4 defines none,
--- and a step back takes a definition away.
+-- and a step back removes a definition.
 abbrev pub ANameStandsForAnAddress : Type 0
 ANameStandsForAnAddress =
     (name_after standard (obtain_with_name ∷ []) (codes "P") ≡ Some (address 6 0))

@@ -29,7 +29,7 @@ calls_up_to_the_end =
 abbrev pub calls_with_the_end : List (Call FormedService)
 calls_with_the_end = calls_up_to_the_end ++ end_of_task ∷ []
 
--- A subpool that is given goes with its pages, and leaves when its new owner ends; one that is shared stays.
+-- A subpool that is given goes with its pages, and is gone when its new owner ends; one that is shared stays.
 abbrev pub GiftsAndShares : Type 0
 GiftsAndShares =
     (answers standard calls_with_the_end
@@ -80,7 +80,7 @@ ASharerSeesAGift =
     ∷ returned 0
     ∷ []
 
--- A task hands on a subpool that it was given, and sees a new one at the number then. The end of the last owner frees
+-- A task passes on a subpool that it was given, and then sees a new one at the number. The end of the last owner frees
 -- its pages in both regions; those of the task between go with it.
 abbrev pub AGiftIsHandedOn : Type 0
 AGiftIsHandedOn =
@@ -124,7 +124,7 @@ calls_with_a_list =
     ∷ poke (address 6 4) (fullword (address 6 0))
     ∷ []
 
--- A list in storage names the subpools that are given: a count, and so many numbers, none of them twice.
+-- A list in storage names the subpools that are given: a count, and that many numbers, none of them twice.
 abbrev pub AListInStorage : Type 0
 AListInStorage =
     (answers standard calls_with_a_list
@@ -202,7 +202,7 @@ TasksBeginAndEnd =
     ∷ user_abend 3008
     ∷ []
 
--- Who can't end a task: one that isn't its parent, and a task with a subtask, task 1 among them.
+-- Tasks that can't end a task: one that isn't its parent, and one with a subtask, task 1 among them.
 abbrev pub WhoCanNotEndATask : Type 0
 WhoCanNotEndATask =
     answers (pages 1 1)

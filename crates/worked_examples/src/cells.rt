@@ -8,13 +8,13 @@ pub fn cells_of_a_cell_pool()
     ensures { CellsOfACellPool }
 {}
 
-/// A cell pool follows its subpool to a new owner, and leaves with a whole release; a step back brings it back.
+/// A cell pool follows its subpool to a new owner, and is gone after a whole release; a step back restores it.
 pub fn a_cell_pool_follows_its_subpool()
     ensures { ACellPoolFollowsItsSubpool }
 {}
 
-/// Without a place for a further extent an unconditional GET has the code of want of storage; a cell that is freed can
-/// be had by either form.
+/// Without a place for a further extent an unconditional GET has the code for a lack of storage; either form can get a
+/// cell that is freed.
 pub fn no_place_for_a_further_extent()
     ensures { NoPlaceForAFurtherExtent }
 {}

@@ -3,19 +3,19 @@ ghost use Rattle.worked_examples.specs.Codes.{CausesComeInOrder, CompletionCodes
 ghost use Rattle.worked_examples.specs.Codes.{NamesAreFull, RepliesAsTexts};
 
 /// The first cause that holds is the answer. Each list goes down the causes of a service in their order, and most
-/// services in it have causes behind their own, too.
+/// services in it also have later causes.
 pub fn causes_come_in_order()
     ensures { CausesComeInOrder }
 {}
 
-/// The same release is refused with another code in each family of forms, and answered 4 where it is conditional. Cells
-/// are not released as an area.
+/// The same release is refused with another code in each family of forms, and returns 4 if it is conditional. Cells are
+/// not released as an area.
 pub fn forms_and_their_codes()
     ensures { FormsAndTheirCodes }
 {}
 
-/// The codes of all causes as they are printed for STORAGE; and those whose last two digits are others in other forms:
-/// of an E form that obtains, of one that releases, and of an R form.
+/// The codes of all causes as they are printed for STORAGE; and those whose last two digits differ in other forms: of
+/// an E form that obtains, of one that releases, and of an R form.
 pub fn completion_codes_as_texts()
     ensures { CompletionCodesAsTexts }
 {}

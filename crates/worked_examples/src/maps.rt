@@ -7,8 +7,8 @@ pub fn a_map()
     ensures { AMap }
 {}
 
-/// Who doesn't own a subpool can't give it away, nor release it whole; but can obtain from it, and have cells of its
-/// cell pool.
+/// A task that doesn't own a subpool can't give it to another, nor release it whole; but it can obtain from it, and get
+/// cells of its cell pool.
 pub fn only_the_owner_gives_a_subpool()
     ensures { OnlyTheOwnerGivesASubpool }
 {}
@@ -20,14 +20,14 @@ pub fn a_map_of_all_kinds_of_lines()
     ensures { AMapOfAllKindsOfLines }
 {}
 
-/// The end of the owner takes the subpool and its cell pool from those who shared it: one of them gets a new subpool of
-/// the number.
+/// The end of the owner takes the subpool and its cell pool from the tasks that shared it: one of them gets a new
+/// subpool of the number.
 pub fn an_end_takes_a_cell_pool()
     ensures { AnEndTakesACellPool }
 {}
 
-/// Steps back over the end of a subpool's owner, and over what came before it, give the map from before all that: the
-/// whole cell pool is there again, and the name that a cell was given is gone.
+/// Steps back over the end of a subpool's owner, and over what was before it, give the map from before all that: the
+/// whole cell pool exists again, and the name that a cell was given is gone.
 pub fn a_map_from_before_an_end()
     ensures { AMapFromBeforeAnEnd }
 {}

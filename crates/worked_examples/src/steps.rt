@@ -1,5 +1,5 @@
-//! Steps back and forward, and the history that they move along. Behind each answer stand the numbers of changes that
-//! are kept and undone then.
+//! Steps back and forward, and the history that they move along. Each answer is followed by the numbers of changes that
+//! are then kept and undone.
 ghost use Rattle.worked_examples.specs.Steps.{AHistoryOfOneChange, ARefusedStatementIsNotKept};
 ghost use Rattle.worked_examples.specs.Steps.{AnAnswerOf4DiscardsWhatWasUndone, AnAnswerOf4IsKept};
 ghost use Rattle.worked_examples.specs.Steps.{ForwardGivesTheBenchBack, ForwardUntilANewStatement};
@@ -17,12 +17,12 @@ pub fn a_refused_statement_is_not_kept()
     ensures { ARefusedStatementIsNotKept }
 {}
 
-/// What was undone can be done again until another statement is accepted.
+/// What was undone can be redone until another statement is accepted.
 pub fn forward_until_a_new_statement()
     ensures { ForwardUntilANewStatement }
 {}
 
-/// A step forward over as many statements gives the bench from before the step back.
+/// A step forward over the same number of statements gives the bench from before the step back.
 pub fn forward_gives_the_bench_back()
     ensures { ForwardGivesTheBenchBack }
 {}
@@ -32,23 +32,23 @@ pub fn the_oldest_change_is_forgotten()
     ensures { TheOldestChangeIsForgotten }
 {}
 
-/// A history of one change takes one step back. An answer 4 is a change like any other: what was undone is gone then. A
-/// step of none is always made.
+/// A history of one change takes one step back. An answer 4 is a change like any other: what was undone is then gone. A
+/// step over none is always made.
 pub fn a_history_of_one_change()
     ensures { AHistoryOfOneChange }
 {}
 
-/// An answer 4 is kept, and sets register 15 alone; a step back takes that back.
+/// An answer 4 is kept, and sets only register 15; a step back undoes that.
 pub fn an_answer_of_4_is_kept()
     ensures { AnAnswerOf4IsKept }
 {}
 
-/// A page that a step back takes away is there again after the step forward; an answer 4 discards what was undone.
+/// A page that a step back takes away exists again after the step forward; an answer 4 discards what was undone.
 pub fn an_answer_of_4_discards_what_was_undone()
     ensures { AnAnswerOf4DiscardsWhatWasUndone }
 {}
 
-/// A page that was given and left with its owner comes back by steps, with its byte; and at last there is the first
+/// A page that was given and was gone with its owner is restored by steps, with its byte; the last step gives the first
 /// state.
 pub fn there_and_back()
     ensures { ThereAndBack }

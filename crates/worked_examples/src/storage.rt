@@ -21,17 +21,17 @@ pub fn an_area_released_in_parts()
     ensures { AnAreaReleasedInParts }
 {}
 
-/// Want of storage has the code of the form; a conditional form is answered 4, and defines no name.
+/// Running out of storage has the code of the form; a conditional form returns 4, and defines no name.
 pub fn want_of_storage()
     ensures { WantOfStorage }
 {}
 
-/// An obtain that is answered 4 makes no subpool, so that a release from that number finds none.
+/// An obtain that returns 4 makes no subpool, so that a release from that number finds none.
 pub fn an_answer_of_4_makes_no_subpool()
     ensures { AnAnswerOf4MakesNoSubpool }
 {}
 
-/// An area on a page boundary doesn't fit into the subpool's page, which goes on being used.
+/// An area on a page boundary doesn't fit into the subpool's page, which stays in use.
 pub fn an_area_on_a_page()
     ensures { AnAreaOnAPage }
 {}
@@ -42,24 +42,24 @@ pub fn variable_lengths()
     ensures { VariableLengths }
 {}
 
-/// A longer area below the line wins over a shorter one above it; a fixed length goes above it where it fits.
+/// A longer area below the line wins over a shorter one above it; a fixed length goes above it if it fits.
 pub fn a_longer_area_below_wins()
     ensures { ALongerAreaBelowWins }
 {}
 
-/// Releases that are refused or answered 4, in the order of their causes.
+/// Releases that are refused or return 4, in the order of their causes.
 pub fn releases_that_free_nothing()
     ensures { ReleasesThatFreeNothing }
 {}
 
-/// A conditional release is answered 4, and frees nothing, where a doubleword of the area is free storage or lies in an
-/// unassigned page, where one lies in a page of another subpool or outside the region, and where the subpool isn't
-/// seen; in all other cases it is what it is without COND=YES.
+/// A conditional release returns 4, and frees nothing, if a doubleword of the area is free storage or lies in an
+/// unassigned page, if one lies in a page of another subpool or outside the region, or if the subpool isn't seen; in
+/// all other cases it is what it is without COND=YES.
 pub fn conditional_releases()
     ensures { ConditionalReleases }
 {}
 
-/// Storage on either side of the line is above it where there is room.
+/// Storage on either side of the line is above it if there is room.
 pub fn both_sides_of_the_line()
     ensures { BothSidesOfTheLine }
 {}
@@ -69,7 +69,7 @@ pub fn ends_of_the_regions()
     ensures { EndsOfTheRegions }
 {}
 
-/// Whole releases, which their owner alone can make, and never of subpool 0; and numbers that aren't those of private
+/// Whole releases, which only their owner can make, and never of subpool 0; and numbers that aren't those of private
 /// storage.
 pub fn whole_releases_and_numbers()
     ensures { WholeReleasesAndNumbers }
@@ -94,7 +94,7 @@ pub fn a_store_goes_over_pages()
 {}
 
 /// An accepted obtain gives its address to its name, and the next one gives the name another; an answer 4 defines none,
-/// and a step back takes a definition away.
+/// and a step back removes a definition.
 pub fn a_name_stands_for_an_address()
     ensures { ANameStandsForAnAddress }
 {}

@@ -3,7 +3,7 @@ ghost use Rattle.worked_examples.specs.Tasks.{AGiftIsHandedOn, AListInStorage, A
 ghost use Rattle.worked_examples.specs.Tasks.{GiftsAndShares, ListsAtTheLastBytes, SixtyFourTasksInARow};
 ghost use Rattle.worked_examples.specs.Tasks.{TasksBeginAndEnd, WhoCanNotEndATask};
 
-/// A subpool that is given goes with its pages, and leaves when its new owner ends; one that is shared stays.
+/// A subpool that is given goes with its pages, and is gone when its new owner ends; one that is shared stays.
 pub fn gifts_and_shares()
     ensures { GiftsAndShares }
 {}
@@ -13,13 +13,13 @@ pub fn a_sharer_sees_a_gift()
     ensures { ASharerSeesAGift }
 {}
 
-/// A task hands on a subpool that it was given, and sees a new one at the number then. The end of the last owner frees
+/// A task passes on a subpool that it was given, and then sees a new one at the number. The end of the last owner frees
 /// its pages in both regions; those of the task between go with it.
 pub fn a_gift_is_handed_on()
     ensures { AGiftIsHandedOn }
 {}
 
-/// A list in storage names the subpools that are given: a count, and so many numbers, none of them twice.
+/// A list in storage names the subpools that are given: a count, and that many numbers, none of them twice.
 pub fn a_list_in_storage()
     ensures { AListInStorage }
 {}
@@ -35,7 +35,7 @@ pub fn tasks_begin_and_end()
     ensures { TasksBeginAndEnd }
 {}
 
-/// Who can't end a task: one that isn't its parent, and a task with a subtask, task 1 among them.
+/// Tasks that can't end a task: one that isn't its parent, and one with a subtask, task 1 among them.
 pub fn who_can_not_end_a_task()
     ensures { WhoCanNotEndATask }
 {}

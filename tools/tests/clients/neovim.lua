@@ -1,5 +1,5 @@
 -- Neovim's own client with vsm-lsp, by the configuration of docs/EDITORS.md. FILES lists scripts, each with what a
--- listing says of it in a file .wanted beside it.
+-- listing says of it in a file .wanted next to it.
 local wrong = 0
 local function check(what, is_right, seen)
   if not is_right then wrong = wrong + 1 end

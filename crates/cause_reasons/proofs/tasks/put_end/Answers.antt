@@ -1,9 +1,15 @@
-use Rattle.vsm_model.specs.declared.causes.Cause.TheVariants.{NotParent}
-use Rattle.cause_reasons.specs.Words.{end_task_words}
-use Rattle.cause_reasons.proofs.OneOf.{of_cause}
+use Rattle.std.proofs.Common.{ap, ◌∙◌}
+use Rattle.vsm_model.specs.declared.causes.Cause.TheVariants.{HasSubtask, NotParent}
+use Rattle.storage_core.specs.Meaning.{state_of}
+use Rattle.cause_reasons.specs.Told.{end_text}
+use Rattle.cause_reasons.specs.Tasks.{not_parent_text}
+use Rattle.area_reasons.proofs.Alike.{alike}
+use Rattle.cause_reasons.proofs.Refused.{text_of}
 use Rattle.cause_reasons.proofs.tasks.put_end.Goals as goal
 
-pub returns-in-NotParent-clause-told : goal.returns-in-NotParent-clause-told
-returns-in-NotParent-clause-told g c =
-    λ first has. of_cause end_task_words c.args.cause NotParent (g.W.Write.contents c.args.writer.now) (g.W.Write.contents c.put_parent.new.writer)
-    c.args.gathered.now c.put_parent.new.gathered c.in-NotParent.is c.put_parent.ensures.told
+pub returns-in-HasSubtask : goal.returns-in-HasSubtask
+returns-in-HasSubtask g c = text_of _ _ _ _ (end_text (state_of c.args.storage.now)) c.args.cause HasSubtask c.in-HasSubtask.is c.put_subtask.ensures
+
+pub returns-in-NotParent : goal.returns-in-NotParent
+returns-in-NotParent g c = text_of _ _ _ _ (end_text (state_of c.args.storage.now)) c.args.cause NotParent c.in-NotParent.is
+    (alike _ _ _ _ _ _ (ap (not_parent_text (state_of c.args.storage.now)) (c.from-current.ensures ∙ c.current.ensures)) c.put_parent.ensures)

@@ -1,5 +1,11 @@
-use Rattle.std.proofs.Common.{refl}
+use Rattle.std.proofs.Common.{◌∙◌}
+use Rattle.std.specs.Prelude.{codes, decimal, ◌∷◌, []}
+use Rattle.place_reasons.specs.Pieces.{line}
+use Rattle.area_reasons.proofs.Alike.{alike}
 use Rattle.cause_reasons.proofs.tasks.put_subtask.Goals as goal
 
-pub returns-clause-told : goal.returns-clause-told
-returns-clause-told g c = (0, _, refl, c.put_line.ensures.each 2 _ refl)
+pub returns : goal.returns
+returns g c =
+    let current = c.from.ensures ∙ c.current.ensures in
+    alike _ _ _ _ _ _
+    (λ i. line (codes "task " ∷ decimal (current i) ∷ codes " has a subtask: task " ∷ decimal (c.first_subtask.ensures i) ∷ [])) c.put_line.ensures.text

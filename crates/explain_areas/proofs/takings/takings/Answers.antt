@@ -3,7 +3,7 @@ use Rattle.std.proofs.Math.Seq.{drop-cons}
 use Rattle.std.proofs.lemmas.Grind.{reverse_onto, flat_map-append}
 use Rattle.std.proofs.lemmas.List.{append-nil, drop_all}
 use Rattle.arrayvec.specs.ArrayVec.{ArrayVec}
-use Rattle.explain_who.specs.declared.trail.TrailEntry.{TrailEntry}
+use Rattle.line_changes.specs.declared.trail.TrailEntry.{TrailEntry}
 use Rattle.line_areas.specs.declared.taken.Taking.{Taking}
 use Rattle.explain_areas.specs.Takings.{taking, takings_of}
 use Rattle.explain_areas.proofs.takings.takings.Goals as goal
@@ -11,7 +11,7 @@ use Rattle.explain_areas.proofs.takings.takings.Goals as goal
 abbrev Noted : Type 0
 Noted = TrailEntry (ArrayVec (ℕ × ℕ))
 
--- the takings of one statement more
+-- the takings of another statement
 one_more : (xs : List Noted) (i j : ℕ) (x : Noted) → j < length xs → ◌≡◌ {A = List Noted} (drop j xs) (x ∷ drop i xs) →
     takings_of (drop j xs) ≡ takings_of (drop i xs) ++ map (taking x.line) x.seen.items
 one_more xs i j x short is =

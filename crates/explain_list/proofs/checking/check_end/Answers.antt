@@ -1,5 +1,5 @@
 use Rattle.std.proofs.Common.{◌++◌, ap, nat_lt, inl}
-use Rattle.explain_list.proofs.Each.{holds_checks}
+use Rattle.explain_list.proofs.Checks.{holds_checks}
 use Rattle.explain_list.proofs.checking.check_end.Goals as goal
 
 pub returns-in-Ok : goal.returns-in-Ok

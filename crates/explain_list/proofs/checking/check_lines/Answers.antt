@@ -1,5 +1,5 @@
 use Rattle.std.proofs.Common.{◌++◌, arith}
-use Rattle.explain_list.proofs.Each.{holds_checks}
+use Rattle.explain_list.proofs.Checks.{holds_checks}
 use Rattle.explain_list.proofs.Rests.{rest_none}
 use Rattle.explain_list.proofs.checking.check_lines.Goals as goal
 

@@ -1,7 +1,7 @@
 use Rattle.std.proofs.Common.{[]}
 use Rattle.std.proofs.KnownBytes.{Appends-nil}
 use Rattle.text_output.proofs.Gathering.{empty_holds}
-use Rattle.explain_list.proofs.Each.{holds_checks}
+use Rattle.explain_list.proofs.Checks.{holds_checks}
 use Rattle.explain_list.proofs.checking.check_on.Goals as goal
 
 pub returns-in-Ok : goal.returns-in-Ok

@@ -1,14 +1,12 @@
 use Rattle.std.proofs.Common.{◌≡◌, ◌≤◌, ◌+◌, ◌-◌, ◌++◌, ◌∙◌, length, ap, inr, sym, subst, arith}
-use Rattle.vsm_model.specs.Standing.{nothing_stands}
+use Rattle.macro_statements.specs.Requests.{asked_in}
 use Rattle.bench_core.specs.Stands.{bench_of, settings_in}
-use Rattle.script_steps.specs.Output.{stands_all}
-use Rattle.explain_list.specs.Listing.{listed_answers, listed_told}
-use Rattle.explain_list.proofs.Answered.{told_is}
 use Rattle.explain_list.specs.Pages.{open_of, shown_of}
-use Rattle.explain_list.specs.Rows.{Follow}
+use Rattle.explain_list.specs.Pages.{Follow}
+use Rattle.list_rows.specs.Rows.{IsLineAt}
 use Rattle.explain_list.specs.declared.pages.ListingPage.{ListingPage}
-use Rattle.explain_list.proofs.Lines.{first_lines, step_follow}
-use Rattle.explain_list.proofs.Items.{holds_answers, holds_rows}
+use Rattle.explain_list.proofs.Answered.{holds_page, page_of}
+use Rattle.explain_list.proofs.Lines.{first_lines, step_follow, step_line}
 use Rattle.explain_list.proofs.listing.list_line.Goals as goal
 
 pub returns-in-Err-clause-lists : goal.returns-in-Err-clause-lists
@@ -33,29 +31,31 @@ returns-in-Ok-None-clause-lists g c =
 
 pub returns-in-Ok-Some-clause-lists : goal.returns-in-Ok-Some-clause-lists
 returns-in-Ok-Some-clause-lists g c =
-    let shows = rw c.in-Ok-Some.field-0-is at c.in-Ok-Some.ensures.shows in
+    let asks = rw c.in-Ok-Some.field-0-is at c.in-Ok-Some.ensures.asks in
     let page = rw c.in-Ok-Some.field-0-is at c.in-Ok-Some.ensures.page in
     let place = rw c.in-Ok-Some.field-0-is at c.in-Ok-Some.ensures.place in
     let whole = rw c.in-Ok-Some.field-0-is at c.in-Ok-Some.ensures.whole in
     λ settings first h.
+    let layout = c.args.layout in
     let script = c.args.script.now in
-    let e = shows settings h.answers h.took in
+    let e = asks settings h.answers h.took in
     let session = c.take_line.new.session in
     let its = c.take_line.new.self in
     let more = whole.1 h.room in
     let next : c.in-Ok-Some.step.next - 1 + 1 ≡ c.in-Ok-Some.step.next = omega (arith, place.1.some) in
     let shown = page settings h.answers h.took h.starts h.lines in
     let told = c.in-Ok-Some.step.told in
-    let is : listed_told (settings_in c.bench.result.now) (bench_of c.bench.result.now) c.shown.result.now told ≡ listed_answers settings (stands_all settings nothing_stands h.answers) e.0 =
-    (λ i. listed_told (settings_in (c.bench.ensures i)) (bench_of (c.bench.ensures i)) (c.shown.ensures i) told)
-    ∙ ap (λ s. listed_told s (bench_of session.bench) session.shown.items told) e.3.under
-    ∙ told_is settings h.answers e.0 (bench_of session.bench) session.shown.items told e.1 e.2 e.3.led in
+    let asked = asked_in c.take_line.new.request in
+    let line = step_line settings script c.args.at h.answers c.args.session.now c.saturating_add-number.result c.in-Ok-Some.step h.took h.starts c.requires
+    (λ few. omega (arith, c.lines.ensures)) place in
+    let put = page_of layout script (shown_of its) told asked _ _ _ _ (settings_in c.bench.result.now) settings (bench_of c.bench.result.now) (bench_of session.bench) c.shown.result.now session.shown.items
+    (ap settings_in c.bench.ensures ∙ e.4.under) (ap bench_of c.bench.ensures) c.shown.ensures
+    (c.put_page.ensures shown (subst (IsLineAt script) (sym c.line_of.ensures) line)) in
     record {
       answers = h.answers ++ e.0;
-      took = e.3;
+      took = e.4;
       listed = h.listed ++ shown_of its;
-      held = holds_answers settings script first _ _ _ _ h.answers e.0 (h.listed ++ shown_of its) _ is c.put_answer.ensures
-          (holds_rows settings script first _ _ _ _ h.answers h.listed (shown_of its) (c.put_rows.ensures shown) h.held);
+      held = holds_page settings layout script first _ _ _ _ h.answers e.0 (bench_of session.bench) session.shown.items told asked h.listed (shown_of its) e.1 e.2 e.3 e.4.led put h.held;
       follow = step_follow h.listed (shown_of its) (open_of its) (open_of c.args.page.now) more.0 c.args.at c.in-Ok-Some.step.next more.3 (more.1 ∙ place.0)
           (ap (λ k. k + 1) more.2 ∙ next) h.follow;
       starts = inr place.1.feed;

@@ -2,14 +2,17 @@ use Rattle.std.proofs.Common.{◌≤◌, List, [], length, refl, inl, sym, subst
 use Rattle.std.proofs.KnownBytes.{Appends-nil}
 use Rattle.text_output.proofs.Gathering.{empty_holds}
 use Rattle.statement_faults.specs.declared.lines.SourceLine.{SourceLine}
-use Rattle.explain_list.specs.Rows.{Follow}
-use Rattle.explain_list.proofs.Items.{holds_rows}
+use Rattle.explain_list.specs.Pages.{Follow}
+use Rattle.explain_list.proofs.Items.{holds_file, holds_head}
 use Rattle.explain_list.proofs.listing.list_on.Goals as goal
 
 pub returns-in-Ok : goal.returns-in-Ok
 returns-in-Ok g c = λ settings new.
+    let layout = c.args.layout in
+    let script = c.args.script.now in
     let first = g.W.Write.contents c.args.out.now in
-    let held = holds_rows settings c.args.script.now first _ _ _ _ [] [] [] c.put_file_row.ensures ([], (refl, refl, tt), empty_holds _ _ _ [] c.new-gathered.ensures (Appends-nil _)) in
+    let held = holds_file layout settings script first _ _ _ _ c.put_file_page.ensures
+    (holds_head layout settings script first _ _ _ _ c.put_listing_head.ensures (empty_holds _ _ _ [] c.new-gathered.ensures (Appends-nil _))) in
     c.list_rest.ensures settings first
     (c.in-Ok.ensures.lists settings first (record {
       answers = [];
@@ -24,9 +27,12 @@ returns-in-Ok g c = λ settings new.
 
 pub returns-in-Err : goal.returns-in-Err
 returns-in-Err g c = λ settings new.
+    let layout = c.args.layout in
+    let script = c.args.script.now in
     let first = g.W.Write.contents c.args.out.now in
-    let held = holds_rows settings c.args.script.now first _ _ _ _ [] [] [] c.put_file_row.ensures ([], (refl, refl, tt), empty_holds _ _ _ [] c.new-gathered.ensures (Appends-nil _)) in
-    c.stop.ensures settings first c.args.script.now
+    let held = holds_file layout settings script first _ _ _ _ c.put_file_page.ensures
+    (holds_head layout settings script first _ _ _ _ c.put_listing_head.ensures (empty_holds _ _ _ [] c.new-gathered.ensures (Appends-nil _))) in
+    c.stop.ensures layout settings first script
     (c.in-Err.ensures.lists settings first (record {
       answers = [];
       took = c.new-session.ensures settings new;

@@ -2,7 +2,7 @@ use Rattle.std.proofs.Common.{◌++◌, take, subst, sym, arith}
 use Rattle.script_steps.specs.Script.{NoFeed}
 use Rattle.script_steps.specs.Taken.{Took}
 use Rattle.explain_list.specs.Pages.{open_of}
-use Rattle.explain_list.specs.Rows.{Follow}
+use Rattle.explain_list.specs.Pages.{Follow}
 use Rattle.explain_list.proofs.Lines.{first_lines, rest_line}
 use Rattle.explain_list.proofs.Rests.{whole_script, script_past}
 use Rattle.explain_list.proofs.listing.list_rest.Goals as goal
@@ -33,4 +33,4 @@ pub returns-in-Err : goal.returns-in-Err
 returns-in-Err g c = λ settings first h.
     let script = c.args.script.now in
     let past = c.in-Err.ensures settings (take c.args.at script) h.answers h.took in
-    c.stop.ensures settings first script (h.answers, h.listed, script_past settings script c.args.at _ h.answers c.rest_from-rest.ensures past, first_lines c.args.at h.listed (open_of c.args.page.now) h.follow, h.held)
+    c.stop.ensures c.args.layout settings first script (h.answers, h.listed, script_past settings script c.args.at _ h.answers c.rest_from-rest.ensures past, first_lines c.args.at h.listed (open_of c.args.page.now) h.follow, h.held)

@@ -1,5 +1,5 @@
-use Rattle.explain_list.specs.Rows.{check_text, IsCheckLine}
-use Rattle.explain_list.proofs.Each.{puts_no, puts_each}
+use Rattle.list_rows.specs.Rows.{check_text, IsCheckLine}
+use Rattle.list_rows.proofs.Each.{puts_no, puts_each}
 use Rattle.explain_list.proofs.places.put_checks.Goals as goal
 
 pub loop-index-init : goal.loop-index-init

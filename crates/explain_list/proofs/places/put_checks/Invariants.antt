@@ -1,4 +1,4 @@
-use Rattle.explain_list.specs.Rows.{PutsChecks}
+use Rattle.list_rows.specs.Rows.{PutsChecks}
 use Rattle.explain_list.proofs.places.put_checks.Given as goal
 
 abbrev pub invariant-loop-index : goal.invariant-loop-index

@@ -18,18 +18,18 @@ returns g c = λ settings script h has.
     let two = c.note-2.ensures ∙ ap (said_with ending.open_statement shown) one
     ∙ said_more settings (h.0 ++ e.more) e.also ending.open_statement shown e.unended e.shows_on in
     let under = c.end-ending.ensures.settings ∙ h.1.took.under in
-    reported settings script c.args.line all (bench_of ending.bench).present.storage (said_by c.note-2.new.self) first now c.write_report-outcome.result
+    reported settings script c.args.form c.args.line all (bench_of ending.bench).present.storage (said_by c.note-2.new.self) first now c.write_report-outcome.result
     (ended_reported settings script c.args.line all e.ended has
     (λ some. answered_end settings script h.0 c.args.session ending h.1.took e (some_answer c.args.line ending.last ending.open_statement (sym c.lacks_answer.ensures ∙ c.if-lacks_answer.false) some)))
     (led_state settings all (bench_of ending.bench) e.led_on) two
-    (subst (λ k. WritesReport k (bench_of ending.bench).present.storage (said_by c.note-2.new.self) first now c.write_report-outcome.result) under c.write_report-outcome.ensures)
+    (subst (λ k. WritesReport k c.args.form (bench_of ending.bench).present.storage (said_by c.note-2.new.self) first now c.write_report-outcome.result) under c.write_report-outcome.ensures)
 
 pub returns-then-lacks_answer : goal.returns-then-lacks_answer
 returns-then-lacks_answer g c = λ settings script h has.
     let ending = c.end-ending.result in
     let e = c.end-ending.ensures.brings settings script h.0 h.1.took in
     let none = no_answer c.args.line ending.last ending.open_statement (sym c.lacks_answer.ensures ∙ c.if-lacks_answer.true) in
-    silent_end settings script c.args.line (g.W.Write.contents c.args.out.now) c.unanswered.result none.0 has (record {
+    silent_end settings script c.args.form c.args.line (g.W.Write.contents c.args.out.now) c.unanswered.result none.0 has (record {
       answers = h.0;
       before = c.args.session;
       took = h.1.took;

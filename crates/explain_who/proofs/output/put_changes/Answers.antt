@@ -1,8 +1,8 @@
 use Rattle.std.proofs.Common.{◌≡◌, suc, ◌-◌, ◌<◌, length, map, reverse, drop, flat_map, sym, subst, arith}
 use Rattle.text_output.specs.Writing.{Puts}
 use Rattle.text_output.proofs.Gathering.{puts_both}
-use Rattle.explain_who.specs.Code.{difference_in}
-use Rattle.explain_who.specs.Texts.{change_text}
+use Rattle.line_changes.specs.Code.{difference_in}
+use Rattle.explain_who.specs.Forms.{change_in}
 use Rattle.explain_who.proofs.Backwards.{next_back}
 use Rattle.explain_who.proofs.output.put_changes.Goals as goal
 
@@ -14,7 +14,7 @@ loop-left-preserved g c =
     let new = g.W.Write.contents c.put_change.new.writer in
     let found = c.args.found.now in
     let change = c.index-found-left.result in
-    let f = change_text c.args.script.now in
+    let f = change_in c.args.form c.args.script.now in
     let short : l.left - 1 < length found = omega (arith, l.invariant.within, c.loop-left-test.true) in
     let next : l.left ≡ suc (l.left - 1) = omega (arith, c.loop-left-test.true) in
     record {

@@ -1,10 +1,10 @@
 use Rattle.std.proofs.Common.{◌≡◌, suc, ◌-◌, ◌<◌, length, reverse, drop, flat_map, sym, subst, arith}
 use Rattle.text_output.specs.Writing.{Puts}
 use Rattle.text_output.proofs.Gathering.{puts_both}
-use Rattle.explain_who.specs.Texts.{state_text}
+use Rattle.explain_who.specs.Forms.{state_in}
 use Rattle.explain_who.specs.Told.{entry_lines}
-use Rattle.explain_who.specs.declared.readings.Seen.{Seen}
-use Rattle.explain_who.specs.declared.trail.TrailEntry.{TrailEntry}
+use Rattle.line_changes.specs.declared.readings.Seen.{Seen}
+use Rattle.line_changes.specs.declared.trail.TrailEntry.{TrailEntry}
 use Rattle.explain_who.proofs.Backwards.{next_back}
 use Rattle.explain_who.proofs.output.put_states.Goals as goal
 
@@ -16,7 +16,7 @@ loop-left-preserved g c =
     let new = g.W.Write.contents c.put_state.new.writer in
     let entries = c.args.entries.now in
     let entry = c.index-entries-left.result in
-    let f = state_text c.args.script.now c.args.state.now in
+    let f = state_in c.args.form c.args.script.now c.args.state.now in
     let short : l.left - 1 < length entries = omega (arith, l.invariant.within, c.loop-left-test.true) in
     let next : l.left ≡ suc (l.left - 1) = omega (arith, c.loop-left-test.true) in
     record {

@@ -1,4 +1,4 @@
-use Rattle.std.proofs.Common.{refl, sym}
+use Rattle.std.proofs.Common.{sym}
 use Rattle.vsm_model.specs.Meaning.{service_in}
 use Rattle.macro_statements.specs.Requests.{act_in}
 use Rattle.bench_core.specs.Stands.{bench_of, settings_in}

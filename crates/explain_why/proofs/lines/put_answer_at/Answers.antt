@@ -1,4 +1,4 @@
-use Rattle.std.proofs.Common.{◌≡◌, ◌++◌, [], IfOk, ap, drop, false, is_some, rules, subst, sym, take, true, ◌∙◌}
+use Rattle.std.proofs.Common.{◌≡◌, ◌++◌, [], IfOk, ap, false, is_some, rules, subst, sym, take, true, ◌∙◌}
 use Rattle.std.specs.Prelude.{OnOk}
 use Rattle.std.proofs.lemmas.List.{append-nil, take-append-drop, take_all}
 use Rattle.place_reasons.specs.Told.{PutsSome}

@@ -1,5 +1,5 @@
 use Rattle.place_reasons.specs.Pieces.{line_text}
-use Rattle.place_reasons.proofs.Within.{line_whole, line_within}
+use Rattle.place_reasons.proofs.Lines.{line_whole}
 use Rattle.place_reasons.proofs.pieces.put_line.Goals as goal
 
 pub returns-clause-text : goal.returns-clause-text
@@ -9,8 +9,3 @@ returns-clause-text g c =
 
 pub returns-clause-some : goal.returns-clause-some
 returns-clause-some g c = (line_text c.args.pieces.now, returns-clause-text g c)
-
-pub returns-clause-each : goal.returns-clause-each
-returns-clause-each g c =
-    line_within (g.W.Write.contents c.args.writer.now) (g.W.Write.contents c.put-2.new.writer) c.args.gathered.now c.put-2.new.self c.args.pieces.now
-    (returns-clause-text g c)

@@ -3,7 +3,7 @@ use Rattle.std.proofs.lemmas.List.{take_all}
 use Rattle.text_output.specs.Writing.{Puts}
 use Rattle.text_output.proofs.Gathering.{puts_none}
 use Rattle.place_reasons.specs.Pieces.{pieces_text}
-use Rattle.place_reasons.proofs.Within.{next_put}
+use Rattle.place_reasons.proofs.Lines.{next_put}
 use Rattle.place_reasons.proofs.pieces.put_pieces.Goals as goal
 
 pub loop-piece-init : goal.loop-piece-init

@@ -11,7 +11,7 @@ returns g c =
     let first = g.W.Write.contents c.put.new.writer in
     let second = g.W.Write.contents c.put_hexadecimal.new.writer in
     let new = g.W.Write.contents c.put-2.new.writer in
-    let words = codes "the lowest unassigned pages that are as many in a row begin at " in
+    let words = codes "the lowest run of enough unassigned pages begins at " in
     let digits = hexadecimal 8 c.saturating_mul.result in
     subst (λ (n : ℕ). Puts old new c.args.gathered.now c.put-2.new.self (words ++ hexadecimal 8 n ++ codes "\n")) c.saturating_mul.ensures
     (puts_both old second new c.args.gathered.now c.put_hexadecimal.new.gathered c.put-2.new.self (words ++ digits) (codes "\n")

@@ -7,7 +7,7 @@ use Rattle.storage_map.specs.Lines.{cell_extent_line}
 use Rattle.storage_map.proofs.Remaining.{remains_all, remains_less, all_put, shorter}
 use Rattle.storage_map.proofs.cells.put_cell_extents.Goals as goal
 
--- the extent ends where its length has eight digits
+-- the extent ends low enough for its length to have eight digits
 abbrev Ends : ℕ → Extent → Type 0
 Ends size x = x.start + rounded (x.count * size) < 2 ^ 31
 

@@ -3,7 +3,7 @@ use Rattle.vsm_model.specs.Search.{is_in}
 use Rattle.vsm_model.specs.Passing.{is_bad_list}
 use Rattle.task_plans.proofs.numbers.has_bad_number.Given as goal
 
--- the numbers that were looked at are good, and just they were seen
+-- the numbers that were looked at are allowed, and only they were seen
 abbrev pub invariant-loop-k : goal.invariant-loop-k
 invariant-loop-k l =
     let both : List ℕ = l.given.items ++ l.shared.items in record {

@@ -1,4 +1,4 @@
--- The name of the change stays, and the rows do.
+-- The name of the change stays, and so do the rows.
 use Rattle.std.proofs.Common.{◌≡◌, true, ap, sym, subst, ◌∙◌}
 use Rattle.vsm_machine.specs.NameChanges.{CanStep, name_of, step_in}
 use Rattle.vsm_machine.specs.NameTable.{knows, rows_of}

@@ -11,7 +11,7 @@ use Rattle.subpool_set.proofs.HeadLemmas.{Apart-swap, Apart-left, Apart-right, i
 use Rattle.subpool_set.proofs.LawLemmas.{put_back, sets_stand}
 use Rattle.tests_elements.proofs.subpools.both_out_and_in.Goals as goal
 
--- who owns live elements, none of them the call's, has none of those that the call gained
+-- an owner of live elements, none of them the call's, has none of those that the call gained
 still_apart : (s t : Store) (had has mine : List ℕ) → Leaves s t had has → Owns s mine → Apart mine had → Apart mine has
 still_apart s t had has mine leaves owns apart id h = false_if (among id has) (λ k. gone (at s id) (leaves.gained id (apart id h) k) (owns.live id h))
 

@@ -8,7 +8,7 @@ returns-in-Ok-clause-ok c =
     subst (λ o. IfSome o (λ name. knows c.forget_undone.new.self name.bytes ≡ true)) (sym c.in-Some.is)
     (c.forget_undone.ensures.own (now_known c.in-Some.name.bytes _ _ (c.in-Ok.ensures.ok c.in-Some.name.bytes)))
 
--- where there is room, nothing is refused
+-- if there is room, nothing is refused
 pub returns-in-Err-clause-needless : goal.returns-in-Err-clause-needless
 returns-in-Err-clause-needless c room =
     let its = subst (λ o. IfSome o (λ name. HasRoom c.args.names.now name.bytes)) c.in-Some.is room in

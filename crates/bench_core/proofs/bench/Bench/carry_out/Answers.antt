@@ -16,7 +16,7 @@ use Rattle.bench_core.proofs.bench.Bench.carry_out.Goals as goal
 pub reserve-requires : goal.reserve-requires
 reserve-requires c = c.requires.1.can
 
--- where no memory is there, all is as it was
+-- if there is no memory, all is as it was
 
 pub invariant_of-self-in-Err : goal.invariant_of-self-in-Err
 invariant_of-self-in-Err c =
@@ -46,7 +46,7 @@ returns-in-Err-clause-keeps c = λ x planned.
       (λ i. bench_at (e.kept i) r (e.undone i)) ∙ unchanged_bench b.machine r same left.same b.history.kept b.history.undone b.fits,
     )
 
--- the change that was made, beside those of the history
+-- the change that was made, next to those of the history
 
 pub swap-requires : goal.swap-requires
 swap-requires c =
@@ -156,7 +156,7 @@ returns-clause-keeps c = λ x planned.
       ap (λ (y : Bench NamedState). y.later) new,
     )
 
--- where there is memory already
+-- if there is already memory
 
 pub returns-in-Err-clause-needless : goal.returns-in-Err-clause-needless
 returns-in-Err-clause-needless c = λ x planned supplied.

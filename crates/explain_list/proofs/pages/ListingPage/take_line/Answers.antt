@@ -17,8 +17,8 @@ returns-in-Ok-Some-clause-page c = λ settings answers took starts lines.
 pub returns-in-Ok-Some-clause-takes : goal.returns-in-Ok-Some-clause-takes
 returns-in-Ok-Some-clause-takes c = rw c.in-Ok-Some.field-0-is at c.in-Ok-Some.ensures.takes
 
-pub returns-in-Ok-Some-clause-shows : goal.returns-in-Ok-Some-clause-shows
-returns-in-Ok-Some-clause-shows c = rw c.in-Ok-Some.field-0-is at c.in-Ok-Some.ensures.shows
+pub returns-in-Ok-Some-clause-asks : goal.returns-in-Ok-Some-clause-asks
+returns-in-Ok-Some-clause-asks c = rw c.in-Ok-Some.field-0-is at c.in-Ok-Some.ensures.asks
 
 pub returns-in-Ok-Some-clause-whole : goal.returns-in-Ok-Some-clause-whole
 returns-in-Ok-Some-clause-whole c =

@@ -1,4 +1,4 @@
--- A write through the map's loan at a key that is there is the word of its row.
+-- A write through the map's loan at a present key is the word of its row.
 use Rattle.std.proofs.Common.{ap, sym, is_some, map, ◌∙◌, true≢false}
 use Rattle.vsm_machine.specs.NameChanges.{word_or_zero}
 use Rattle.vsm_machine.specs.NameTable.{row_of}

@@ -1,4 +1,4 @@
--- What is cut off lies behind the defined names and, where it is undone, the one that is kept.
+-- What is cut off is after the defined names and, if it is undone, the one that is kept.
 use Rattle.std.proofs.Common.{◌≡◌, ◌+◌, ◌&&◌, ◌||◌, not, true, is_some, map, IfSome, ap, sym, subst, ◌∙◌, arith}
 use Rattle.std.proofs.lemmas.Bool.{and_parts}
 use Rattle.vsm_model.specs.Names.{word_of}

@@ -1,4 +1,4 @@
--- A name that is found behind the defined ones is undone, and is moved next to them; no other row is exchanged for another.
+-- A name that is found after the defined ones is undone, and is moved next to them; no other row is exchanged.
 use Rattle.std.proofs.Common.{◌≡◌, ℕ, ◌+◌, ◌&&◌, not, is_some, [], ◌∷◌, ◌++◌, map, take, sym, ap, subst, ◌∙◌}
 use Rattle.std.proofs.Math.Bool.{and-false}
 use Rattle.arrayvec.specs.ArrayString.{ArrayString}

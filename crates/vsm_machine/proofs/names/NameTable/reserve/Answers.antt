@@ -1,4 +1,4 @@
--- A name that the table holds is no other name, and a new one is one row more behind all others.
+-- A name that the table holds is no other name, and a new one is another row after all others.
 use Rattle.std.proofs.Common.{◌≡◌, ◌≤◌, inl, inr, true≢false, None, [], ◌∷◌, is_some, length, map, take, ap, sym, ◌∙◌, arith}
 use Rattle.std.specs.Map.{lookup}
 use Rattle.std.proofs.lemmas.List.{take-append-le, map-append}
@@ -34,7 +34,7 @@ returns-in-Ok-clause-ok c other =
     ∙ ap (λ l. is_some (word_of l other)) (map-append row_of t.table.entries ((key, 0) ∷ []))
     ∙ knows-more (all_rows t) key.bytes other 0
 
--- where it isn't held and memory is refused, there was no room
+-- if it isn't held and memory is refused, there was no room
 pub returns-in-Err-clause-needless : goal.returns-in-Err-clause-needless
 returns-in-Err-clause-needless c room = elim room [
   | inl known ↦ absurd (true≢false (sym known ∙ sym (ap is_some (lookup-is c.args.name c.args.self.now.table.entries)) ∙ sym c.contains_key.ensures ∙ c.if-contains_key.false))

@@ -1,4 +1,4 @@
--- A defined name stands in front with the word that the table has for it.
+-- A defined name is among the first rows, with the word that the table has for it.
 use Rattle.std.proofs.Common.{is_some, take, ap, sym, ◌∙◌}
 use Rattle.vsm_model.specs.Names.{word_of}
 use Rattle.vsm_machine.specs.NameChanges.{word_or_zero}

@@ -1,4 +1,4 @@
--- One row less in front is all but the last.
+-- One row fewer at the front is all except the last.
 use Rattle.std.proofs.Common.{◌≤◌, length, arith}
 use Rattle.vsm_machine.specs.NameTable.{all_rows}
 use Rattle.vsm_machine.proofs.Entries.{length-rows}

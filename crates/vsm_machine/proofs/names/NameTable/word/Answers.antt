@@ -1,4 +1,4 @@
--- A name that is found among the defined ones stands for its word, and one that is found behind them, or not at all, for none.
+-- A name that is found among the defined ones stands for its word; one that is found after them, or isn't, for none.
 use Rattle.std.proofs.Common.{◌∙◌, sym}
 use Rattle.vsm_machine.proofs.Entries.{front-found, front-lacks, front-none}
 use Rattle.vsm_machine.proofs.names.NameTable.word.Goals as goal

@@ -1,0 +1,5 @@
+pub mod Cells
+pub mod Found
+pub mod Pages
+pub mod Releases
+pub mod Sights

@@ -1,5 +1,0 @@
-use Rattle.std.proofs.Common.{refl}
-use Rattle.cause_reasons.proofs.tasks.put_no_parent.Goals as goal
-
-pub returns-clause-told : goal.returns-clause-told
-returns-clause-told g c = (1, _, refl, c.put_line.ensures.each 0 _ refl)

@@ -1,0 +1,73 @@
+//! Why a line of a script is answered as it is, as text or as JSON.
+ghost use Rattle.std.specs.Prelude.{◌≢◌};
+ghost use Rattle.explain_why.specs.Forms.{Explains, ExplainsAsJson};
+
+use crate::faults::WhyFault;
+use crate::lines::why_text;
+use listed_text::Form;
+use reason_objects::write_objects;
+use script_steps::Watch;
+use std::alloc::Global;
+use std::io::Write;
+use vsm_model::Settings;
+
+/// The fault if no text can be gathered in memory: a write failed if memory ran out.
+fn gathering_fault(fault: WhyFault) -> WhyFault
+    ensures { result ≢ WhyFault.Write }
+{
+    match fault {
+        WhyFault::Write | WhyFault::Memory => WhyFault::Memory,
+        WhyFault::New(fault) => WhyFault::New(fault),
+        WhyFault::TooLong => WhyFault::TooLong,
+        WhyFault::NoLine(lines) => WhyFault::NoLine(lines),
+        WhyFault::Aside => WhyFault::Aside,
+        WhyFault::Dropped => WhyFault::Dropped,
+    }
+}
+
+/// Writes the objects of the text that says why the statement of a line is answered as it is.
+fn why_json<W: Write, P: Watch>(
+    alloc: Global,
+    script: &[u8],
+    settings: Settings,
+    line: u32,
+    out: &mut W,
+    watch: &mut P,
+) -> Result<bool, WhyFault>
+    ensures { ExplainsAsJson settings script.now line (W.contents out.old) (W.contents out.new) result }
+{
+    let mut text = Vec::new(alloc);
+    match why_text(alloc, script, settings, line, &mut text, watch) {
+        Ok(refused) => match write_objects(text.as_slice(), refused, out) {
+            Ok(()) => Ok(refused),
+            Err(_) => Err(WhyFault::Write),
+        },
+        Err(fault) => Err(gathering_fault(fault)),
+    }
+}
+
+/// Writes why the statement of a line, its first or a later one, is answered as it is: what it asks for in the state
+/// before it, what decides, and the answer. `true` if that is a refusal. JSON has an object for each line of the text.
+///
+/// The lines before it are carried out on a new bench under the settings; `watch` is called for each.
+///
+/// `New` if no such bench can be made; `TooLong` if a byte up to the statement's end passes a bound; `NoLine`, `Aside`
+/// and `Dropped` if the line belongs to no statement; `Memory` if there is no memory for the text that JSON is made of;
+/// `Write` if a write fails. As JSON, after `Write` a prefix of the objects was written, after each other fault
+/// nothing; as text, a prefix at most.
+pub fn why<W: Write, P: Watch>(
+    alloc: Global,
+    script: &[u8],
+    settings: Settings,
+    form: Form,
+    line: u32,
+    out: &mut W,
+    watch: &mut P,
+) -> Result<bool, WhyFault>
+    ensures { Explains settings script.now form line (W.contents out.old) (W.contents out.new) result }
+{
+    match form {
+        Form::Text => why_text(alloc, script, settings, line, out, watch),
+        Form::Json => why_json(alloc, script, settings, line, out, watch),
+    }
+}

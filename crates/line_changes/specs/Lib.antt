@@ -1,0 +1,11 @@
+pub mod Holdings
+pub mod Readings
+pub mod Trails
+pub mod Who
+pub mod Code
+pub mod Notes
+pub mod Lined
+pub mod ScriptLines
+pub mod Faults
+pub mod Traced
+pub mod Texts

@@ -1,0 +1,3 @@
+mod Apart
+mod CauseTexts
+pub mod Each

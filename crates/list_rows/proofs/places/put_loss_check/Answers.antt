@@ -1,0 +1,11 @@
+use Rattle.std.proofs.Common.{min}
+use Rattle.list_rows.specs.Rows.{check_text, IsCheckLine}
+use Rattle.list_rows.proofs.Each.{lost_by, puts_no}
+use Rattle.list_rows.proofs.places.put_loss_check.Goals as goal
+
+pub returns-in-Some : goal.returns-in-Some
+returns-in-Some g c =
+    lost_by c.args.name.now c.args.number (min 1 100000) c.bytes.result.now _ _ _ _ _ _ _ _ c.put_position.ensures c.put_loss.ensures c.put.ensures.puts
+
+pub returns-in_default : goal.returns-in_default
+returns-in_default g c = puts_no (check_text c.args.name.now) IsCheckLine _ _

@@ -1,0 +1,3 @@
+mod ExtentSums
+mod PoolRows
+mod PoolSums

@@ -1,0 +1,2 @@
+-- Lemmas on the lines of a text.
+mod Cuts

@@ -1,0 +1,89 @@
+-- The table and the rows over time as JSON, an object a line.
+use Rattle.std.specs.Prelude.{ℕ, ◌+◌, ◌*◌, nat_lt, Option, Some, None, List, [], ◌∷◌, ◌++◌, codes}
+use Rattle.listed_text.specs.Json.{json_name, number_field, object_end, object_start, string_field}
+use Rattle.report_rows.specs.Texts.{tasks_text}
+use Rattle.report_rows.specs.Values.{amount_names, could_get, fragmented, high_names, low_names, moment_names}
+use Rattle.report_rows.specs.Values.{moment_values, share_values, shown_address}
+use Rattle.report_rows.specs.declared.rows.Share.{Share}
+use Rattle.report_rows.specs.declared.rows.SubpoolRow.{SubpoolRow}
+use Rattle.report_rows.specs.declared.tallies.Tally.{Tally}
+use Rattle.report_rows.specs.declared.times.Figures.{Figures}
+use Rattle.report_rows.specs.declared.times.Figures.TheVariants as figures
+use Rattle.report_rows.specs.declared.times.Moment.{Moment}
+
+-- numbers as fields with these names
+abbrev pub named : List (List ℕ) → List ℕ → List ℕ
+named [] numbers = []
+named (name ∷ names) [] = []
+named (name ∷ names) (n ∷ numbers) = number_field name n ++ named names numbers
+
+-- the address of what is longest, if there is one
+abbrev pub at_field : Option ℕ → List ℕ
+at_field None = []
+at_field (Some address) = number_field (codes "at") address
+
+-- ---- the table
+
+-- what a subpool has on one side of the line
+abbrev pub share_fields : Share → List ℕ
+share_fields share =
+    named amount_names (share_values share)
+    ++ at_field (shown_address (nat_lt 0 share.largest) (8 * share.free.at))
+    ++ number_field (codes "fragmented") (fragmented share.largest share.free.total)
+    ++ number_field (codes "could_get") (could_get share)
+
+-- the tasks other than its owner that see it
+abbrev pub sharers_field : List ℕ → List ℕ
+sharers_field tasks = json_name (codes "sharers") ++ codes "[" ++ tasks_text [] tasks ++ codes "]"
+
+abbrev pub side_json : SubpoolRow → List ℕ → Share → List ℕ → List ℕ
+side_json row side share sharers =
+    object_start (codes "subpool")
+    ++ number_field (codes "subpool") row.subpool.number
+    ++ number_field (codes "owner") row.subpool.owner
+    ++ string_field (codes "side") side
+    ++ share_fields share
+    ++ sharers_field sharers
+    ++ object_end
+
+-- the sums of all subpools
+abbrev pub total_json : Moment → List ℕ
+total_json m =
+    object_start (codes "total")
+    ++ number_field (codes "pages") (m.totals.low_pages + m.totals.high_pages)
+    ++ number_field (codes "taken") m.totals.taken
+    ++ number_field (codes "free") m.totals.free
+    ++ number_field (codes "areas") m.free.count
+    ++ object_end
+
+-- the unassigned pages of one side, in how many runs, the longest, and its bytes
+abbrev pub runs_fields : Tally → List ℕ
+runs_fields runs =
+    number_field (codes "pages") runs.total
+    ++ number_field (codes "runs") runs.count
+    ++ number_field (codes "longest") runs.longest
+    ++ number_field (codes "bytes") (4096 * runs.longest)
+    ++ at_field (shown_address (nat_lt 0 runs.longest) (4096 * runs.at))
+
+abbrev pub unassigned_json : List ℕ → Tally → List ℕ
+unassigned_json side runs =
+    object_start (codes "unassigned") ++ string_field (codes "side") side ++ runs_fields runs ++ object_end
+
+-- ---- over time
+
+abbrev pub no_values : List ℕ
+no_values = 0 ∷ 0 ∷ 0 ∷ 0 ∷ 0 ∷ []
+
+-- what a subpool has on both sides of the line: zeros if the task sees none
+abbrev pub row_fields : Option SubpoolRow → List ℕ
+row_fields (Some row) = named low_names (share_values row.low) ++ named high_names (share_values row.high)
+row_fields None = named low_names no_values ++ named high_names no_values
+
+abbrev pub figures_fields : Figures → List ℕ
+figures_fields (figures.Whole m) = named moment_names (moment_values m)
+figures_fields (figures.Subpool seen row) = row_fields row
+
+-- the statement that begins on a line, with the figures after it
+abbrev pub figures_json : ℕ → Figures → List ℕ
+figures_json number f =
+    object_start (codes "row") ++ number_field (codes "line") number ++ figures_fields f ++ object_end

@@ -1,0 +1,4 @@
+pub mod Ahead
+pub mod Undefined
+pub mod Defined
+pub mod Details

@@ -1,0 +1,118 @@
+"""For tests/explain: what `report --json` writes, also with --over-time and --areas, against the text of the same
+question.
+"""
+from __future__ import annotations
+
+from collections.abc import Callable
+from typing import Any
+
+from driving import Failure, compare
+from json_objects import Object, objects_of
+
+# The fields of each kind; those after a bar may be missing.
+FIELDS = {
+    "after": "| line answer",
+    "subpool": "subpool owner side pages taken free areas largest fragmented could_get sharers | at",
+    "total": "pages taken free areas",
+    "unassigned": "side pages runs longest bytes | at",
+    "pool": "name subpool owner size extents bytes used free",
+    "area": "line statement bytes address subpool owner | pool",
+    "sum": "areas bytes",
+}
+TEXTS = {"answer", "side", "name", "statement", "pool"}
+COLUMNS = "SUBPOOL OWNER SIDE   PAGES      TAKEN       FREE  AREAS    LARGEST AT       FRAGMENTED  COULD GET SHARERS"
+OVER_TIME = (["--over-time"], ["--over-time", "--subpool", "1"], ["--over-time", "--subpool", "2,0"])
+
+
+def compare_types(it: Object) -> None:
+    """Each field is a number, a text, or, of sharers, a list of numbers."""
+    for name, value in it.items():
+        if name == "sharers":
+            right = isinstance(value, list) and all(type(task) is int for task in value)
+        else:
+            right = type(value) is (str if name in TEXTS | {"kind"} else int)
+        if not right:
+            raise Failure(f"{name} of {it}")
+
+
+def known_objects(output: bytes) -> list[Object]:
+    """The objects of an answer, each with the fields of its kind."""
+    objects = objects_of(output, "report")
+    for it in objects:
+        compare_types(it)
+        if it["kind"] != "row":
+            always, _, sometimes = FIELDS.get(it["kind"], "").partition("|")
+            compare(f"fields of {it}", set(it) - set(sometimes.split()), {"kind", *always.split()})
+    return objects
+
+
+def counted(count: int, word: str) -> str:
+    return f"{count} {word}" if count == 1 else f"{count} {word}s"
+
+
+def at_text(it: Object) -> str:
+    return f"{it['at']:08X}" if "at" in it else "-       "
+
+
+def text_of(it: Object) -> str:
+    """The line that the text has in the place of an object."""
+    match it["kind"]:
+        case "after":
+            return f"line {it['line']}: {it['answer']}" if len(it) > 1 else "no statement"
+        case "subpool":
+            sharers = ",".join(str(task) for task in it["sharers"]) or "NONE"
+            return (f"{it['subpool']:7}{it['owner']:6} {it['side']}{it['pages']:7}{it['taken']:11}{it['free']:11}{it['areas']:7}"
+                    f"{it['largest']:11} {at_text(it)}{it['fragmented']:9} %{it['could_get']:11} {sharers}")
+        case "total":
+            return f"  TOTAL            {it['pages']:7}{it['taken']:11}{it['free']:11}{it['areas']:7}"
+        case "unassigned":
+            pages, runs, longest = (counted(it[name], word).upper() for name, word in
+                                    (("pages", "page"), ("runs", "run"), ("longest", "page")))
+            blanks = " " * (7 - len(str(it["pages"])))
+            return (f"UNASSIGNED {it['side']}   {blanks}{pages} IN {runs}, LONGEST {longest} ({it['bytes']} BYTES)"
+                    f" AT {at_text(it)}")
+        case "pool":
+            return "CELLPOOL " + " ".join([it["name"], *(f"{name.upper()} {it[name]}" for name in FIELDS["pool"].split()[1:])])
+        case "row":
+            return ",".join(str(value) for value in it.values() if value != "row")
+        case "area":
+            pool = f", cell pool {it['pool']}" if "pool" in it else ""
+            return (f"line {it['line']} {it['statement']:44} | {it['bytes']} bytes at {it['address']:08X},"
+                    f" subpool {it['subpool']} of task {it['owner']}{pool}")
+        case _:
+            return f"{counted(it['areas'], 'area')}, {it['bytes']} bytes taken"
+
+
+def lines_of(objects: list[Object]) -> list[str]:
+    """The lines of the text, with the names of columns and values."""
+    lines = [text_of(it) for it in objects]
+    match objects[0]["kind"] if objects else "row":
+        case "after":
+            return [lines[0], COLUMNS, *lines[1:]]
+        case "row":
+            names = {",".join(it)[len("kind,"):] for it in objects}
+            if len(names) > 1:
+                raise Failure(f"names of values: {names}")
+            return [*names, *lines]
+        case _:
+            return lines
+
+
+def same_reports(data: bytes, options: list[str]) -> Callable[[Any], None]:
+    """Each report of a script says the same in both forms, with the same status and standard error."""
+    def tried(programs: Any) -> None:
+        file = programs.put(data)
+        last = data.count(b"\n")
+        ends = [[], *([str(at)] for at in sorted({1, last // 2, last, last + 9}) if at)]
+        for words in (*([file, *end] for end in ends), *(["--areas", file, *end] for end in ends),
+                      ["--areas", "--longest", file], *([*it, file] for it in OVER_TIME)):
+            text = programs.explained(["report", *options, *words])
+            found = programs.explained(["report", "--json", *options, *words])
+            compare(f"{words}: status and standard error", (found.status, found.errors), (text.status, text.errors))
+            if text.status:
+                compare(f"{words}: what is said", (text.output, found.output), (b"", b""))
+            else:
+                said = text.output.decode().split("\n")[:-1]
+                lines = lines_of(known_objects(found.output))
+                compare(f"{words}: what is said", lines or said[1:], said if lines else [])
+    return tried
