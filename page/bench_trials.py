@@ -704,18 +704,23 @@ def try_all(trials: Trials, browser: Browser, programs: Programs) -> None:
         trials.want("the page can be built", False, fault)
 
 
-def main(words: list[str]) -> int:
-    if len(words) > 1 or any(word.startswith("-") for word in words):
-        print(__doc__.split("\n")[2], file=sys.stderr)
-        return 16
-    trials = Trials()
+def ended(trials: Trials, tried: Callable[[Browser], None]) -> int:
+    """Runs trials in a browser, and prints how many passed; the status."""
     try:
         with Browser() as browser:
-            try_module(Path(words[0]) if words else MODULE, browser, trials)
+            tried(browser)
     except (BrowserFault, BuildFault, OSError, ValueError, KeyError) as fault:
         trials.want("the trials end", False, fault)
     print(f"{trials.passed} passed, {trials.failed} failed")
     return trials.failed != 0
+
+
+def main(words: list[str]) -> int:
+    if len(words) > 1 or any(word.startswith("-") for word in words):
+        print(__doc__.split("\n")[2], file=sys.stderr)
+        return 16
+    module, trials = Path(words[0]) if words else MODULE, Trials()
+    return ended(trials, lambda browser: try_module(module, browser, trials))
 
 
 if __name__ == "__main__":

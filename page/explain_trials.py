@@ -28,9 +28,10 @@ TOP = HERE.parent
 sys.path[:0] = [str(HERE), str(TOP / "tools"), str(TOP / "tests")]
 
 import bench  # noqa: E402
-from bench_trials import ODD_SCRIPTS, PALE, BenchPage, Node, attach, encoded, run_all, try_made, workers  # noqa: E402
+from bench_trials import ODD_SCRIPTS, PALE, BenchPage, Node, attach, encoded, ended  # noqa: E402
+from bench_trials import run_all, try_made, workers  # noqa: E402
 from build import BuildFault  # noqa: E402
-from chromium import Browser, BrowserFault  # noqa: E402
+from chromium import Browser  # noqa: E402
 from on_page import probed  # noqa: E402
 from trials import Programs, Trials  # noqa: E402
 
@@ -467,16 +468,10 @@ def main(words: list[str]) -> int:
     if len(words) > 2 or any(word.startswith("-") for word in words):
         print(__doc__.split("\n")[2], file=sys.stderr)
         return 16
-    folder = Path(words[0]) if words else DIST
-    trials = Trials()
-    try:
-        with Browser() as browser:
-            program = words[1] if len(words) > 1 else str(BUILT)
-            try_module(folder / "vsm.wasm", folder / f"{NAME}.wasm", program, browser, trials)
-    except (BrowserFault, BuildFault, OSError, ValueError, KeyError) as fault:
-        trials.want("the trials end", False, fault)
-    print(f"{trials.passed} passed, {trials.failed} failed")
-    return trials.failed != 0
+    folder, trials = Path(words[0]) if words else DIST, Trials()
+    module, explain = folder / "vsm.wasm", folder / f"{NAME}.wasm"
+    program = words[1] if len(words) > 1 else str(BUILT)
+    return ended(trials, lambda browser: try_module(module, explain, program, browser, trials))
 
 
 if __name__ == "__main__":

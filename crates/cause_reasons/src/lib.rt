@@ -11,5 +11,4 @@ mod refusals;
 mod tasks;
 mod texts;
 
-pub use bytes::put_bytes;
 pub use causes::put_cause;

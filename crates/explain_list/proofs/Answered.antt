@@ -22,7 +22,8 @@ use Rattle.script_steps.proofs.Standings.{stands_for, stands_push}
 use Rattle.text_output.specs.Writing.{Puts}
 use Rattle.text_output.specs.declared.writing.Gathered.{Gathered}
 use Rattle.statement_faults.specs.declared.lines.SourceLine.{SourceLine}
-use Rattle.explain_list.specs.Listing.{AreNotesTo, IsNoted, paged, is_written, item_text, one_of, page_text, HoldsListing, IsItemOf, PutsPage}
+use Rattle.explain_list.specs.Pages.{fault_answered, fault_told}
+use Rattle.explain_list.specs.Listing.{ArePageRows, AreNotesTo, IsNoted, fault_asked, fault_of, paged, is_written, item_text, one_of, page_text, HoldsListing, IsItemOf, PutsPage}
 use Rattle.list_rows.specs.Answers.{AreNotes, AreNotesOf, Notes, answer_in}
 use Rattle.list_rows.specs.Causes.{IsCauseFor, IsCauseText}
 use Rattle.list_rows.specs.Rows.{Row, row_in, IsLineAt, IsRowOf}
@@ -98,9 +99,42 @@ module _ (settings : Settings) where
     page_is answers (m ∷ n ∷ ms) b bytes None brings shows led = absurd brings
     page_is answers (m ∷ n ∷ ms) b bytes (Some told) brings shows led = absurd brings
 
-    item_is : (m : Option Marked) → AllByRecursion (IsRowOf script) rows → IsLineAt script last → IsItemOf script (paged rows m last notes)
+    item_is : (m : Option Marked) → ArePageRows script (fault_of m) rows → IsLineAt script last → IsItemOf script (paged rows m last notes)
     item_is None are at = are
     item_is (Some m) are at = (are, at)
+
+  -- ---- the fault of a page
+
+  call_no_fault : (call : Call Act) (its : Answer Reply Why) (kept : ℕ) → fault_answered (response_to call its kept) ≡ None
+  call_no_fault call (Replied reply) kept = refl
+  call_no_fault call (RefusedFor why) kept = refl
+  call_no_fault call NoMemory kept = refl
+  call_no_fault call Moved kept = refl
+  call_no_fault call Shown kept = refl
+  call_no_fault (Apply x) (TooFar n) kept = refl
+  call_no_fault (Back m) (TooFar n) kept = refl
+  call_no_fault (Forward m) (TooFar n) kept = refl
+  call_no_fault Look (TooFar n) kept = refl
+
+  reading_no_fault : (r : Result (List ℕ) Why) → fault_answered (reading_response r) ≡ None
+  reading_no_fault (Ok read) = refl
+  reading_no_fault (Err why) = refl
+
+  asked_fault : (l : Standing Act Reply) (unmet : Bool) (what : Result Asked FaultKind) → fault_answered (responded settings l unmet what) ≡ fault_asked what
+  asked_fault l unmet (Err kind) = refl
+  asked_fault l unmet (Ok (act x)) = call_no_fault (Apply x) _ _
+  asked_fault l unmet (Ok (peek address count)) = reading_no_fault (shown_at (alone_now settings l) address count)
+  asked_fault l unmet (Ok map_asked) = refl
+  asked_fault l unmet (Ok (back n)) = call_no_fault (Back n) _ _
+  asked_fault l unmet (Ok (forward n)) = call_no_fault (Forward n) _ _
+
+  fault_is : (answers more : List Marked) (told : Option (ℕ × Response)) → Brings settings answers more told → fault_told told ≡ fault_of (taken more)
+  fault_is answers [] None brings = refl
+  fault_is answers (m ∷ []) (Some told) brings = ap fault_answered brings.1 ∙ asked_fault (stands_all settings nothing_stands answers) m.unmet m.answer.what
+  fault_is answers [] (Some told) brings = absurd brings
+  fault_is answers (m ∷ []) None brings = absurd brings
+  fault_is answers (m ∷ n ∷ ms) None brings = absurd brings
+  fault_is answers (m ∷ n ∷ ms) (Some told) brings = absurd brings
 
   -- ---- what a page says of its statement
 
@@ -189,7 +223,7 @@ module _ (settings : Settings) where
       → AreAsked asked (answers_of more) → Led settings (answers ++ more) b → PutsPage layout script settings b bytes others told asked old now before after → HoldsListing layout settings script first old before answers lines
       → HoldsListing layout settings script first now after (answers ++ more) (lines ++ others)
   holds_page layout script first old now before after answers more b bytes told asked lines others brings shows asks led (rows, last, notes, are, have, at, noted, p) h =
-      let held = holds_item layout settings script first old now before after answers lines rows (taken more) last notes (item_is layout script rows last notes (taken more) are at)
+      let held = holds_item layout settings script first old now before after answers lines rows (taken more) last notes (item_is layout script rows last notes (taken more) (subst (λ k. ArePageRows script k rows) (fault_is answers more told brings) are) at)
       (noted_is layout.form answers more b told asked notes brings asks led noted)
       (subst (Puts old now before after) (page_is layout script rows last notes answers more b bytes told brings shows led) p) h in
       subst (λ ms. HoldsListing layout settings script first now after (answers ++ ms) (lines ++ others)) (taken_is answers more told brings)

@@ -125,6 +125,7 @@ end_follow script line old new listed others (inr (within, is)) same h ends orde
     inr (
       line,
       (
+        (listed ++ open_of old, ap (λ t. (listed ++ shown_of new) ++ t) same ∙ append_assoc listed (shown_of new) (open_of new) ∙ ap (λ t. listed ++ t) is ∙ sym (append_assoc listed (open_of old) (line ∷ []))),
         subst (λ ls. Follow 0 ls (line.end + 1)) (ap (λ t. (listed ++ shown_of new) ++ t) (sym same))
             (step_follow listed (shown_of new) (open_of new) (open_of old) line line.start (line.end + 1) is refl refl h),
         within,

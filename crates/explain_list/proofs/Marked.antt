@@ -1,15 +1,18 @@
 -- The lines of a page, and the caret on one of them.
-use Rattle.std.proofs.Common.{◌≡◌, ◌⊎◌, inl, inr, ◌<◌, ℕ, zero, suc, Bool, true, false, if◌then◌else◌, is_some, append-nil, List, [], ◌∷◌, ◌++◌, length, get_or, Option, Some, None, IfSome, refl, sym, ap, subst, ◌∙◌, arith}
-use Rattle.std.specs.Prelude.{slice_get}
+use Rattle.std.proofs.Common.{◌≡◌, ◌⊎◌, inl, inr, ◌<◌, ℕ, ◌+◌, zero, suc, Bool, true, false, if◌then◌else◌, is_some, append-nil, List, [], ◌∷◌, ◌++◌, length, take, get_or, Option, Some, None, IfSome, refl, sym, ap, subst, ◌∙◌, arith}
+use Rattle.std.specs.Prelude.{◌==◌, slice_get}
+use Rattle.std.proofs.lemmas.Bool.Decides.{eqb_tells}
+use Rattle.std.proofs.lemmas.List.{length-take-le, take_more}
+use Rattle.std.proofs.lemmas.Option.{slice_get_past}
 use Rattle.std.specs.List.{AllByRecursion}
 use Rattle.macro_operands.specs.declared.faults.FaultKind.{FaultKind}
 use Rattle.script_steps.proofs.Feeds.{each_push}
-use Rattle.statement_faults.specs.Places.{caret_width, first_card, further_cards, MarksOperand}
+use Rattle.statement_faults.specs.Places.{first_card, further_cards, IsCaretOf}
 use Rattle.statement_faults.specs.declared.carets.Caret.{Caret}
 use Rattle.statement_faults.specs.declared.lines.SourceLine.{SourceLine}
 use Rattle.statement_faults.specs.declared.roles.Role.{Role}
-use Rattle.explain_list.specs.Pages.{AreLinesOf, IsPage, open_of, shown_of}
-use Rattle.list_rows.specs.Rows.{IsCaretAt, IsLineAt}
+use Rattle.explain_list.specs.Pages.{AreLinesOf, IsPage, fault_at, mark_at, marks_in, open_of, shown_of}
+use Rattle.list_rows.specs.Rows.{AreMarksOf, IsLineAt, marks_on}
 use Rattle.explain_list.specs.declared.pages.ListingPage.{ListingPage}
 
 each_get : {X : Type 0} (P : X → Type 0) (xs : List X) (i : ℕ) (d : X) → i < length xs → AllByRecursion P xs → P (get_or xs i d)
@@ -17,14 +20,19 @@ each_get P [] i d inside h = absurd (omega arith)
 each_get P (x ∷ xs) zero d inside h = h.0
 each_get P (x ∷ xs) (suc i) d inside h = each_get P xs i d (omega arith) h.1
 
-get_some : {X : Type 0} (xs : List X) (i : ℕ) (d : X) → i < length xs → slice_get xs i ≡ Some (get_or xs i d)
-get_some [] i d inside = absurd (omega arith)
-get_some (x ∷ xs) zero d inside = refl
-get_some (x ∷ xs) (suc i) d inside = get_some xs i d (omega arith)
-
 pub if_some : {X : Type 0} (P Q : X → Type 0) (o : Option X) → ((x : X) → P x → Q x) → IfSome o P → IfSome o Q
 if_some P Q None f h = tt
 if_some P Q (Some x) f h = f x h
+
+get_last : (xs : List SourceLine) (x : SourceLine) → slice_get (xs ++ x ∷ []) (length xs) ≡ Some x
+get_last [] x = refl
+get_last (y ∷ xs) x = get_last xs x
+
+get_other : (xs : List SourceLine) (x : SourceLine) (i : ℕ) → (i ≡ length xs → ⊥) → slice_get (xs ++ x ∷ []) i ≡ slice_get xs i
+get_other [] x zero h = absurd (h refl)
+get_other [] x (suc i) h = refl
+get_other (y ∷ xs) x zero h = refl
+get_other (y ∷ xs) x (suc i) h = get_other xs x i (λ e. h (ap (λ n. suc n) e))
 
 -- lines that exist, or none
 pub none_of : (script : List ℕ) (lines : List SourceLine) → lines ≡ [] → AllByRecursion (IsLineAt script) lines
@@ -36,10 +44,10 @@ one_more script before after line (inl is) at h = subst (AllByRecursion (IsLineA
 one_more script before after line (inr is) at h = subst (AllByRecursion (IsLineAt script)) (sym is) h
 
 -- a page without a fault
-pub plain_page : (script : List ℕ) (page : ListingPage) → AreLinesOf script page → page.fault ≡ None → IsPage script page
-plain_page script page lines none = record {
+pub plain_page : (script : List ℕ) (kind : Option FaultKind) (page : ListingPage) → AreLinesOf script page → page.fault ≡ None → IsPage script kind page
+plain_page script kind page lines none = record {
   lines = lines;
-  marks = subst (λ f. IfSome f (λ x. MarksOperand (first_card script page.lines.lines.items) (further_cards script page.lines.lines.items) x.1 x.0)) (sym none) tt;
+  marks = subst (λ f. IfSome f (λ x. (kind ≡ Some x.1) × IsCaretOf (first_card script page.lines.lines.items) (further_cards script page.lines.lines.items) x.1 x.0)) (sym none) tt;
 }
 
 either_of : (b : Bool) (xs : List SourceLine) → ((if b then xs else []) ≡ xs) ⊎ ((if b then xs else []) ≡ [])
@@ -71,32 +79,72 @@ pub shown_some : (page : ListingPage) (role : Role) → page.last ≡ Some role 
 shown_some page role some = ap (λ l. if is_some l then page.lines.lines.items else []) some
 
 -- the lines that are shown are lines of the script
-pub shown_line : (script : List ℕ) (page : ListingPage) (shown : List SourceLine) (i : ℕ) (d : SourceLine) → IsPage script page
+pub shown_line : (script : List ℕ) (kind : Option FaultKind) (page : ListingPage) (shown : List SourceLine) (i : ℕ) (d : SourceLine) → IsPage script kind page
     → (shown ≡ page.lines.lines.items) ⊎ (shown ≡ []) → i < length shown → IsLineAt script (get_or shown i d)
-shown_line script page shown i d h (inl is) inside =
+shown_line script kind page shown i d h (inl is) inside =
     each_get (IsLineAt script) shown i d inside (subst (AllByRecursion (IsLineAt script)) (sym is) h.lines.each)
-shown_line script page shown i d h (inr is) inside =
+shown_line script kind page shown i d h (inr is) inside =
     each_get (IsLineAt script) shown i d inside (none_of script shown is)
 
-pub shown_are : (script : List ℕ) (page : ListingPage) → IsPage script page → AllByRecursion (IsLineAt script) (shown_of page)
-shown_are script page h =
+pub shown_are : (script : List ℕ) (kind : Option FaultKind) (page : ListingPage) → IsPage script kind page → AllByRecursion (IsLineAt script) (shown_of page)
+shown_are script kind page h =
     elim (either_of (is_some page.last) page.lines.lines.items) [
       | inl e ↦ subst (AllByRecursion (IsLineAt script)) (sym e) h.lines.each
       | inr e ↦ none_of script (shown_of page) e
     ]
 
--- and the caret of the fault that is shown is on one of them
-pub caret_on : (script : List ℕ) (page : ListingPage) (shown : List SourceLine) (i : ℕ) (d : SourceLine) (caret : Caret) (kind : FaultKind) → IsPage script page
-    → (shown ≡ page.lines.lines.items) ⊎ (shown ≡ []) → i < length shown → page.fault ≡ Some (caret, kind) → caret.place.line ≡ i
-    → IsCaretAt script (get_or shown i d) caret.place.column (caret_width kind caret) kind
-caret_on script page shown i d caret kind h (inl is) inside fault on = record {
-  lines = page.lines.lines.items;
-  each = h.lines.each;
-  caret = caret;
-  marks = subst (λ f. IfSome f (λ x. MarksOperand (first_card script page.lines.lines.items) (further_cards script page.lines.lines.items) x.1 x.0)) fault h.marks;
-  on = (λ j. slice_get (sym is j) (on j)) ∙ get_some shown i d inside;
-  column = refl;
-  width = refl;
-}
-caret_on script page shown i d caret kind h (inr is) inside fault on =
-    absurd (let none : length shown ≡ 0 = ap (λ (xs : List SourceLine). length xs) is in omega (arith, none, inside))
+-- the carets on some lines and on one more
+marks_more : (lines : List SourceLine) (line : SourceLine) (fault : Option (Caret × FaultKind))
+    → marks_in lines fault ++ marks_on line (fault_at fault (length lines)) ≡ marks_in (lines ++ line ∷ []) fault
+marks_more lines line None = refl
+marks_more lines line (Some f) =
+    let i = f.0.place.line in
+    elim (eqb_tells i (length lines)) [
+      | inl e ↦
+          let past : slice_get lines i ≡ None = slice_get_past lines i (omega (arith, e.1)) in
+          let here : slice_get (lines ++ line ∷ []) i ≡ Some line = ap (slice_get (lines ++ line ∷ [])) e.1 ∙ get_last lines line in
+          ap (λ l. mark_at f l ++ marks_on line (if i == length lines then Some f else None)) past
+          ∙ ap (λ b. marks_on line (if b then Some f else None)) e.0
+          ∙ sym (ap (mark_at f) here)
+      | inr e ↦
+          ap (λ b. mark_at f (slice_get lines i) ++ marks_on line (if b then Some f else None)) e.0
+          ∙ append-nil (mark_at f (slice_get lines i))
+          ∙ sym (ap (mark_at f) (get_other lines line i e.1))
+    ]
+
+pub marks_next : (lines : List SourceLine) (d : SourceLine) (i : ℕ) (fault : Option (Caret × FaultKind)) → i < length lines
+    → marks_in (take i lines) fault ++ marks_on (get_or lines i d) (fault_at fault i) ≡ marks_in (take (i + 1) lines) fault
+marks_next lines d i fault inside =
+    let size : length (take i lines) ≡ i = length-take-le i lines (omega (arith, inside)) in
+    ap (λ k. marks_in (take i lines) fault ++ marks_on (get_or lines i d) (fault_at fault k)) (sym size)
+    ∙ marks_more (take i lines) (get_or lines i d) fault
+    ∙ ap (λ ls. marks_in ls fault) (sym (take_more lines i d inside))
+
+-- before the first line there is none
+pub marks_none : (fault : Option (Caret × FaultKind)) → [] ≡ marks_in [] fault
+marks_none None = refl
+marks_none (Some f) = refl
+
+-- that of a page is its fault's
+mark_is : (script : List ℕ) (lines : List SourceLine) (kind : Option FaultKind) (f : Caret × FaultKind) (o : Option SourceLine) → kind ≡ Some f.1
+    → IsCaretOf (first_card script lines) (further_cards script lines) f.1 f.0 → slice_get lines f.0.place.line ≡ o → AreMarksOf script lines kind (mark_at f o)
+mark_is script lines kind f None its own on = tt
+mark_is script lines kind f (Some line) its own on = (its, record { caret = f.0; own = own; on = on; column = refl; width = refl })
+
+marks_are : (script : List ℕ) (lines : List SourceLine) (kind : Option FaultKind) (fault : Option (Caret × FaultKind))
+    → IfSome fault (λ f. (kind ≡ Some f.1) × IsCaretOf (first_card script lines) (further_cards script lines) f.1 f.0)
+    → AreMarksOf script lines kind (marks_in lines fault)
+marks_are script lines kind None h = tt
+marks_are script lines kind (Some f) h = mark_is script lines kind f (slice_get lines f.0.place.line) h.0 h.1 refl
+
+no_marks : (script : List ℕ) (kind : Option FaultKind) (fault : Option (Caret × FaultKind)) → AreMarksOf script [] kind (marks_in [] fault)
+no_marks script kind None = tt
+no_marks script kind (Some f) = tt
+
+pub page_marks : (script : List ℕ) (kind : Option FaultKind) (page : ListingPage) → IsPage script kind page
+    → AreMarksOf script (shown_of page) kind (marks_in (shown_of page) page.fault)
+page_marks script kind page h =
+    elim (either_of (is_some page.last) page.lines.lines.items) [
+      | inl e ↦ subst (λ ls. AreMarksOf script ls kind (marks_in ls page.fault)) (sym e) (marks_are script page.lines.lines.items kind page.fault h.marks)
+      | inr e ↦ subst (λ ls. AreMarksOf script ls kind (marks_in ls page.fault)) (sym e) (no_marks script kind page.fault)
+    ]

@@ -23,9 +23,9 @@ use Rattle.text_output.specs.Writing.{AppendsFront, Holds, Puts}
 use Rattle.text_output.specs.declared.writing.Gathered.{Gathered}
 use Rattle.explain_list.specs.Checked.{AreAnswers, IsNewFault, Checked}
 use Rattle.statement_faults.specs.declared.lines.SourceLine.{SourceLine}
-use Rattle.explain_list.specs.Pages.{AreAllLines, AreFirstLines, AreLinesOf, Follow, IsLineStart, open_of}
+use Rattle.explain_list.specs.Pages.{AreAllLines, AreFirstLines, AreLinesOf, Follow, IsLineStart, fault_told, open_of}
 use Rattle.list_rows.specs.Answers.{AreNotes, AreNotesOf, Notes, told_in}
-use Rattle.list_rows.specs.Rows.{IsLineAt, IsRowOf, Row, lines_of, row_in}
+use Rattle.list_rows.specs.Rows.{AreMarksOf, IsLineAt, IsRowOf, Row, lines_of, marks_of, row_in}
 use Rattle.explain_list.specs.declared.checking.Shown.{Shown}
 use Rattle.explain_list.specs.declared.checking.Shown.TheVariants as shown
 use Rattle.explain_list.specs.declared.faults.ListFault.{ListFault}
@@ -67,9 +67,24 @@ abbrev pub lines_in : List Item → List SourceLine
 lines_in [] = []
 lines_in (paged rows m last notes ∷ items) = lines_of rows ++ lines_in items
 
+-- the fault that is answered in a page, if any
+abbrev pub fault_asked : Result Asked FaultKind → Option FaultKind
+fault_asked (Ok asked) = None
+fault_asked (Err kind) = Some kind
+
+abbrev pub fault_of : Option Marked → Option FaultKind
+fault_of None = None
+fault_of (Some m) = fault_asked m.answer.what
+
+-- The rows of a page, and the caret among them, if any: that of the fault that is answered, over the lines of the page.
+abbrev pub ArePageRows : List ℕ → Option FaultKind → List Row → Type 0
+ArePageRows script kind rows =
+    AllByRecursion (IsRowOf script) rows × AreMarksOf script (lines_of rows) kind (marks_of rows)
+
 abbrev pub IsItemOf : List ℕ → Item → Type 0
-IsItemOf script (paged rows None last notes) = AllByRecursion (IsRowOf script) rows
-IsItemOf script (paged rows (Some m) last notes) = AllByRecursion (IsRowOf script) rows × IsLineAt script last
+IsItemOf script (paged rows None last notes) = ArePageRows script None rows
+IsItemOf script (paged rows (Some m) last notes) =
+    ArePageRows script (fault_of (Some m)) rows × IsLineAt script last
 
 module _ (settings : Settings) where
   -- The statements in effect after a page,
@@ -174,7 +189,8 @@ pub record ListsRest (layout : Layout) (settings : Settings) (script : List ℕ)
   pub lines : AreLinesOf script page
   pub room : length (open_of page) ≤ 9
 
--- A byte of the script passes a bound; the answers to the lines before it are listed.
+-- A byte of the script passes a bound; the answers to the lines before it are listed, with first lines of the script:
+-- those of a statement that is open then aren't.
 abbrev pub Stops : Layout → Settings → List ℕ → Option (List ℕ) → Option (List ℕ) → Gathered → Type 0
 Stops layout settings script at_first now g =
     (answers : List Marked) × (lines : List SourceLine) × PassesBound settings script answers × AreFirstLines lines
@@ -206,7 +222,9 @@ IsRest script (Ok at) = (at ≤ length script) × NoFeed (drop at script)
 IsRest script (Err e) = Unit {0}
 
 -- A listing of the script is written, with all its lines, and each answer of a run over it and no other; and it says
--- whether one of them is a refusal. After a write fault a prefix of one went out.
+-- whether one of them is a refusal. If a byte passes a bound, all answers before it are written, with first lines of
+-- the script: those of an open statement are missing, and how many there are isn't said. After a write fault a prefix
+-- of one went out.
 abbrev pub Listed : Layout → Settings → List ℕ → Option (List ℕ) → Option (List ℕ) → Result Bool ListFault → Type 0
 Listed layout settings script at_first now (Ok wrong) =
     (answers : List Marked) × (lines : List SourceLine) × Ended settings script answers × AreAllLines script lines
@@ -226,7 +244,7 @@ Listed layout settings script at_first now (Err (fault.New f)) = IsNewFault sett
 abbrev pub PutsPage : Layout → List ℕ → Settings → Bench NamedState → List ℕ → List SourceLine
     → Option (ℕ × Response) → Asked → Option (List ℕ) → Option (List ℕ) → Gathered → Gathered → Type 0
 PutsPage layout script settings b bytes lines told asked old new before after =
-    (rows : List Row) × (last : SourceLine) × (notes : Notes) × AllByRecursion (IsRowOf script) rows
+    (rows : List Row) × (last : SourceLine) × (notes : Notes) × ArePageRows script (fault_told told) rows
     × (lines_of rows ≡ lines) × IsLineAt script last
     × AreNotesOf layout.form settings b.present asked told notes
     × Puts old new before after
@@ -235,7 +253,7 @@ PutsPage layout script settings b bytes lines told asked old new before after =
 -- Warnings on the whole file are put, as a page without an answer.
 abbrev pub PutsFilePage : Layout → List ℕ → Option (List ℕ) → Option (List ℕ) → Gathered → Gathered → Type 0
 PutsFilePage layout script old new before after =
-    (rows : List Row) × AllByRecursion (IsRowOf script) rows × (lines_of rows ≡ [])
+    (rows : List Row) × ArePageRows script None rows × (lines_of rows ≡ [])
     × Puts old new before after
     (if is_written layout None then flat_map (row_in layout.form script) rows else [])
 

@@ -1,12 +1,18 @@
 -- The lines of the statement that is open or shown.
-use Rattle.std.specs.Prelude.{◌≡◌, ◌≤◌, ◌<◌, ◌⊎◌, List, [], ◌∷◌, ◌++◌, ℕ, ◌-◌, if◌then◌else◌, is_some, length}
-use Rattle.std.specs.Prelude.{◌+◌, slice_index, IfSome, Option, Some, None, Result, Ok, Err}
+use Rattle.std.specs.Prelude.{◌≡◌, ◌==◌, ◌≤◌, ◌<◌, ◌⊎◌, List, [], ◌∷◌, ◌++◌, ℕ, ◌-◌, if◌then◌else◌, is_some, length}
+use Rattle.std.specs.Prelude.{◌+◌, slice_get, slice_index, IfSome, Option, Some, None, Result, Ok, Err}
 use Rattle.std.specs.List.{AllByRecursion}
+use Rattle.macro_operands.specs.declared.faults.FaultKind.{FaultKind}
+use Rattle.script_steps.specs.declared.responses.Response.{Response}
+use Rattle.script_steps.specs.declared.responses.Response.TheVariants as response
 use Rattle.script_steps.specs.declared.session.TooLong.{TooLong}
 use Rattle.script_steps.specs.declared.steps.Step.{Step}
-use Rattle.statement_faults.specs.Places.{first_card, further_cards, MarksOperand}
+use Rattle.statement_faults.specs.Places.{first_card, further_cards, IsCaretOf}
+use Rattle.statement_faults.specs.declared.carets.Caret.{Caret}
 use Rattle.statement_faults.specs.declared.lines.SourceLine.{SourceLine}
-use Rattle.list_rows.specs.Rows.{IsLineAt}
+use Rattle.statement_faults.specs.declared.roles.Brought.{Brought}
+use Rattle.statement_faults.specs.declared.roles.Brought.TheVariants as brought
+use Rattle.list_rows.specs.Rows.{IsLineAt, Mark, mark_of}
 use Rattle.explain_list.specs.declared.pages.ListingPage.{ListingPage}
 
 -- The line that was taken in a step, without its line feed.
@@ -41,16 +47,51 @@ TakesLine old new (Ok (Some step)) =
 TakesLine old new (Ok None) = new ≡ old
 TakesLine old new (Err e) = Unit {0}
 
--- And if a fault is shown, its caret is that of the statement over them.
-pub record IsPage (script : List ℕ) (page : ListingPage) : Type 0 where
+-- The fault that a line brings,
+abbrev pub fault_in : Brought → Option FaultKind
+fault_in brought.Nothing = None
+fault_in brought.Answer = None
+fault_in (brought.Fault kind) = Some kind
+
+-- and the one that is answered.
+abbrev pub fault_answered : Response → Option FaultKind
+fault_answered (response.Replied r) = None
+fault_answered (response.Refused r) = None
+fault_answered response.Shown = None
+fault_answered (response.Kept n) = None
+fault_answered (response.TooFar n) = None
+fault_answered (response.TooFarAhead n) = None
+fault_answered response.Map = None
+fault_answered (response.Fault kind) = Some kind
+
+abbrev pub fault_told : Option (ℕ × Response) → Option FaultKind
+fault_told None = None
+fault_told (Some told) = fault_answered told.1
+
+-- And if a fault is shown, it's this one, and its caret is that of the statement over them.
+pub record IsPage (script : List ℕ) (kind : Option FaultKind) (page : ListingPage) : Type 0 where
   pub lines : AreLinesOf script page
   pub marks :
-      IfSome page.fault (λ f. MarksOperand (first_card script page.lines.lines.items)
-      (further_cards script page.lines.lines.items) f.1 f.0)
+      IfSome page.fault (λ f. (kind ≡ Some f.1)
+      × IsCaretOf (first_card script page.lines.lines.items) (further_cards script page.lines.lines.items) f.1 f.0)
+
+-- The fault that is shown, if its caret is on the line at this place among them;
+abbrev pub fault_at : Option (Caret × FaultKind) → ℕ → Option (Caret × FaultKind)
+fault_at None index = None
+fault_at (Some f) index = if f.0.place.line == index then Some f else None
+
+-- and its caret, if it's on one of these lines.
+abbrev pub mark_at : Caret × FaultKind → Option SourceLine → List Mark
+mark_at f None = []
+mark_at f (Some line) = mark_of line f ∷ []
+
+abbrev pub marks_in : List SourceLine → Option (Caret × FaultKind) → List Mark
+marks_in lines None = []
+marks_in lines (Some f) = mark_at f (slice_get lines f.0.place.line)
 
 -- So they are after a line that was taken; and if none was, the lines still are.
 abbrev pub IsPageAfter : List ℕ → Result (Option Step) TooLong → ListingPage → Type 0
-IsPageAfter script (Ok (Some step)) page = IsPage script page
+IsPageAfter script (Ok (Some step)) page = IsPage script (fault_told step.told) page
 IsPageAfter script (Ok None) page = AreLinesOf script page
 IsPageAfter script (Err e) page = Unit {0}
 
@@ -63,10 +104,11 @@ abbrev pub Follow : ℕ → List SourceLine → ℕ → Type 0
 Follow from [] to = from ≡ to
 Follow from (line ∷ lines) to = (line.start ≡ from) × Follow (line.end + 1) lines to
 
--- They are all lines of the script: what follows its last line feed is one if it has any bytes.
+-- They are all lines of the script: what follows its last line feed is the last of them if it has any bytes.
 abbrev pub EndsWith : List ℕ → List SourceLine → SourceLine → Type 0
 EndsWith script lines line =
-    Follow 0 lines (line.end + 1) × (line.start < length script) × (line.end ≡ length script)
+    ((front : List SourceLine) × (lines ≡ front ++ line ∷ [])) × Follow 0 lines (line.end + 1)
+    × (line.start < length script) × (line.end ≡ length script)
 
 abbrev pub AreAllLines : List ℕ → List SourceLine → Type 0
 AreAllLines script lines = Follow 0 lines (length script) ⊎ ((line : SourceLine) × EndsWith script lines line)

@@ -1,8 +1,10 @@
 //! The pages of a listing: rows, and the answer after them.
+ghost use Rattle.std.specs.Prelude.{Option};
+ghost use Rattle.macro_operands.specs.declared.faults.FaultKind.{FaultKind};
 ghost use Rattle.bench_core.specs.Stands.{bench_of, settings_in};
 ghost use Rattle.macro_statements.specs.Requests.{asked_in};
 ghost use Rattle.explain_list.specs.Listing.{PutsPage};
-ghost use Rattle.explain_list.specs.Pages.{IsPage, shown_of};
+ghost use Rattle.explain_list.specs.Pages.{IsPage, fault_told, marks_in, shown_of};
 ghost use Rattle.list_rows.specs.Rows.{IsLineAt, PutsRows};
 
 use crate::layouts::{Layout, is_written};
@@ -24,9 +26,9 @@ fn put_rows<W: Write>(
     page: &ListingPage,
     script: &[u8],
 )
-    ensures { IsPage script.now page.now
-        → PutsRows form script.now (shown_of page.now) (W.contents writer.old) (W.contents writer.new) gathered.old
-        gathered.new }
+    ensures { (kind : Option FaultKind) → IsPage script.now kind page.now
+        → PutsRows form script.now (shown_of page.now) (marks_in (shown_of page.now) page.now.fault)
+        (W.contents writer.old) (W.contents writer.new) gathered.old gathered.new }
 {
     let lines = page.lines();
     for index in 0..lines.len() {
@@ -53,7 +55,7 @@ pub(crate) fn put_page<W: Write>(
     script: &[u8],
     answered: &Answered,
 )
-    ensures { IsPage script.now page.now → IsLineAt script.now answered.now.last
+    ensures { IsPage script.now (fault_told answered.now.told.now) page.now → IsLineAt script.now answered.now.last
         → PutsPage layout script.now (settings_in answered.now.bench.now) (bench_of answered.now.bench.now)
         answered.now.shown.now (shown_of page.now) answered.now.told.now (asked_in answered.now.request.now)
         (W.contents writer.old) (W.contents writer.new) gathered.old gathered.new }
@@ -64,8 +66,8 @@ pub(crate) fn put_page<W: Write>(
     }
 }
 
-/// Puts the lines that are shown at the end of a script, and this answer to them, whose statement asked for this. If none
-/// are shown, this line is the last.
+/// Puts the lines that are shown at the end of a script, and this answer to them, whose statement asked for this. If
+/// none are shown, this line is the last.
 pub(crate) fn put_ending<W: Write>(
     layout: Layout,
     gathered: &mut Gathered,
@@ -77,7 +79,7 @@ pub(crate) fn put_ending<W: Write>(
     request: &Request,
     line: SourceLine,
 )
-    ensures { IsPage script.now page.now → IsLineAt script.now line
+    ensures { IsPage script.now (fault_told told.now) page.now → IsLineAt script.now line
         → PutsPage layout script.now (settings_in ending.now.bench) (bench_of ending.now.bench)
         ending.now.shown.items (shown_of page.now) told.now (asked_in request.now) (W.contents writer.old)
         (W.contents writer.new) gathered.old gathered.new }

@@ -184,8 +184,8 @@ fn checking<W: Write, P: Watch>(
 /// object of JSON for each of these except lines; all, or only refused statements. Or only a line for each fault and
 /// each warning.
 ///
-/// Gives whether a statement was refused or faulty. `TooLong` follows the lines before that one; `Write` a prefix of
-/// what is shown, also if no memory is left for the text of a cause; `New` with nothing written.
+/// Gives whether a statement was refused or faulty. `TooLong` follows what is shown of the answers before that line;
+/// `Write` a prefix of what is shown, also if no memory is left for the text of a cause; `New` with nothing written.
 pub fn list<W: Write, P: Watch>(
     alloc: Global,
     script: &[u8],

@@ -252,8 +252,8 @@ fn list_on<W: Write, P: Watch>(
 /// Lists a script: each line with its number, after the last line of a statement its answer, and below the first
 /// operand that is wrong a caret with what is expected. Lines that aren't carried out have an `x`.
 ///
-/// Gives whether a statement was refused or faulty. `TooLong` follows the lines before that one; `Write` a prefix of
-/// the listing; `New` with nothing written.
+/// Gives whether a statement was refused or faulty. `TooLong` follows the answers before that line, and their lines;
+/// `Write` a prefix of the listing; `New` with nothing written.
 pub(crate) fn listing<W: Write, P: Watch>(
     alloc: Global,
     script: &[u8],

@@ -1,29 +1,47 @@
 //! The lines of the statement that is shown, and what each of them is.
 ghost use Rattle.std.specs.Prelude.{◌≡◌, ◌≤◌, ◌+◌, ◌∷◌, ◌++◌, ℕ, List, [], None, Some, true, false, IfSome};
-ghost use Rattle.std.specs.Prelude.{length, take};
+ghost use Rattle.std.specs.Prelude.{length, option_map, take};
 ghost use Rattle.macro_statements.specs.Requests.{asked_in};
 ghost use Rattle.vsm_model.specs.declared.limits.Settings.{Settings};
 ghost use Rattle.script_steps.specs.Output.{Marked};
 ghost use Rattle.script_steps.specs.Steps.{AsksStep, StepsOver, TakesStep};
 ghost use Rattle.script_steps.specs.Taken.{Took};
-ghost use Rattle.statement_faults.specs.Places.{first_card, further_cards, MarksOperand};
+ghost use Rattle.statement_faults.specs.Places.{first_card, further_cards, IsCaretOf};
 ghost use Rattle.explain_list.specs.Pages.{AreLinesOf, IsPage, IsPageAfter, TakesLast, TakesLine, line_of};
-ghost use Rattle.explain_list.specs.Pages.{IsLineStart, open_of, shown_of};
+ghost use Rattle.explain_list.specs.Pages.{IsLineStart, fault_answered, fault_at, fault_in, fault_told, open_of};
+ghost use Rattle.explain_list.specs.Pages.{shown_of};
 ghost use Rattle.list_rows.specs.Rows.{IsLineAt, IsLineBefore};
 
 use macro_reader::Request;
 use script_steps::{Ending, FaultKind, ReaderState, Response, Session, Step, TooLong};
-use statement_faults::carets::{Caret, caret_of};
+use statement_faults::carets::{Caret, own_caret};
 use statement_faults::lines::{OpenLines, SourceLine};
 use statement_faults::roles::{Brought, Role, role_of};
 use std::alloc::Global;
 
+/// What a line with this answer brings.
+fn answer_of(response: &Response) -> Brought
+    ensures { fault_in result ≡ fault_answered response.now }
+{
+    match response {
+        Response::Fault(kind) => Brought::Fault(*kind),
+        Response::Replied(_)
+        | Response::Refused(_)
+        | Response::Kept(_)
+        | Response::TooFar(_)
+        | Response::TooFarAhead(_)
+        | Response::Shown
+        | Response::Map => Brought::Answer,
+    }
+}
+
 /// What a line brings, by the answer to it.
-fn brought_by(told: &Option<(u32, Response)>) -> Brought {
+fn brought_by(told: &Option<(u32, Response)>) -> Brought
+    ensures { fault_in result ≡ fault_told told.now }
+{
     match told {
         None => Brought::Nothing,
-        Some((_, Response::Fault(kind))) => Brought::Fault(*kind),
-        Some(_) => Brought::Answer,
+        Some((_, response)) => answer_of(response),
     }
 }
 
@@ -58,14 +76,25 @@ pub(crate) fn rest_line(lines: u32, script: &[u8], at: usize) -> SourceLine
     }
 }
 
-/// The place at which the statement of these lines is wrong, if it has a fault.
-fn fault_of(script: &[u8], lines: &OpenLines, brought: Brought) -> Option<(Caret, FaultKind)>
-    ensures { IfSome result (λ f. MarksOperand (first_card script.now lines.now.lines.items)
+/// The place at which the statement of these lines is wrong, if it has this fault.
+fn place_of(script: &[u8], lines: &OpenLines, kind: FaultKind) -> Option<(Caret, FaultKind)>
+    ensures { IfSome result (λ f. (kind ≡ f.1) × IsCaretOf (first_card script.now lines.now.lines.items)
         (further_cards script.now lines.now.lines.items) f.1 f.0) }
 {
+    match own_caret(script, lines.as_slice(), kind) {
+        Some(caret) => Some((caret, kind)),
+        None => None,
+    }
+}
+
+/// The place at which the statement of these lines is wrong, if it has a fault.
+fn fault_of(script: &[u8], lines: &OpenLines, brought: Brought) -> Option<(Caret, FaultKind)>
+    ensures { IfSome result (λ f. (fault_in brought ≡ Some f.1) × IsCaretOf
+        (first_card script.now lines.now.lines.items) (further_cards script.now lines.now.lines.items) f.1 f.0) }
+{
     match brought {
-        Brought::Fault(kind) => Some((caret_of(script, lines.as_slice(), kind), kind)),
-        _ => None,
+        Brought::Fault(kind) => place_of(script, lines, kind),
+        Brought::Nothing | Brought::Answer => None,
     }
 }
 
@@ -121,7 +150,7 @@ impl ListingPage {
 
     /// Shows the lines so far, the last of which has this role and brings this.
     fn show(&mut self, script: &[u8], last: Role, brought: Brought)
-        ensures page { AreLinesOf script.now self.old → IsPage script.now self.new }
+        ensures page { AreLinesOf script.now self.old → IsPage script.now (fault_in brought) self.new }
         ensures lines { self.new.lines ≡ self.old.lines }
         ensures last { self.new.last ≡ Some last }
     {
@@ -164,7 +193,8 @@ impl ListingPage {
     /// Takes a line, and shows the statement that it answers; or itself, if it belongs to none. No statement has more
     /// than ten lines.
     fn take(&mut self, script: &[u8], line: SourceLine, role: Role, brought: Brought)
-        ensures page { IsLineAt script.now line → AreLinesOf script.now self.old → IsPage script.now self.new }
+        ensures page { IsLineAt script.now line → AreLinesOf script.now self.old
+            → IsPage script.now (fault_in brought) self.new }
         ensures whole { length (open_of self.old) ≤ 9
             → shown_of self.new ++ open_of self.new ≡ open_of self.old ++ line ∷ [] }
         ensures room { length (open_of self.new) ≤ 9 }
@@ -185,7 +215,7 @@ impl ListingPage {
         step: &Step,
     )
         ensures page { IsLineAt script.now (line_of number step.now) → AreLinesOf script.now self.old
-            → IsPage script.now self.new }
+            → IsPage script.now (fault_told step.now.told) self.new }
         ensures whole { length (open_of self.old) ≤ 9
             → shown_of self.new ++ open_of self.new ≡ open_of self.old ++ line_of number step.now ∷ [] }
         ensures room { length (open_of self.new) ≤ 9 }
@@ -241,11 +271,17 @@ impl ListingPage {
 
     /// The fault whose caret is on this one of the lines.
     pub(crate) fn fault_on(&self, index: usize) -> Option<(&Caret, FaultKind)>
-        ensures { IfSome result (λ f. (self.now.fault ≡ Some (f.0.now, f.1)) × (f.0.now.place.line ≡ index)) }
+        ensures { option_map (λ f. (f.0.now, f.1)) result ≡ fault_at self.now.fault index }
     {
         match &self.fault {
-            Some((caret, kind)) if caret.place.line == index => Some((caret, *kind)),
-            _ => None,
+            None => None,
+            Some((caret, kind)) => {
+                if caret.place.line == index {
+                    Some((caret, *kind))
+                } else {
+                    None
+                }
+            }
         }
     }
 
@@ -268,7 +304,8 @@ impl ListingPage {
         before: ReaderState,
         ending: &Ending,
     )
-        ensures page { IsLineAt script.now line → AreLinesOf script.now self.old → IsPage script.now self.new }
+        ensures page { IsLineAt script.now line → AreLinesOf script.now self.old
+            → IsPage script.now (fault_told ending.now.last) self.new }
         ensures whole { length (open_of self.old) ≤ 9 → TakesLast script.now line self.old self.new }
     {
         if line.start >= script.len() {
@@ -286,7 +323,8 @@ impl ListingPage {
 
     /// Shows the statement that is open at the end: the lines that aren't shown yet.
     pub(crate) fn show_open(&mut self, script: &[u8], ending: &Ending)
-        ensures page { AreLinesOf script.now self.old → IsPage script.now self.new }
+        ensures page { AreLinesOf script.now self.old
+            → IsPage script.now (fault_told ending.now.open_statement) self.new }
         ensures whole { shown_of self.new ≡ open_of self.old }
     {
         self.hide();
@@ -300,7 +338,8 @@ impl ListingPage {
         }
     }
 
-    /// Takes the line that begins at a place of the script, as `Session::take_line_into` does, and shows what it answers.
+    /// Takes the line that begins at a place of the script, as `Session::take_line_into` does, and shows what it
+    /// answers.
     pub(crate) fn take_line(
         &mut self,
         session: &mut Session,

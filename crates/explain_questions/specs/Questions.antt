@@ -228,32 +228,58 @@ pub record IsAskedBy (command : Text) (rows : List Row) (q : Question) : Type 0 
 abbrev pub IsWrongWord : {X : Type 0} → Text → (Text → Option X) → List Row → Text → Type 0
 IsWrongWord name of rows text = (first_of name rows ≡ Some text) × (of text ≡ None)
 
-abbrev pub IsWrong : List Row → WordRefusal → Type 0
-IsWrong rows (refusal.NoLine word) = ⊥
-IsWrong rows (refusal.Only word) =
+-- what can be wrong with the arguments of `list`,
+abbrev pub IsListWrong : List Row → WordRefusal → Type 0
+IsListWrong rows (refusal.Only word) =
     (first_of (codes "only") rows ≡ Some word.now) × (bytes_eq word.now (codes "refused") ≡ false)
-IsWrong rows refusal.CheckWithMore =
+IsListWrong rows refusal.CheckWithMore =
     (is_set (codes "check") rows ≡ true) × (is_set (codes "json") rows || is_given (codes "only") rows ≡ true)
-IsWrong rows (refusal.Line word) = IsWrongWord (codes "LINE") line_in rows word.now
-IsWrong rows refusal.LineOverTime =
+IsListWrong rows _ = ⊥
+
+-- of `why`, whose second argument is meant as a line,
+abbrev pub IsWhyWrong : List Row → WordRefusal → Type 0
+IsWhyWrong rows (refusal.Line word) = IsWrongWord (codes "LINE") line_in rows word.now × (is_line word.now ≡ true)
+IsWhyWrong rows _ = ⊥
+
+-- of `report`,
+abbrev pub IsReportWrong : List Row → WordRefusal → Type 0
+IsReportWrong rows (refusal.Line word) = IsWrongWord (codes "LINE") line_in rows word.now
+IsReportWrong rows (refusal.Subpool word) = IsWrongWord (codes "subpool") seen_in rows word.now
+IsReportWrong rows refusal.LineOverTime =
     (is_set (codes "over-time") rows ≡ true) × (is_given (codes "LINE") rows ≡ true)
-IsWrong rows refusal.LongestOfAreas =
+IsReportWrong rows refusal.LongestOfAreas =
     (is_set (codes "longest") rows ≡ true) × (is_set (codes "areas") rows ≡ false)
-IsWrong rows refusal.AreasOverTime =
+IsReportWrong rows refusal.AreasOverTime =
     (is_set (codes "over-time") rows ≡ true) × (is_set (codes "areas") rows ≡ true)
-IsWrong rows refusal.SubpoolAtOnce =
+IsReportWrong rows refusal.SubpoolAtOnce =
     (is_set (codes "over-time") rows ≡ false) × (is_given (codes "subpool") rows ≡ true)
-IsWrong rows (refusal.Address word) =
+IsReportWrong rows _ = ⊥
+
+-- and of `who`
+abbrev pub IsWhoWrong : List Row → WordRefusal → Type 0
+IsWhoWrong rows (refusal.Address word) =
     IsWrongWord (codes "holds") address_number rows word.now
     ⊎ IsWrongWord (codes "taken") address_number rows word.now
     ⊎ IsWrongWord (codes "ADDRESS") address_number rows word.now
-IsWrong rows (refusal.Count word) = IsWrongWord (codes "COUNT") (number_within 1 256) rows word.now
-IsWrong rows (refusal.Register word) = IsWrongWord (codes "register") register_in rows word.now
-IsWrong rows (refusal.Name word) = (first_of (codes "name") rows ≡ Some word.now) × (is_name word.now ≡ false)
-IsWrong rows (refusal.Subpool word) = IsWrongWord (codes "subpool") seen_in rows word.now
-IsWrong rows refusal.NothingAsked = count_asked rows ≡ 0
-IsWrong rows refusal.MoreAsked = 1 < count_asked rows
-IsWrong rows refusal.Settings = settings_asked rows ≡ None
+IsWhoWrong rows (refusal.Count word) = IsWrongWord (codes "COUNT") (number_within 1 256) rows word.now
+IsWhoWrong rows (refusal.Register word) = IsWrongWord (codes "register") register_in rows word.now
+IsWhoWrong rows (refusal.Name word) = (first_of (codes "name") rows ≡ Some word.now) × (is_name word.now ≡ false)
+IsWhoWrong rows (refusal.Subpool word) = IsWrongWord (codes "subpool") seen_in rows word.now
+IsWhoWrong rows refusal.NothingAsked = count_asked rows ≡ 0
+IsWhoWrong rows refusal.MoreAsked = 1 < count_asked rows
+IsWhoWrong rows _ = ⊥
+
+-- what is wrong with the arguments of a command, by its name
+pub record IsWrongFor (command : Text) (rows : List Row) (wrong : WordRefusal) : Type 0 where
+  pub list : command ≡ codes "list" → IsListWrong rows wrong
+  pub why : command ≡ codes "why" → IsWhyWrong rows wrong
+  pub report : command ≡ codes "report" → IsReportWrong rows wrong
+  pub who : command ≡ codes "who" → IsWhoWrong rows wrong
+
+-- Each command refuses settings out of their limits too.
+abbrev pub IsWrong : Text → List Row → WordRefusal → Type 0
+IsWrong command rows wrong =
+    ((wrong ≡ refusal.Settings) × (settings_asked rows ≡ None)) ⊎ IsWrongFor command rows wrong
 
 -- the form of the answer
 abbrev pub form_in : List Row → Form

@@ -8,7 +8,9 @@ ghost use Rattle.operand_texts.specs.Values.{number_of};
 ghost use Rattle.operand_texts.specs.Words as words;
 ghost use Rattle.explain_questions.specs.Questions.{Asks, IsAskable, IsLine, IsOfFile, IsSeenThere, IsThere};
 ghost use Rattle.explain_questions.specs.Questions.{IsAboutAsked, IsAskedBy, IsListAsked, IsReportAsked, IsWhoAsked};
-ghost use Rattle.explain_questions.specs.Questions.{IsWhyAsked, IsWrong, Says, count_asked, count_in, is_given};
+ghost use Rattle.explain_questions.specs.Questions.{IsWhyAsked, Says, count_asked, count_in, is_given};
+ghost use Rattle.explain_questions.specs.Questions.{IsListWrong, IsReportWrong, IsWhoWrong, IsWhyWrong, IsWrong};
+ghost use Rattle.explain_questions.specs.Questions.{IsWrongFor};
 ghost use Rattle.explain_questions.specs.Questions.{is_line};
 ghost use Rattle.explain_questions.specs.Questions.{IsOnly, both, form_in, is_set, line_in, register_in, seen_in};
 ghost use Rattle.explain_questions.specs.Questions.{address_number, hexadecimal, is_marked, is_printed, is_zero_first};
@@ -212,7 +214,7 @@ fn count_of(word: Option<&str>) -> Result<u32, WordRefusal<'_>>
     ensures count { IfOk result (λ n. count_in (option_map (λ s. s.now) word.entry) ≡ Some n) }
     ensures there { IfOk result (λ n. (1 ≤ n) × (n ≤ 256)) }
     ensures refused { (rows : List Row) → option_map (λ s. s.now) word.entry ≡ first_of (codes "COUNT") rows
-        → IfErr result (IsWrong rows) }
+        → IfErr result (IsWhoWrong rows) }
 {
     let Some(word) = word else {
         return Ok(1);
@@ -229,7 +231,7 @@ fn bytes_of<'a>(address: &'a str, count: Option<&'a str>) -> Result<About, WordR
     ensures asked { (rows : List Row) → first_of (codes "ADDRESS") rows ≡ Some address.entry.now
         → option_map (λ s. s.now) count.entry ≡ first_of (codes "COUNT") rows → IfOk result (IsAboutAsked rows) }
     ensures wrong { (rows : List Row) → first_of (codes "ADDRESS") rows ≡ Some address.entry.now
-        → option_map (λ s. s.now) count.entry ≡ first_of (codes "COUNT") rows → IfErr result (IsWrong rows) }
+        → option_map (λ s. s.now) count.entry ≡ first_of (codes "COUNT") rows → IfErr result (IsWhoWrong rows) }
 {
     let address = address_of(address)?;
     let count = count_of(count)?;
@@ -242,7 +244,7 @@ fn register_of(word: &str) -> Result<About, WordRefusal<'_>>
     ensures asked { (rows : List Row) → first_of (codes "register") rows ≡ Some word.entry.now
         → IfOk result (IsAboutAsked rows) }
     ensures wrong { (rows : List Row) → first_of (codes "register") rows ≡ Some word.entry.now
-        → IfErr result (IsWrong rows) }
+        → IfErr result (IsWhoWrong rows) }
 {
     let Some((task, register)) = word.split_once(',') else {
         return Err(WordRefusal::Register(word));
@@ -307,7 +309,7 @@ fn subpool_of(word: &str) -> Result<About, WordRefusal<'_>>
     ensures asked { (rows : List Row) → first_of (codes "subpool") rows ≡ Some word.entry.now
         → IfOk result (IsAboutAsked rows) }
     ensures wrong { (rows : List Row) → first_of (codes "subpool") rows ≡ Some word.entry.now
-        → IfErr result (IsWrong rows) }
+        → IfErr result (IsWhoWrong rows) }
 {
     let (task, number) = seen_of(word)?;
     Ok(About::Subpool { task, number })
@@ -319,7 +321,7 @@ fn holder_of(word: &str) -> Result<About, WordRefusal<'_>>
     ensures asked { (rows : List Row) → first_of (codes "holds") rows ≡ Some word.entry.now
         → IfOk result (IsAboutAsked rows) }
     ensures wrong { (rows : List Row) → first_of (codes "holds") rows ≡ Some word.entry.now
-        → IfErr result (IsWrong rows) }
+        → IfErr result (IsWhoWrong rows) }
 {
     Ok(About::Holder(address_of(word)?))
 }
@@ -330,7 +332,7 @@ fn taken_of(word: &str) -> Result<About, WordRefusal<'_>>
     ensures asked { (rows : List Row) → first_of (codes "taken") rows ≡ Some word.entry.now
         → IfOk result (IsAboutAsked rows) }
     ensures wrong { (rows : List Row) → first_of (codes "taken") rows ≡ Some word.entry.now
-        → IfErr result (IsWrong rows) }
+        → IfErr result (IsWhoWrong rows) }
 {
     Ok(About::Taken(address_of(word)?))
 }
@@ -341,7 +343,7 @@ fn name_of(word: &str) -> Result<About, WordRefusal<'_>>
     ensures asked { (rows : List Row) → first_of (codes "name") rows ≡ Some word.entry.now
         → IfOk result (IsAboutAsked rows) }
     ensures wrong { (rows : List Row) → first_of (codes "name") rows ≡ Some word.entry.now
-        → IfErr result (IsWrong rows) }
+        → IfErr result (IsWhoWrong rows) }
 {
     let text = word.as_bytes();
     if is_name(text) {
@@ -382,7 +384,7 @@ fn is_given(matches: &ArgMatches<'_>, id: &str) -> bool
 fn only_asked(word: Option<&str>) -> Result<bool, WordRefusal<'_>>
     ensures only { IfOk result (IsOnly (option_map (λ s. s.now) word.entry)) }
     ensures wrong { (rows : List Row) → option_map (λ s. s.now) word.entry ≡ first_of (codes "only") rows
-        → IfErr result (IsWrong rows) }
+        → IfErr result (IsListWrong rows) }
 {
     let Some(word) = word else {
         return Ok(false);
@@ -397,7 +399,7 @@ fn only_asked(word: Option<&str>) -> Result<bool, WordRefusal<'_>>
 /// What `list` asks.
 fn list_asked<'a>(matches: &ArgMatches<'a>) -> Result<AskedOfScript<'a>, WordRefusal<'a>>
     ensures asked { IfOk result (λ a. IsListAsked (rows_of (found_of matches.now)) a.0) }
-    ensures wrong { IfErr result (IsWrong (rows_of (found_of matches.now))) }
+    ensures wrong { IfErr result (IsListWrong (rows_of (found_of matches.now))) }
     ensures askable { IfOk result (λ a. IsAskable a.0) }
     ensures file { IfOk result (λ a. IsOfFile (rows_of (found_of matches.now)) a.0 (option_map (λ s. s.now) a.1)) }
 {
@@ -415,7 +417,7 @@ fn list_asked<'a>(matches: &ArgMatches<'a>) -> Result<AskedOfScript<'a>, WordRef
 /// What `why` asks: about a line, or about an answer if its second argument isn't the number of a line.
 fn why_asked<'a>(matches: &ArgMatches<'a>) -> Result<AskedOfScript<'a>, WordRefusal<'a>>
     ensures asked { IfOk result (λ a. IsWhyAsked (rows_of (found_of matches.now)) a.0) }
-    ensures wrong { IfErr result (IsWrong (rows_of (found_of matches.now))) }
+    ensures wrong { IfErr result (IsWhyWrong (rows_of (found_of matches.now))) }
     ensures askable { IfOk result (λ a. IsAskable a.0) }
     ensures file { IfOk result (λ a. IsOfFile (rows_of (found_of matches.now)) a.0 (option_map (λ s. s.now) a.1)) }
 {
@@ -436,7 +438,7 @@ fn line_asked(word: Option<&str>) -> Result<Option<u32>, WordRefusal<'_>>
     ensures there { IfOk result (λ line. IfSome line IsLine) }
     ensures says { IfOk result (Says line_in (option_map (λ s. s.now) word.entry)) }
     ensures wrong { (rows : List Row) → option_map (λ s. s.now) word.entry ≡ first_of (codes "LINE") rows
-        → IfErr result (IsWrong rows) }
+        → IfErr result (IsReportWrong rows) }
 {
     match word {
         Some(word) => Ok(Some(line_of(word)?)),
@@ -449,7 +451,7 @@ fn seen_asked(word: Option<&str>) -> Result<Option<(u8, u8)>, WordRefusal<'_>>
     ensures there { IfOk result (λ seen. IfSome seen IsSeenThere) }
     ensures says { IfOk result (Says seen_in (option_map (λ s. s.now) word.entry)) }
     ensures wrong { (rows : List Row) → option_map (λ s. s.now) word.entry ≡ first_of (codes "subpool") rows
-        → IfErr result (IsWrong rows) }
+        → IfErr result (IsReportWrong rows) }
 {
     match word {
         Some(word) => Ok(Some(seen_of(word)?)),
@@ -460,7 +462,7 @@ fn seen_asked(word: Option<&str>) -> Result<Option<(u8, u8)>, WordRefusal<'_>>
 /// What `report` asks.
 fn report_asked<'a>(matches: &ArgMatches<'a>) -> Result<AskedOfScript<'a>, WordRefusal<'a>>
     ensures asked { IfOk result (λ a. IsReportAsked (rows_of (found_of matches.now)) a.0) }
-    ensures wrong { IfErr result (IsWrong (rows_of (found_of matches.now))) }
+    ensures wrong { IfErr result (IsReportWrong (rows_of (found_of matches.now))) }
     ensures askable { IfOk result (λ a. IsAskable a.0) }
     ensures file { IfOk result (λ a. IsOfFile (rows_of (found_of matches.now)) a.0 (option_map (λ s. s.now) a.1)) }
 {
@@ -509,7 +511,7 @@ fn about_asked<'a>(matches: &ArgMatches<'a>) -> Result<About, WordRefusal<'a>>
     requires { is_set (codes "log") (rows_of (found_of matches.now)) ≡ false }
     ensures there { IfOk result IsThere }
     ensures asked { IfOk result (IsAboutAsked (rows_of (found_of matches.now))) }
-    ensures wrong { IfErr result (IsWrong (rows_of (found_of matches.now))) }
+    ensures wrong { IfErr result (IsWhoWrong (rows_of (found_of matches.now))) }
 {
     if let Some(word) = text_of(matches, "register") {
         register_of(word)
@@ -531,7 +533,7 @@ fn about_asked<'a>(matches: &ArgMatches<'a>) -> Result<About, WordRefusal<'a>>
 /// What `who` asks.
 fn who_asked<'a>(matches: &ArgMatches<'a>) -> Result<AskedOfScript<'a>, WordRefusal<'a>>
     ensures asked { IfOk result (λ a. IsWhoAsked (rows_of (found_of matches.now)) a.0) }
-    ensures wrong { IfErr result (IsWrong (rows_of (found_of matches.now))) }
+    ensures wrong { IfErr result (IsWhoWrong (rows_of (found_of matches.now))) }
     ensures askable { IfOk result (λ a. IsAskable a.0) }
     ensures file { IfOk result (λ a. IsOfFile (rows_of (found_of matches.now)) a.0 (option_map (λ s. s.now) a.1)) }
 {
@@ -552,7 +554,7 @@ fn question_of<'a>(
     matches: &ArgMatches<'a>,
 ) -> Result<AskedOfScript<'a>, WordRefusal<'a>>
     ensures asked { IfOk result (λ a. IsAskedBy command.now (rows_of (found_of matches.now)) a.0) }
-    ensures wrong { IfErr result (IsWrong (rows_of (found_of matches.now))) }
+    ensures wrong { IfErr result (IsWrongFor command.now (rows_of (found_of matches.now))) }
     ensures askable { IfOk result (λ a. IsAskable a.0) }
     ensures file { IfOk result (λ a. IsOfFile (rows_of (found_of matches.now)) a.0 (option_map (λ s. s.now) a.1)) }
 {
@@ -578,7 +580,7 @@ fn form_asked(matches: &ArgMatches<'_>) -> Form
 /// What the arguments of a command ask for, or what is wrong with them.
 fn asking_within<'a>(command: &str, matches: &ArgMatches<'a>) -> Result<Asking<'a>, WordRefusal<'a>>
     ensures asks { IfOk result (Asks command.now (rows_of (found_of matches.now))) }
-    ensures wrong { IfErr result (IsWrong (rows_of (found_of matches.now))) }
+    ensures wrong { IfErr result (IsWrong command.now (rows_of (found_of matches.now))) }
 {
     let Some(settings) = settings_asked(matches) else {
         return Err(WordRefusal::Settings);
@@ -597,7 +599,7 @@ fn asking_within<'a>(command: &str, matches: &ArgMatches<'a>) -> Result<Asking<'
 /// What the arguments ask for that were read, or what is wrong with them. Numbers are read as in a script.
 pub fn asking_of<'a>(matches: &ArgMatches<'a>) -> Result<Asking<'a>, WordRefusal<'a>>
     ensures asks { IfOk result (λ a. IsSomeAnd (subcommand_rows_of matches.now) (λ p. Asks p.0 p.1 a)) }
-    ensures wrong { IfErr result (λ e. IfSome (subcommand_rows_of matches.now) (λ p. IsWrong p.1 e)) }
+    ensures wrong { IfErr result (λ e. IfSome (subcommand_rows_of matches.now) (λ p. IsWrong p.0 p.1 e)) }
 {
     match matches.subcommand() {
         Some((command, within)) => asking_within(command, within),

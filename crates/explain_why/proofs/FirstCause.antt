@@ -1,5 +1,6 @@
 -- What is said of the cause that the bench finds.
-use Rattle.std.proofs.Common.{◌≡◌, ◌↔◌, inl, inr, ℕ, Bool, false, List, Option, Some, None, refl, sym, ap, subst, ◌∙◌}
+use Rattle.std.proofs.Common.{◌≡◌, ◌↔◌, inl, inr, ℕ, Bool, false, List, [], ◌++◌, Option, Some, None, append_assoc, refl, sym, ap, subst, ◌∙◌}
+use Rattle.std.proofs.lemmas.List.{append-nil}
 use Rattle.std.specs.Prelude.{Ok, IfSome, unwrap_or}
 use Rattle.vsm_model.specs.declared.causes.Cause.{Cause}
 use Rattle.vsm_model.specs.declared.limits.Settings.{Settings}
@@ -11,18 +12,21 @@ use Rattle.vsm_model.specs.Services.{Service, obtain}
 use Rattle.vsm_model.specs.declared.causes.Cause.TheVariants.{NoStorage}
 use Rattle.vsm_model.specs.State.{State}
 use Rattle.vsm_model.specs.Step.{causes}
-use Rattle.macro_statements.specs.Requests.{Act, Asked, act, peek, map_asked, back, forward}
+use Rattle.macro_statements.specs.Requests.{Act, Asked, Written, act, peek, map_asked, back, forward}
 use Rattle.vsm_machine.specs.Causes.{is_conditional_get}
-use Rattle.vsm_machine.specs.Machine.{name_asked, service_asked}
+use Rattle.vsm_machine.specs.Machine.{looked_up, name_asked, service_asked}
 use Rattle.storage_core.specs.Meaning.{settings_of, state_of}
 use Rattle.storage_core.specs.declared.storage.Storage.{Storage}
+use Rattle.text_output.specs.Writing.{Puts}
 use Rattle.text_output.specs.declared.writing.Gathered.{Gathered}
+use Rattle.text_output.proofs.Gathering.{puts_both}
+use Rattle.area_reasons.specs.Pages.{pages_text}
 use Rattle.bench_core.specs.Causes.{IsFirstCause}
 use Rattle.place_reasons.specs.Told.{PutsSome, TellsPlace, place_text}
 use Rattle.place_reasons.proofs.Endings.{ending_behind, ending_both, place_behind}
 use Rattle.place_reasons.proofs.NoPlace.{no_place_is_want_of_storage}
 use Rattle.cause_reasons.specs.Told.{IsTold, TellsCause, TellsEffect, TellsService}
-use Rattle.explain_why.specs.Told.{EndsInOne, TellsAct, TellsArea, TellsFirstCause, TellsItsPlace, TellsRequest}
+use Rattle.explain_why.specs.Told.{EndsInOne, PutsAmong, TellsAct, TellsArea, TellsFirstCause, TellsItsPlace, TellsReading, TellsRequest, kept_text, undone_text}
 
 same_service : (o : Option Service) (x y : Service) → o ≡ Some x → o ≡ Some y → x ≡ y
 same_service o x y e f = (let g : ◌≡◌ {A = Option Service} (Some x) (Some y) = sym e ∙ f in cc)
@@ -140,14 +144,55 @@ place_more settings s o old now new a b d some (its, is, ending) = (its, is, end
 one_more : (is : List ℕ → Type 0) (old now new : Option (List ℕ)) (a b d : Gathered) → PutsSome old now a b → EndsInOne is now new b d → EndsInOne is old new a d
 one_more is old now new a b d some (text, says, ending) = (text, says, ending_both old now new a b d text some ending)
 
-pub told_behind : (settings : Settings) (m : NamedState) (x : Asked) (old now new : Option (List ℕ)) (a b d : Gathered) → PutsSome old now a b
-    → TellsRequest settings m x now new b d → TellsRequest settings m x old new a d
-told_behind settings m (act x) old now new a b d some told = λ valid. record {
+among_more : (is : List ℕ → Type 0) (old now new : Option (List ℕ)) (a b d : Gathered) → PutsSome old now a b → PutsAmong is now new b d → PutsAmong is old new a d
+among_more is old now new a b d (first, h) (text, says, (front, behind, k)) = (
+  text,
+  says,
+  (
+    first ++ front,
+    behind,
+    subst (Puts old new a d) (sym (append_assoc first front (text ++ behind))) (puts_both old now new a b d first (front ++ (text ++ behind)) h k),
+  ),
+)
+
+pub told_behind : (settings : Settings) (m : NamedState) (kept undone : ℕ) (x : Asked) (old now new : Option (List ℕ)) (a b d : Gathered) → PutsSome old now a b
+    → TellsRequest settings m kept undone x now new b d → TellsRequest settings m kept undone x old new a d
+told_behind settings m kept undone (act x) old now new a b d some told = λ valid. record {
   cause = λ service cause asked plain first.
       one_more (IsTold settings m.storage service cause) old now new a b d some ((told valid).cause service cause asked plain first);
   area = λ o asked first. place_more settings m.storage o old now new a b d some ((told valid).area o asked first);
 }
-told_behind settings m (peek address len) old now new a b d some told = told
-told_behind settings m map_asked old now new a b d some told = told
-told_behind settings m (back n) old now new a b d some told = told
-told_behind settings m (forward n) old now new a b d some told = told
+told_behind settings m kept undone (peek address count) old now new a b d some told = λ word valid is.
+    among_more (λ text. text ≡ pages_text m.storage word count) old now new a b d some (told word valid is)
+told_behind settings m kept undone map_asked old now new a b d some told = told
+told_behind settings m kept undone (back n) old now new a b d some told = among_more (λ text. text ≡ kept_text kept) old now new a b d some told
+told_behind settings m kept undone (forward n) old now new a b d some told = among_more (λ text. text ≡ undone_text undone) old now new a b d some told
+
+-- ---- a reading, and a step
+
+same_word : (o : Option ℕ) (x y : ℕ) → o ≡ Some x → o ≡ Some y → x ≡ y
+same_word o x y e f = (let g : ◌≡◌ {A = Option ℕ} (Some x) (Some y) = sym e ∙ f in cc)
+
+-- a text between others
+pub among : (is : List ℕ → Type 0) (its : List ℕ) (old now then new : Option (List ℕ)) (a b c d : Gathered) → is its → PutsSome old now a b → Puts now then b c its
+    → PutsSome then new c d → PutsAmong is old new a d
+among is its old now then new a b c d says (front, h) k (behind, l) =
+    (its, says, (front, behind, puts_both old now new a b d front (its ++ behind) h (puts_both now then new b c d its behind k l)))
+
+-- a text after another one
+pub among_last : (is : List ℕ → Type 0) (its : List ℕ) (old now new : Option (List ℕ)) (a b c : Gathered) → is its → PutsSome old now a b → Puts now new b c its
+    → PutsAmong is old new a c
+among_last is its old now new a b c says (front, h) k =
+    (its, says, (front, [], subst (λ x. Puts old new a c (front ++ x)) (sym (append-nil its)) (puts_both old now new a b c front its h k)))
+
+pub some_among : (is : List ℕ → Type 0) (old new : Option (List ℕ)) (a b : Gathered) → PutsAmong is old new a b → PutsSome old new a b
+some_among is old new a b (text, says, (front, behind, h)) = (front ++ (text ++ behind), h)
+
+pub reading_told : (m : NamedState) (s : State) (address : Written) (its count : ℕ) (old new : Option (List ℕ)) (a b : Gathered) → s ≡ m.storage → looked_up m address ≡ Some its
+    → PutsAmong (λ text. text ≡ pages_text s its count) old new a b → TellsReading m address count old new a b
+reading_told m s address its count old new a b same is told = λ word valid looked.
+    subst (λ w. PutsAmong (λ text. text ≡ pages_text m.storage w count) old new a b) (same_word (looked_up m address) its word is looked)
+    (subst (λ t. PutsAmong (λ text. text ≡ pages_text t its count) old new a b) same told)
+
+pub unknown_reading : (m : NamedState) (address : Written) (count : ℕ) (old new : Option (List ℕ)) (a b : Gathered) → looked_up m address ≡ None → TellsReading m address count old new a b
+unknown_reading m address count old new a b none = λ word valid looked. absurd (none_is_some (looked_up m address) word none looked)

@@ -27,12 +27,13 @@ use Rattle.text_output.specs.Writing.{Holds, IsEmpty}
 use Rattle.text_output.specs.declared.writing.Gathered.{Gathered}
 use Rattle.text_output.proofs.Gathering.{empty_holds, puts_both}
 use Rattle.place_reasons.specs.Told.{PutsSome, place_text}
+use Rattle.area_reasons.specs.Pages.{pages_text}
 use Rattle.cause_reasons.specs.Told.{IsTold}
 use Rattle.explain_why.specs.Explained.{IsExplained, IsFound, IsLineStart, IsPlaceOf, IsStatementAt, TakesLine, WritesAhead, WritesOne, WritesRequest}
 use Rattle.explain_why.specs.Answers.{WritesAnswer}
 use Rattle.statement_details.specs.Defined.{IsItsDefinition}
 use Rattle.statement_details.specs.Details.{WritesDetail}
-use Rattle.explain_why.specs.Told.{EndsInOne, IsItsPlace, TellsAhead, TellsItsPlace, TellsRequest}
+use Rattle.explain_why.specs.Told.{EndsInOne, IsItsPlace, PutsAmong, TellsAhead, TellsItsPlace, TellsRequest, kept_text, undone_text}
 use Rattle.statement_details.specs.declared.ahead.NextStatement as ahead
 use Rattle.statement_details.specs.declared.definitions.Definition.{Definition}
 use Rattle.statement_details.specs.declared.ahead.NextStatement.TheVariants as variant
@@ -75,7 +76,7 @@ none_behind script at front (r ∷ rs) inside start cut plain =
 
 -- ---- a statement of the line
 
-awaits : (m : Mode) → IsStand m stand.Awaiting → m ≡ awaiting
+pub awaits : (m : Mode) → IsStand m stand.Awaiting → m ≡ awaiting
 awaits awaiting h = refl
 awaits dropping h = absurd (let f : stand.Awaiting ≡ stand.Dropping = h in cc)
 awaits (gathering n card j count) h = absurd (let f : stand.Awaiting ≡ stand.Gathering = h in cc)
@@ -95,6 +96,7 @@ pub line_taken : (script : List ℕ) (at : ℕ) (old new : Session) (told : Opti
 line_taken script at old new told step is place brings =
     let over : StepsOver script at (Ok (Some step)) = subst (λ (x : Option Step). StepsOver script at (Ok x)) is place in
     record {
+      line = over.1;
       within = over.1.within;
       starts = inr over.1.feed;
       took = λ settings answers took.
@@ -148,27 +150,47 @@ area_written settings s o old now later new a b c none (its, is, (front, puts)) 
       ),
     )
 
-request_written : (settings : Settings) (m : NamedState) (x : Asked) (old now later new : Option (List ℕ)) (a b c : Gathered) → IsEmpty a →
-    TellsRequest settings m x old now a b → PutsSome now later b c →
-    ((first : Option (List ℕ)) (text : List ℕ) → Holds first later c text → Appends first new text) → WritesRequest settings m x old new
-request_written settings m (act x) old now later new a b c none told some finish = λ valid. record {
+-- a text among others
+among_written : (is : List ℕ → Type 0) (old now later new : Option (List ℕ)) (a b c : Gathered) → IsEmpty a → PutsAmong is old now a b → PutsSome now later b c →
+    ((first : Option (List ℕ)) (text : List ℕ) → Holds first later c text → Appends first new text) → WritesOne is old new
+among_written is old now later new a b c none (its, says, (front, behind, puts)) (text, some) finish =
+    let all = puts_both old now later a b c (front ++ (its ++ behind)) text puts some in
+    let same : (front ++ (its ++ behind)) ++ text ≡ front ++ (its ++ (behind ++ text)) =
+    append_assoc front (its ++ behind) text ∙ ap (λ x. front ++ x) (append_assoc its behind text) in (
+      its,
+      says,
+      (
+        front,
+        behind ++ text,
+        subst (Appends old new) same
+            (finish old ((front ++ (its ++ behind)) ++ text) (all old [] (empty_holds old old a [] none (Appends-nil old)))),
+      ),
+    )
+
+request_written : (settings : Settings) (m : NamedState) (kept undone : ℕ) (x : Asked) (old now later new : Option (List ℕ)) (a b c : Gathered) → IsEmpty a →
+    TellsRequest settings m kept undone x old now a b → PutsSome now later b c →
+    ((first : Option (List ℕ)) (text : List ℕ) → Holds first later c text → Appends first new text) → WritesRequest settings m kept undone x old new
+request_written settings m kept undone (act x) old now later new a b c none told some finish = λ valid. record {
   cause = λ service cause asked plain first.
       one_written (IsTold settings m.storage service cause) old now later new a b c none ((told valid).cause service cause asked plain first) some finish;
   area = λ o asked first. area_written settings m.storage o old now later new a b c none ((told valid).area o asked first) some finish;
 }
-request_written settings m (peek address len) old now later new a b c none told some finish = tt
-request_written settings m map_asked old now later new a b c none told some finish = tt
-request_written settings m (back n) old now later new a b c none told some finish = tt
-request_written settings m (forward n) old now later new a b c none told some finish = tt
+request_written settings m kept undone (peek address count) old now later new a b c none told some finish = λ word valid is.
+    among_written (λ text. text ≡ pages_text m.storage word count) old now later new a b c none (told word valid is) some finish
+request_written settings m kept undone map_asked old now later new a b c none told some finish = tt
+request_written settings m kept undone (back n) old now later new a b c none told some finish =
+    among_written (λ text. text ≡ kept_text kept) old now later new a b c none told some finish
+request_written settings m kept undone (forward n) old now later new a b c none told some finish =
+    among_written (λ text. text ≡ undone_text undone) old now later new a b c none told some finish
 
-pub ahead_written : (settings : Settings) (m : NamedState) (x : ahead.NextStatement) (old now later new : Option (List ℕ)) (a b c : Gathered) → IsEmpty a →
-    TellsAhead settings m x old now a b → PutsSome now later b c →
-    ((first : Option (List ℕ)) (text : List ℕ) → Holds first later c text → Appends first new text) → WritesAhead settings m x old new
-ahead_written settings m (variant.Request request) old now later new a b c none told some finish =
-    request_written settings m (asked_in request) old now later new a b c none told some finish
-ahead_written settings m (variant.Fault kind) old now later new a b c none told some finish = tt
-ahead_written settings m variant.Open old now later new a b c none told some finish = tt
-ahead_written settings m variant.Aside old now later new a b c none told some finish = tt
+pub ahead_written : (settings : Settings) (m : NamedState) (kept undone : ℕ) (x : ahead.NextStatement) (old now later new : Option (List ℕ)) (a b c : Gathered) → IsEmpty a →
+    TellsAhead settings m kept undone x old now a b → PutsSome now later b c →
+    ((first : Option (List ℕ)) (text : List ℕ) → Holds first later c text → Appends first new text) → WritesAhead settings m kept undone x old new
+ahead_written settings m kept undone (variant.Request request) old now later new a b c none told some finish =
+    request_written settings m kept undone (asked_in request) old now later new a b c none told some finish
+ahead_written settings m kept undone (variant.Fault kind) old now later new a b c none told some finish = tt
+ahead_written settings m kept undone variant.Open old now later new a b c none told some finish = tt
+ahead_written settings m kept undone variant.Aside old now later new a b c none told some finish = tt
 
 -- ---- and so the statement of the line is explained
 
@@ -177,7 +199,7 @@ all_ok P Q R S (Ok x) f p q h = f x p q h
 all_ok P Q R S (Err e) f p q h = h
 
 pub explained : (settings : Settings) (script : List ℕ) (line : ℕ) (s : Session) (place : LinePlace) (definition : Definition) (old new : Option (List ℕ)) → place.at ≤ length script →
-    (found : IsFound settings script line s place) → (refused : Bool) → WritesAhead (settings_in s.bench) (bench_of s.bench).present place.ahead.asked old new →
+    (found : IsFound settings script line s place) → (refused : Bool) → WritesAhead (settings_in s.bench) (bench_of s.bench).present (length (bench_of s.bench).past) (length (bench_of s.bench).later) place.ahead.asked old new →
     WritesDetail place.first found.its.statement.ahead.lines (bench_of s.bench).present place.ahead.asked definition old new →
     IsItsDefinition settings (bench_of s.bench).present (take place.at script) place.ahead.asked definition →
     WritesAnswer settings script found.before place.first line old new refused → IsExplained settings script line old new refused
@@ -187,8 +209,9 @@ explained settings script line s place definition old new inside found refused t
     let none : took.rest ≡ [] = none_behind script place.at (flat_map with_feed took.lines) took.rest inside found.starts took.within.cut took.within.unended.0 in
     let read : Between awaiting (map columns took.lines) (answers_of found.before) =
     subst (λ m. Between m (map columns took.lines) (answers_of found.before)) found.its.awaits took.told.between in
-    let present : (bench_of s.bench).present ≡ alone_now settings (stands_all settings nothing_stands found.before) =
-    (stands_for settings found.before (bench_of s.bench) took.led).present in
+    let l = stands_all settings nothing_stands found.before in
+    let stands = stands_for settings found.before (bench_of s.bench) took.led in
+    let present : (bench_of s.bench).present ≡ alone_now settings l = stands.present in
     let number : place.first ≡ length took.lines + 1 = its.numbered ∙ ap (λ n. n + 1) took.count in
     record {
       place = place.at;
@@ -206,8 +229,10 @@ explained settings script line s place definition old new inside found refused t
       bears = its.bears;
       from = omega (arith, its.from, took.count);
       to = omega (arith, its.to, its.ahead.count, took.count);
-      tells = subst (λ m. WritesAhead settings m place.ahead.asked old new) present
-          (subst (λ k. WritesAhead k (bench_of s.bench).present place.ahead.asked old new) took.under told);
+      tells = subst (λ n. WritesAhead settings (alone_now settings l) l.kept n place.ahead.asked old new) stands.undone
+          (subst (λ n. WritesAhead settings (alone_now settings l) n (length (bench_of s.bench).later) place.ahead.asked old new) stands.kept
+          (subst (λ m. WritesAhead settings m (length (bench_of s.bench).past) (length (bench_of s.bench).later) place.ahead.asked old new) present
+          (subst (λ k. WritesAhead k (bench_of s.bench).present (length (bench_of s.bench).past) (length (bench_of s.bench).later) place.ahead.asked old new) took.under told)));
       definition = definition;
       defined = subst (λ m. IsItsDefinition settings m (take place.at script) place.ahead.asked definition) present defined;
       detail = subst (λ m. WritesDetail (length took.lines + 1) its.ahead.lines m place.ahead.asked definition old new) present

@@ -2,4 +2,6 @@
 mod Answered
 pub mod FirstCause
 pub mod Found
-mod Objects
+mod Counts
+mod Faulted
+mod Written

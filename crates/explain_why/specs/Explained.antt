@@ -9,24 +9,28 @@ use Rattle.vsm_model.specs.Names.{NamedState, is_one_too_many}
 use Rattle.vsm_model.specs.declared.services.Obtain.{Obtain}
 use Rattle.vsm_model.specs.Areas.{Place}
 use Rattle.vsm_model.specs.Services.{Service, obtain}
-use Rattle.vsm_model.specs.Standing.{nothing_stands}
+use Rattle.vsm_model.specs.declared.replies.Reply.{Reply}
+use Rattle.vsm_model.specs.Standing.{Standing, nothing_stands}
 use Rattle.vsm_model.specs.Step.{causes}
 use Rattle.macro_reader.specs.Columns.{Line}
 use Rattle.macro_reader.specs.Scripts.{Part, Reads, awaiting}
-use Rattle.macro_statements.specs.Requests.{Act, Asked, act, asked_in, IsValidAct}
+use Rattle.macro_statements.specs.Requests.{Act, Asked, act, asked_in, back, forward, map_asked, peek}
+use Rattle.macro_statements.specs.Requests.{IsValidAct, IsValue}
 use Rattle.vsm_machine.specs.Causes.{is_conditional_get}
-use Rattle.vsm_machine.specs.Machine.{name_asked, service_asked}
+use Rattle.vsm_machine.specs.Machine.{looked_up, name_asked, service_asked}
 use Rattle.script_steps.specs.Output.{Marked, AllMet, alone_now, stands_all}
 use Rattle.script_steps.specs.Script.{columns, Within}
+use Rattle.script_steps.specs.Steps.{IsLineOf}
 use Rattle.script_steps.specs.Taken.{Took, answers_of}
 use Rattle.script_steps.specs.declared.session.Session.{Session}
+use Rattle.area_reasons.specs.Pages.{pages_text}
 use Rattle.cause_reasons.specs.Told.{IsTold}
 use Rattle.place_reasons.specs.Told.{place_text}
 use Rattle.statement_details.specs.Ahead.{AreFirst, Asks, IsAhead}
 use Rattle.explain_why.specs.Answers.{WritesAnswer}
 use Rattle.statement_details.specs.Defined.{IsItsDefinition}
 use Rattle.statement_details.specs.Details.{WritesDetail}
-use Rattle.explain_why.specs.Told.{IsItsPlace}
+use Rattle.explain_why.specs.Told.{IsItsPlace, kept_text, undone_text}
 use Rattle.statement_details.specs.declared.ahead.NextStatement as ahead
 use Rattle.statement_details.specs.declared.definitions.Definition.{Definition}
 use Rattle.statement_details.specs.declared.ahead.NextStatement.TheVariants as variant
@@ -57,14 +61,28 @@ pub record WritesAct (settings : Settings) (m : NamedState) (x : Act) (old new :
   pub cause : WritesFirstCause settings m x old new
   pub area : WritesArea settings m x old new
 
--- Of a request that is a statement which can be written; of others nothing is said here.
-abbrev pub WritesRequest : Settings → NamedState → Asked → Option (List ℕ) → Option (List ℕ) → Type 0
-WritesRequest settings m (act x) old new = IsValidAct x → WritesAct settings m x old new
-WritesRequest settings m _ old new = Unit {0}
+-- Of a request: of a statement which can be written; of a reading of bytes at an address which can, whose their pages
+-- are; of a step back or forward how many changes are kept or undone. Of a map nothing is said here.
+abbrev pub WritesRequest : Settings → NamedState → ℕ → ℕ → Asked → Option (List ℕ) → Option (List ℕ) → Type 0
+WritesRequest settings m kept undone (act x) old new = IsValidAct x → WritesAct settings m x old new
+WritesRequest settings m kept undone (peek address count) old new =
+    (word : ℕ) → IsValue address → looked_up m address ≡ Some word
+    → WritesOne (λ text. text ≡ pages_text m.storage word count) old new
+WritesRequest settings m kept undone (back n) old new = WritesOne (λ text. text ≡ kept_text kept) old new
+WritesRequest settings m kept undone (forward n) old new = WritesOne (λ text. text ≡ undone_text undone) old new
+WritesRequest settings m kept undone map_asked old new = Unit {0}
 
-abbrev pub WritesAhead : Settings → NamedState → ahead.NextStatement → Option (List ℕ) → Option (List ℕ) → Type 0
-WritesAhead settings m (variant.Request request) old new = WritesRequest settings m (asked_in request) old new
-WritesAhead settings m _ old new = Unit {0}
+abbrev pub WritesAhead : Settings → NamedState → ℕ → ℕ → ahead.NextStatement → Option (List ℕ) → Option (List ℕ)
+    → Type 0
+WritesAhead settings m kept undone (variant.Request request) old new =
+    WritesRequest settings m kept undone (asked_in request) old new
+WritesAhead settings m kept undone _ old new = Unit {0}
+
+-- The same where these statements are in effect: in their state, run alone.
+abbrev pub WritesStanding : Settings → Standing Act Reply → ahead.NextStatement → Option (List ℕ) → Option (List ℕ)
+    → Type 0
+WritesStanding settings l asked old new =
+    WritesAhead settings (alone_now settings l) l.kept (length l.undone) asked old new
 
 -- A line begins at this place of a script.
 abbrev pub IsLineStart : List ℕ → ℕ → Type 0
@@ -86,6 +104,7 @@ pub record IsPlaceOf (s : Session) (script : List ℕ) (at line : ℕ) (place : 
 
 -- A line from a place on is taken, and the next begins after it.
 pub record TakesLine (script : List ℕ) (at : ℕ) (old new : Session) (next : ℕ) : Type 0 where
+  pub line : IsLineOf script at next
   pub within : next ≤ length script
   pub starts : IsLineStart script next
   pub took : (settings : Settings) (answers : List Marked) → Took settings (take at script) answers old
@@ -100,8 +119,8 @@ pub record IsFound (settings : Settings) (script : List ℕ) (line : ℕ) (s : S
 
 -- The statement of a line in a script is explained: the lines before it are whole parts, with these answers; its own
 -- are the next, of which the line is one; and by what they ask for, what is written has the text of the statement's
--- first cause, or the place of its area, in the state of the statements in effect before it, run alone. It ends in the
--- answer, and says whether that is a refusal.
+-- first cause, the place of its area, whose the pages of a reading are, or how many changes are kept or undone, in the
+-- state of the statements in effect before it, run alone. It ends in the answer, and says whether that is a refusal.
 pub record IsExplained (settings : Settings) (script : List ℕ) (line : ℕ) (old new : Option (List ℕ)) (refused : Bool) :
     Type 0 where
   pub place : ℕ
@@ -119,7 +138,7 @@ pub record IsExplained (settings : Settings) (script : List ℕ) (line : ℕ) (o
   pub bears : asked ≡ variant.Aside → ⊥
   pub from : length lines < line
   pub to : line ≤ length lines + length own
-  pub tells : WritesAhead settings (alone_now settings (stands_all settings nothing_stands before)) asked old new
+  pub tells : WritesStanding settings (stands_all settings nothing_stands before) asked old new
   pub definition : Definition
   pub defined : IsItsDefinition settings (alone_now settings (stands_all settings nothing_stands before))
       (take place script) asked definition

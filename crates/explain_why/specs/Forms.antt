@@ -1,5 +1,5 @@
 -- What is written about the statement of a line, as text or as JSON.
-use Rattle.std.specs.Prelude.{◌≡◌, ℕ, Bool, List, [], Option, Some, Result, Ok, Err, IfOk}
+use Rattle.std.specs.Prelude.{◌≡◌, ℕ, Bool, List, [], Option, Some, Result, Ok, Err}
 use Rattle.std.specs.Io.KnownBytes.{Appends}
 use Rattle.listed_text.specs.declared.json.Form.{Form}
 use Rattle.listed_text.specs.declared.json.Form.TheVariants as form
@@ -7,24 +7,25 @@ use Rattle.reason_objects.specs.Objects.{why_json}
 use Rattle.text_output.specs.Writing.{AppendsFront}
 use Rattle.vsm_model.specs.declared.limits.Settings.{Settings}
 use Rattle.explain_why.specs.Explained.{IsExplained}
+use Rattle.explain_why.specs.Faults.{IsFaultOf}
 use Rattle.explain_why.specs.declared.faults.WhyFault.{WhyFault}
 use Rattle.explain_why.specs.declared.faults.WhyFault.TheVariants as fault
 
--- These are the objects of a text that explains the statement of a line, and says whether it's refused.
-abbrev pub AreItsObjects : Settings → List ℕ → ℕ → List ℕ → Bool → Type 0
-AreItsObjects settings script line json refused =
-    (text : List ℕ) × IsExplained settings script line (Some []) (Some text) refused × (json ≡ why_json text refused)
+-- a text in a form: as it is, or as its objects
+abbrev pub text_in : Form → List ℕ → Bool → List ℕ
+text_in form.Text text refused = text
+text_in form.Json text refused = why_json text refused
 
--- All of the objects are written, or after a write fault a prefix of them; after each other fault nothing is.
-abbrev pub ExplainsAsJson : Settings → List ℕ → ℕ → Option (List ℕ) → Option (List ℕ) → Result Bool WhyFault → Type 0
-ExplainsAsJson settings script line old new (Ok refused) =
-    (json : List ℕ) × AreItsObjects settings script line json refused × Appends old new json
-ExplainsAsJson settings script line old new (Err fault.Write) =
-    (json : List ℕ) × (refused : Bool) × AreItsObjects settings script line json refused × AppendsFront old new json
-ExplainsAsJson settings script line old new (Err _) = Appends old new []
+-- This is in a form a text that explains the statement of a line, and says whether it's refused.
+abbrev pub IsItsText : Settings → List ℕ → Form → ℕ → List ℕ → Bool → Type 0
+IsItsText settings script form line its refused =
+    (text : List ℕ) × IsExplained settings script line (Some []) (Some text) refused × (its ≡ text_in form text refused)
 
--- The statement of a line is explained, as text or by the objects of such a text. What is written as text before a fault
--- is open.
+-- The statement of a line is explained: all of such a text is written, or after a write fault a prefix of it; after each
+-- other fault, which says why the line has none, nothing is.
 abbrev pub Explains : Settings → List ℕ → Form → ℕ → Option (List ℕ) → Option (List ℕ) → Result Bool WhyFault → Type 0
-Explains settings script form.Text line old new outcome = IfOk outcome (IsExplained settings script line old new)
-Explains settings script form.Json line old new outcome = ExplainsAsJson settings script line old new outcome
+Explains settings script form line old new (Ok refused) =
+    (its : List ℕ) × IsItsText settings script form line its refused × Appends old new its
+Explains settings script form line old new (Err fault.Write) =
+    (its : List ℕ) × (refused : Bool) × IsItsText settings script form line its refused × AppendsFront old new its
+Explains settings script form line old new (Err fault) = Appends old new [] × IsFaultOf script line fault

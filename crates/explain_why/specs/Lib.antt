@@ -1,4 +1,5 @@
 pub mod Told
 pub mod Answers
+pub mod Faults
 pub mod Explained
 pub mod Forms

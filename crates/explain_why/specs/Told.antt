@@ -1,5 +1,6 @@
--- What is said of the first cause of a statement.
-use Rattle.std.specs.Prelude.{◌≡◌, ℕ, false, List, ◌++◌, Option, Some, None}
+-- What is said of the first cause of a statement, and of other requests.
+use Rattle.std.specs.Prelude.{◌≡◌, ◌==◌, ℕ, false, List, [], ◌∷◌, ◌++◌, codes, if◌then◌else◌, Option, Some, None}
+use Rattle.std.specs.Fmt.{decimal}
 use Rattle.vsm_model.specs.declared.causes.Cause.{Cause}
 use Rattle.vsm_model.specs.declared.limits.Settings.{Settings}
 use Rattle.vsm_model.specs.Names.{NamedState, is_one_too_many}
@@ -10,11 +11,14 @@ use Rattle.vsm_model.specs.Obtaining.{longest, place_for}
 use Rattle.vsm_model.specs.Services.{Service, obtain}
 use Rattle.vsm_model.specs.State.{State}
 use Rattle.vsm_model.specs.Step.{causes}
-use Rattle.macro_statements.specs.Requests.{Act, Asked, act, asked_in, IsValidAct}
+use Rattle.macro_statements.specs.Requests.{Act, Asked, Written, act, asked_in, back, forward, map_asked, peek}
+use Rattle.macro_statements.specs.Requests.{IsValidAct, IsValue}
 use Rattle.vsm_machine.specs.Causes.{is_conditional_get}
-use Rattle.vsm_machine.specs.Machine.{name_asked, service_asked}
+use Rattle.vsm_machine.specs.Machine.{looked_up, name_asked, service_asked}
 use Rattle.text_output.specs.Writing.{Puts}
 use Rattle.text_output.specs.declared.writing.Gathered.{Gathered}
+use Rattle.area_reasons.specs.Pages.{pages_text}
+use Rattle.place_reasons.specs.Pieces.{line}
 use Rattle.place_reasons.specs.Told.{PutsEnding, place_text}
 use Rattle.cause_reasons.specs.Told.{IsTold}
 use Rattle.statement_details.specs.declared.ahead.NextStatement as ahead
@@ -55,19 +59,47 @@ pub record TellsAct (settings : Settings) (m : NamedState) (x : Act) (old new : 
   pub cause : TellsFirstCause settings m x old new before after
   pub area : TellsArea settings m x old new before after
 
--- Of a request that is a statement which can be written; of others nothing is said here.
-abbrev pub TellsRequest : Settings → NamedState → Asked → Option (List ℕ) → Option (List ℕ) → Gathered → Gathered
-    → Type 0
-TellsRequest settings m (act x) old new before after =
+-- Such a text is among what follows all text before it.
+abbrev pub PutsAmong : (List ℕ → Type 0) → Option (List ℕ) → Option (List ℕ) → Gathered → Gathered → Type 0
+PutsAmong is old new before after =
+    (text : List ℕ) × is text × ((front : List ℕ) × (behind : List ℕ) × Puts old new before after (front ++ (text ++ behind)))
+
+-- how many changes a step can go over, with the words for one and for several
+abbrev pub step_text : ℕ → List ℕ → List ℕ → List ℕ
+step_text n one more = line (decimal n ∷ (if n == 1 then one else more) ∷ [])
+
+abbrev pub kept_text : ℕ → List ℕ
+kept_text kept = step_text kept (codes " change is kept") (codes " changes are kept")
+
+abbrev pub undone_text : ℕ → List ℕ
+undone_text undone = step_text undone (codes " change is undone") (codes " changes are undone")
+
+-- Of a reading of bytes at an address that can be written: whose their pages are.
+abbrev pub TellsReading : NamedState → Written → ℕ → Option (List ℕ) → Option (List ℕ) → Gathered → Gathered → Type 0
+TellsReading m address count old new before after =
+    (word : ℕ) → IsValue address → looked_up m address ≡ Some word
+    → PutsAmong (λ text. text ≡ pages_text m.storage word count) old new before after
+
+-- Of a request: of a statement which can be written; of a reading; of a step back or forward how many changes it can go
+-- over. Of a map nothing is said here.
+abbrev pub TellsRequest : Settings → NamedState → ℕ → ℕ → Asked → Option (List ℕ) → Option (List ℕ) → Gathered
+    → Gathered → Type 0
+TellsRequest settings m kept undone (act x) old new before after =
     IsValidAct x → TellsAct settings m x old new before after
-TellsRequest settings m _ old new before after = Unit {0}
+TellsRequest settings m kept undone (peek address count) old new before after =
+    TellsReading m address count old new before after
+TellsRequest settings m kept undone (back n) old new before after =
+    PutsAmong (λ text. text ≡ kept_text kept) old new before after
+TellsRequest settings m kept undone (forward n) old new before after =
+    PutsAmong (λ text. text ≡ undone_text undone) old new before after
+TellsRequest settings m kept undone map_asked old new before after = Unit {0}
 
 -- The same of what the lines from a place on ask for.
-abbrev pub TellsAhead : Settings → NamedState → ahead.NextStatement → Option (List ℕ) → Option (List ℕ) → Gathered
-    → Gathered → Type 0
-TellsAhead settings m (variant.Request request) old new before after =
-    TellsRequest settings m (asked_in request) old new before after
-TellsAhead settings m _ old new before after = Unit {0}
+abbrev pub TellsAhead : Settings → NamedState → ℕ → ℕ → ahead.NextStatement → Option (List ℕ) → Option (List ℕ)
+    → Gathered → Gathered → Type 0
+TellsAhead settings m kept undone (variant.Request request) old new before after =
+    TellsRequest settings m kept undone (asked_in request) old new before after
+TellsAhead settings m kept undone _ old new before after = Unit {0}
 
 -- Some text follows all text before it, and begins with this one.
 abbrev pub PutsBeginning : Option (List ℕ) → Option (List ℕ) → Gathered → Gathered → List ℕ → Type 0

@@ -1,15 +1,21 @@
 //! Why a statement is answered as it is: its first cause, or the place of its area, with the numbers that decide.
-ghost use Rattle.macro_statements.specs.Requests.{act_in, asked_in, IsValidAct};
+ghost use Rattle.std.specs.Prelude.{◌≡◌, length};
+ghost use Rattle.macro_statements.specs.Requests.{act_in, asked_in, written_in, IsValidAct};
+ghost use Rattle.storage_core.specs.Meaning.{state_of};
 ghost use Rattle.bench_core.specs.Stands.{bench_of, settings_in};
+ghost use Rattle.text_output.specs.Writing.{Puts};
+ghost use Rattle.area_reasons.specs.Pages.{pages_text};
 ghost use Rattle.place_reasons.specs.Told.{PutsSome};
-ghost use Rattle.explain_why.specs.Told.{TellsAct, TellsRequest};
+ghost use Rattle.explain_why.specs.Told.{PutsAmong, TellsAct, TellsReading, TellsRequest, step_text};
 
-use crate::headings::{put_heading, put_number};
+use crate::headings::{put_bytes_heading, put_heading, put_number};
+use area_reasons::put_pages;
 use bench_core::Bench;
-use cause_reasons::{put_bytes, put_cause};
+use cause_reasons::put_cause;
 use macro_reader::{Request, Statement, Value};
-use place_reasons::{Piece, put_line};
+use place_reasons::{Piece, put_free_bytes, put_line};
 use std::io::Write;
+use storage_core::Storage;
 use text_output::Gathered;
 
 /// Puts what a request asks for, and why it gets its answer.
@@ -19,7 +25,8 @@ pub(crate) fn put_reasons<W: Write>(
     bench: &Bench,
     request: &Request,
 )
-    ensures told { TellsRequest (settings_in bench.now) (bench_of bench.now).present (asked_in request.now)
+    ensures told { TellsRequest (settings_in bench.now) (bench_of bench.now).present (length (bench_of bench.now).past)
+        (length (bench_of bench.now).later) (asked_in request.now)
         (W.contents writer.old) (W.contents writer.new) gathered.old gathered.new }
     ensures some { PutsSome (W.contents writer.old) (W.contents writer.new) gathered.old gathered.new }
 {
@@ -62,6 +69,22 @@ fn put_act<W: Write>(gathered: &mut Gathered, writer: &mut W, bench: &Bench, sta
     }
 }
 
+/// Puts which bytes a reading shows, whose their pages are, and which of them are free.
+fn put_bytes<W: Write>(
+    gathered: &mut Gathered,
+    writer: &mut W,
+    storage: &Storage,
+    address: u32,
+    count: u32,
+)
+    ensures { PutsAmong (λ text. text ≡ pages_text (state_of storage.now) address count)
+        (W.contents writer.old) (W.contents writer.new) gathered.old gathered.new }
+{
+    put_bytes_heading(gathered, writer, address, count);
+    put_pages(gathered, writer, storage, address, count);
+    put_free_bytes(gathered, writer, storage, address, count);
+}
+
 /// Puts which bytes a reading shows, and whose their pages are.
 fn put_peek<W: Write>(
     gathered: &mut Gathered,
@@ -70,7 +93,9 @@ fn put_peek<W: Write>(
     address: Value,
     count: u32,
 )
-    ensures { PutsSome (W.contents writer.old) (W.contents writer.new) gathered.old gathered.new }
+    ensures told { TellsReading (bench_of bench.now).present (written_in address) count
+        (W.contents writer.old) (W.contents writer.new) gathered.old gathered.new }
+    ensures some { PutsSome (W.contents writer.old) (W.contents writer.new) gathered.old gathered.new }
 {
     if !address.valid() {
         return;
@@ -83,7 +108,8 @@ fn put_peek<W: Write>(
 
 /// Puts how many changes a step can go over, with the words for one and for several.
 fn put_step<W: Write>(gathered: &mut Gathered, writer: &mut W, n: u32, one: &str, more: &str)
-    ensures { PutsSome (W.contents writer.old) (W.contents writer.new) gathered.old gathered.new }
+    ensures { Puts (W.contents writer.old) (W.contents writer.new) gathered.old gathered.new
+        (step_text n one.now more.now) }
 {
     let text = if n == 1 { one } else { more };
     put_line(gathered, writer, &[Piece::Number(n), Piece::Text(text)]);

@@ -1,6 +1,5 @@
 //! What keeps a line from being explained.
 use bench_core::NewFault;
-use script_steps::TooLong;
 
 /// What keeps a line from being explained.
 #[derive(Clone, Copy)]
@@ -19,10 +18,4 @@ pub enum WhyFault {
     Aside,
     /// The line is dropped: it follows a line that breaks a rule of continuation, whose column 72 isn't blank.
     Dropped,
-}
-
-impl From<TooLong> for WhyFault {
-    fn from(_: TooLong) -> WhyFault {
-        WhyFault::TooLong
-    }
 }

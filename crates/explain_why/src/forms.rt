@@ -1,6 +1,8 @@
 //! Why a line of a script is answered as it is, as text or as JSON.
-ghost use Rattle.std.specs.Prelude.{◌≢◌};
-ghost use Rattle.explain_why.specs.Forms.{Explains, ExplainsAsJson};
+ghost use Rattle.std.specs.Prelude.{◌≢◌, List, ℕ};
+ghost use Rattle.text_output.specs.Writing.{Writes};
+ghost use Rattle.explain_why.specs.Faults.{IsFaultOf};
+ghost use Rattle.explain_why.specs.Forms.{Explains, text_in};
 
 use crate::faults::WhyFault;
 use crate::lines::why_text;
@@ -9,11 +11,13 @@ use reason_objects::write_objects;
 use script_steps::Watch;
 use std::alloc::Global;
 use std::io::Write;
+use text_output::{Gathered, WriteFault};
 use vsm_model::Settings;
 
 /// The fault if no text can be gathered in memory: a write failed if memory ran out.
 fn gathering_fault(fault: WhyFault) -> WhyFault
-    ensures { result ≢ WhyFault.Write }
+    ensures other { result ≢ WhyFault.Write }
+    ensures same { (script : List ℕ) (line : ℕ) → IsFaultOf script line fault → IsFaultOf script line result }
 {
     match fault {
         WhyFault::Write | WhyFault::Memory => WhyFault::Memory,
@@ -25,24 +29,22 @@ fn gathering_fault(fault: WhyFault) -> WhyFault
     }
 }
 
-/// Writes the objects of the text that says why the statement of a line is answered as it is.
-fn why_json<W: Write, P: Watch>(
-    alloc: Global,
-    script: &[u8],
-    settings: Settings,
-    line: u32,
-    out: &mut W,
-    watch: &mut P,
-) -> Result<bool, WhyFault>
-    ensures { ExplainsAsJson settings script.now line (W.contents out.old) (W.contents out.new) result }
+/// Writes a text as it is.
+fn write_text<W: Write>(text: &[u8], out: &mut W) -> Result<(), WriteFault>
+    ensures { Writes (W.contents out.old) (W.contents out.new) text.now result }
 {
-    let mut text = Vec::new(alloc);
-    match why_text(alloc, script, settings, line, &mut text, watch) {
-        Ok(refused) => match write_objects(text.as_slice(), refused, out) {
-            Ok(()) => Ok(refused),
-            Err(_) => Err(WhyFault::Write),
-        },
-        Err(fault) => Err(gathering_fault(fault)),
+    let mut gathered = Gathered::new();
+    gathered.put(out, text);
+    gathered.hand_out(out)
+}
+
+/// Writes in this form a text that says why a statement is answered as it is.
+fn write_in<W: Write>(form: Form, text: &[u8], refused: bool, out: &mut W) -> Result<(), WriteFault>
+    ensures { Writes (W.contents out.old) (W.contents out.new) (text_in form text.now refused) result }
+{
+    match form {
+        Form::Text => write_text(text, out),
+        Form::Json => write_objects(text, refused, out),
     }
 }
 
@@ -52,9 +54,8 @@ fn why_json<W: Write, P: Watch>(
 /// The lines before it are carried out on a new bench under the settings; `watch` is called for each.
 ///
 /// `New` if no such bench can be made; `TooLong` if a byte up to the statement's end passes a bound; `NoLine`, `Aside`
-/// and `Dropped` if the line belongs to no statement; `Memory` if there is no memory for the text that JSON is made of;
-/// `Write` if a write fails. As JSON, after `Write` a prefix of the objects was written, after each other fault
-/// nothing; as text, a prefix at most.
+/// and `Dropped` if the line belongs to no statement; `Memory` if there is no memory for the text; `Write` if a write
+/// fails. After `Write` a prefix was written, after each other fault nothing.
 pub fn why<W: Write, P: Watch>(
     alloc: Global,
     script: &[u8],
@@ -66,8 +67,12 @@ pub fn why<W: Write, P: Watch>(
 ) -> Result<bool, WhyFault>
     ensures { Explains settings script.now form line (W.contents out.old) (W.contents out.new) result }
 {
-    match form {
-        Form::Text => why_text(alloc, script, settings, line, out, watch),
-        Form::Json => why_json(alloc, script, settings, line, out, watch),
+    let mut text = Vec::new(alloc);
+    match why_text(alloc, script, settings, line, &mut text, watch) {
+        Ok(refused) => match write_in(form, text.as_slice(), refused, out) {
+            Ok(()) => Ok(refused),
+            Err(_) => Err(WhyFault::Write),
+        },
+        Err(fault) => Err(gathering_fault(fault)),
     }
 }

@@ -255,6 +255,28 @@ fn put_named<'x, W: Write>(gathered: &mut Gathered, writer: &mut W, words: &'x s
     );
 }
 
+/// Puts which bytes a reading shows.
+pub(crate) fn put_bytes_heading<W: Write>(
+    gathered: &mut Gathered,
+    writer: &mut W,
+    address: u32,
+    count: u32,
+)
+    ensures { PutsSome (W.contents writer.old) (W.contents writer.new) gathered.old gathered.new }
+{
+    put_pieces(
+        gathered,
+        writer,
+        &[
+            Piece::Number(count),
+            Piece::Text(bytes_word(count)),
+            Piece::Text(" at "),
+            Piece::Address(address),
+            Piece::Text("\n"),
+        ],
+    );
+}
+
 /// What is wrong with a statement of this fault.
 fn fault_text(kind: FaultKind) -> &'static str {
     match kind {

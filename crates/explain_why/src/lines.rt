@@ -1,5 +1,6 @@
 //! Why a line of a script is answered as it is.
-ghost use Rattle.std.specs.Prelude.{◌≡◌, ◌≤◌, ◌++◌, [], List, ℕ, IfOk, IfSome, OnOk, codes, decimal, drop, length};
+ghost use Rattle.std.specs.Prelude.{◌≡◌, ◌≢◌, ◌+◌, ◌≤◌, ◌++◌, [], List, ℕ, IfErr, IfNone, IfOk, IfSome, OnOk};
+ghost use Rattle.std.specs.Prelude.{codes, decimal, drop, length};
 ghost use Rattle.std.specs.Prelude.{map, take};
 ghost use Rattle.vsm_model.specs.declared.limits.Settings.{Settings};
 ghost use Rattle.macro_reader.specs.Columns.{Line, used};
@@ -13,6 +14,7 @@ ghost use Rattle.bench_core.specs.Stands.{bench_of, settings_in};
 ghost use Rattle.place_reasons.specs.Told.{PutsSome};
 ghost use Rattle.explain_why.specs.Explained.{IsExplained, IsFound, IsPlaceOf, IsStatementAt, TakesLine};
 ghost use Rattle.explain_why.specs.Explained.{WritesAhead};
+ghost use Rattle.explain_why.specs.Faults.{IsFaultOf, IsLastFault, IsOtherFault, IsPlaceFault, IsStatementFault};
 ghost use Rattle.explain_why.specs.Answers.{PutsAnswer, WritesAnswer, answer_text, first_text, goes_on_text};
 ghost use Rattle.explain_why.specs.Answers.{no_memory_text, note_text, tells_refusal};
 ghost use Rattle.statement_details.specs.Defined.{IsItsDefinition};
@@ -52,7 +54,9 @@ fn statement_at(
     line: u32,
 ) -> Result<Option<LinePlace>, WhyFault>
     requires { at ≤ length script.now }
-    ensures { IfOk result (λ found. IfSome found (IsStatementAt script.now at first line)) }
+    ensures found { IfOk result (λ found. IfSome found (IsStatementAt script.now at first line)) }
+    ensures none { IfOk result (λ found. IfNone found (line ≢ first)) }
+    ensures fault { IfErr result (IsStatementFault script.now at first line) }
 {
     if line < first || line - first >= STATEMENT_LINES {
         return Ok(None);
@@ -75,13 +79,17 @@ fn place_of(
     line: u32,
 ) -> Result<Option<LinePlace>, WhyFault>
     requires { at ≤ length script.now }
-    ensures { IfOk result (λ found. IfSome found (IsPlaceOf session.now script.now at line)) }
+    ensures found { IfOk result (λ found. IfSome found (IsPlaceOf session.now script.now at line)) }
+    ensures none { IfOk result (λ found. IfNone found (line ≢ session.now.lines + 1)) }
+    ensures fault { IfErr result (IsPlaceFault session.now script.now at line) }
 {
     let first = session.lines() + 1;
     match session.stand() {
         ReaderState::Awaiting => statement_at(script, at, first, line),
         ReaderState::Dropping if first == line => Err(WhyFault::Dropped),
-        _ => Ok(None),
+        // The statement of a line that goes on with it is found at its first line.
+        ReaderState::Gathering if first == line => Err(WhyFault::TooLong),
+        ReaderState::Dropping | ReaderState::Gathering => Ok(None),
     }
 }
 
@@ -93,14 +101,16 @@ fn take_next<P: Watch>(
     watch: &mut P,
 ) -> Result<usize, WhyFault>
     requires { at ≤ length script.now }
-    ensures { IfOk result (TakesLine script.now at session.old session.new) }
+    ensures taken { IfOk result (TakesLine script.now at session.old session.new) }
+    ensures fault { IfErr result (IsLastFault session.old script.now at) }
 {
+    let last = session.lines() + 1;
     match session.take_line(script, at) {
         Ok(Some(step)) => {
             watch.line(session.lines());
             Ok(step.next)
         }
-        Ok(None) => Err(WhyFault::NoLine(session.lines() + 1)),
+        Ok(None) => Err(WhyFault::NoLine(last)),
         Err(_) => Err(WhyFault::TooLong),
     }
 }
@@ -115,6 +125,8 @@ fn seek<P: Watch>(
     ensures within { IfOk result (λ place. place.at ≤ length script.now) }
     ensures found { (settings : Settings) → Took settings [] [] session.old
         → IfOk result (IsFound settings script.now line session.new) }
+    ensures fault { (settings : Settings) → Took settings [] [] session.old
+        → IfErr result (IsFaultOf script.now line) }
 {
     let mut at = 0;
     for _ in 0..LINES {
@@ -168,7 +180,8 @@ fn put_why<W: Write>(
     line: u32,
     place: &LinePlace,
 )
-    ensures told { TellsAhead (settings_in bench.now) (bench_of bench.now).present place.now.ahead.asked
+    ensures told { TellsAhead (settings_in bench.now) (bench_of bench.now).present (length (bench_of bench.now).past)
+        (length (bench_of bench.now).later) place.now.ahead.asked
         (W.contents writer.old) (W.contents writer.new) gathered.old gathered.new }
     ensures begins { PutsBeginning (W.contents writer.old) (W.contents writer.new) gathered.old gathered.new
         (first_text place.now.first line) }
@@ -266,6 +279,7 @@ fn put_answer_at_end<W: Write>(
     ensures answer { (settings : Settings) (given : List ℕ) (before : List Marked) → Took settings given before session
         → IfOk result (PutsAnswer settings (given ++ rest.now) before
         (W.contents writer.old) (W.contents writer.new) gathered.old gathered.new) }
+    ensures other { IfErr result IsOtherFault }
 {
     let mut session = session;
     match session.take_bytes(rest) {
@@ -297,6 +311,7 @@ fn put_answer_at<W: Write>(
     ensures answer { (settings : Settings) (before : List Marked) → Took settings (take at script.now) before session
         → IfOk result (PutsAnswer settings script.now before
         (W.contents writer.old) (W.contents writer.new) gathered.old gathered.new) }
+    ensures other { IfErr result IsOtherFault }
 {
     let mut session = session;
     let mut at = at;
@@ -324,7 +339,8 @@ fn put_answer_at<W: Write>(
 
 /// A session on a new bench under these settings.
 fn new_session(alloc: Global, settings: Settings) -> Result<Session, WhyFault>
-    ensures { IfOk result (λ session. Took settings [] [] session) }
+    ensures took { IfOk result (λ session. Took settings [] [] session) }
+    ensures other { IfErr result IsOtherFault }
 {
     match Bench::new(alloc, settings) {
         Ok(bench) => Ok(Session::new(bench)),
@@ -342,13 +358,17 @@ fn definition_before<P: Watch>(
     asked: &NextStatement,
     watch: &mut P,
 ) -> Result<Definition, WhyFault>
-    ensures { IfOk result (IsItsDefinition settings (bench_of bench.now).present before.now asked.now) }
+    ensures its { IfOk result (IsItsDefinition settings (bench_of bench.now).present before.now asked.now) }
+    ensures other { IfErr result IsOtherFault }
 {
     match asked {
         NextStatement::Request(request) => match undefined_name(bench, request) {
             Some(name) => {
                 let again = new_session(alloc, settings)?;
-                Ok(definition_of(again, before, &name, watch)?)
+                match definition_of(again, before, &name, watch) {
+                    Ok(definition) => Ok(definition),
+                    Err(_) => Err(WhyFault::TooLong),
+                }
             }
             None => Ok(Definition::Missing),
         },
@@ -370,6 +390,7 @@ fn tell<W: Write>(
 ) -> Result<bool, WhyFault>
     requires { place.now.at ≤ length script.now }
     ensures told { OnOk result (WritesAhead (settings_in session.bench) (bench_of session.bench).present
+        (length (bench_of session.bench).past) (length (bench_of session.bench).later)
         place.now.ahead.asked (W.contents out.old) (W.contents out.new)) }
     ensures detail { (own : List Line) → map (card_in (drop place.now.at script.now))
         place.now.ahead.places.lines.items ≡ map used own
@@ -379,6 +400,7 @@ fn tell<W: Write>(
         → Took settings (take place.now.at script.now) before session
         → IfOk result (WritesAnswer settings script.now before place.now.first line
         (W.contents out.old) (W.contents out.new)) }
+    ensures other { IfErr result IsOtherFault }
 {
     let mut gathered = Gathered::new();
     put_why(&mut gathered, out, session.bench(), line, place);
@@ -409,7 +431,8 @@ pub(crate) fn why_text<W: Write, P: Watch>(
     out: &mut W,
     watch: &mut P,
 ) -> Result<bool, WhyFault>
-    ensures { IfOk result (IsExplained settings script.now line (W.contents out.old) (W.contents out.new)) }
+    ensures explained { IfOk result (IsExplained settings script.now line (W.contents out.old) (W.contents out.new)) }
+    ensures fault { IfErr result (IsFaultOf script.now line) }
 {
     let mut session = new_session(alloc, settings)?;
     let place = seek(&mut session, script, line, watch)?;

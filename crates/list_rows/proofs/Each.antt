@@ -13,7 +13,7 @@ use Rattle.text_output.specs.Writing.{Puts}
 use Rattle.text_output.specs.declared.writing.Gathered.{Gathered}
 use Rattle.text_output.proofs.Gathering.{puts_both, puts_none}
 use Rattle.statement_faults.specs.declared.lines.SourceLine.{SourceLine}
-use Rattle.list_rows.specs.Rows.{PutsChecks, PutsEach, PutsRows, PutsWith, IsCheckLine, IsLineAt, IsRowOf, Remark, check_text, lines_of, loss_text, of_fault, of_loss, Row, position_text, remark_text, row_in}
+use Rattle.list_rows.specs.Rows.{AreMarksOf, PutsChecks, PutsEach, PutsRows, PutsWith, IsCheckLine, IsLineAt, IsRowOf, Mark, Remark, check_text, lines_of, marks_of, loss_text, of_fault, of_loss, Row, position_text, remark_text, row_in}
 use Rattle.list_rows.specs.Rows.{source, lost, faulty, warned, on_file, fault_text, words_in}
 
 -- none
@@ -64,20 +64,31 @@ lines_push (faulty line place width kind words hint ∷ xs) ys = lines_push xs y
 lines_push (warned line place width words ∷ xs) ys = lines_push xs ys
 lines_push (on_file words ∷ xs) ys = lines_push xs ys
 
-pub rows_no : (fm : Form) (script : List ℕ) (now : Option (List ℕ)) (g : Gathered) → PutsRows fm script [] now now g g
-rows_no fm script now g = ([], tt, refl, puts_none now g)
+-- and the carets
+marks_push : (xs ys : List Row) → marks_of (xs ++ ys) ≡ marks_of xs ++ marks_of ys
+marks_push [] ys = refl
+marks_push (source line ∷ xs) ys = marks_push xs ys
+marks_push (lost line before ∷ xs) ys = marks_push xs ys
+marks_push (faulty line place width kind words hint ∷ xs) ys =
+    ap (λ t. record { line = line; place = place; width = width; kind = kind } ∷ t) (marks_push xs ys)
+marks_push (warned line place width words ∷ xs) ys = marks_push xs ys
+marks_push (on_file words ∷ xs) ys = marks_push xs ys
 
-pub row_one : (fm : Form) (script : List ℕ) (lines : List SourceLine) (old new : Option (List ℕ)) (f g : Gathered) (r : Row) → lines_of (r ∷ []) ≡ lines → IsRowOf script r
-    → Puts old new f g (row_in fm script r) → PutsRows fm script lines old new f g
-row_one fm script lines old new f g r same is p =
-    (r ∷ [], (is, tt), same, subst (Puts old new f g) (sym (flat_map-cons (row_in fm script) r [] ∙ append-nil (row_in fm script r))) p)
+pub rows_no : (fm : Form) (script : List ℕ) (now : Option (List ℕ)) (g : Gathered) → PutsRows fm script [] [] now now g g
+rows_no fm script now g = ([], tt, refl, refl, puts_none now g)
 
-pub rows_both : (fm : Form) (script : List ℕ) (xs ys : List SourceLine) (old mid new : Option (List ℕ)) (f g h : Gathered) → PutsRows fm script xs old mid f g
-    → PutsRows fm script ys mid new g h → PutsRows fm script (xs ++ ys) old new f h
-rows_both fm script xs ys old mid new f g h (rs, is, a, p) (ss, are, b, q) = (
+pub row_one : (fm : Form) (script : List ℕ) (lines : List SourceLine) (marks : List Mark) (old new : Option (List ℕ)) (f g : Gathered) (r : Row) → lines_of (r ∷ []) ≡ lines
+    → marks_of (r ∷ []) ≡ marks → IsRowOf script r → Puts old new f g (row_in fm script r) → PutsRows fm script lines marks old new f g
+row_one fm script lines marks old new f g r same its is p =
+    (r ∷ [], (is, tt), same, its, subst (Puts old new f g) (sym (flat_map-cons (row_in fm script) r [] ∙ append-nil (row_in fm script r))) p)
+
+pub rows_both : (fm : Form) (script : List ℕ) (xs ys : List SourceLine) (ms ns : List Mark) (old mid new : Option (List ℕ)) (f g h : Gathered) → PutsRows fm script xs ms old mid f g
+    → PutsRows fm script ys ns mid new g h → PutsRows fm script (xs ++ ys) (ms ++ ns) old new f h
+rows_both fm script xs ys ms ns old mid new f g h (rs, is, a, i, p) (ss, are, b, j, q) = (
   rs ++ ss,
   each_append (IsRowOf script) rs ss is are,
-  lines_push rs ss ∙ (λ i. a i ++ b i),
+  lines_push rs ss ∙ (λ k. a k ++ b k),
+  marks_push rs ss ∙ (λ k. i k ++ j k),
   subst (Puts old new f h) (sym (flat_map-append (row_in fm script) rs ss))
       (puts_both old mid new f g h (flat_map (row_in fm script) rs) (flat_map (row_in fm script) ss) p q),
 )
@@ -90,6 +101,16 @@ sources_are script (line ∷ ls) h = (h.0, sources_are script ls h.1)
 pub lines_of_sources : (ls : List SourceLine) → lines_of (map source ls) ≡ ls
 lines_of_sources [] = refl
 lines_of_sources (line ∷ ls) = ap (λ t. line ∷ t) (lines_of_sources ls)
+
+pub marks_of_sources : (ls : List SourceLine) → marks_of (map source ls) ≡ []
+marks_of_sources [] = refl
+marks_of_sources (line ∷ ls) = marks_of_sources ls
+
+-- the carets among rows with these lines
+pub rows_marks : (script : List ℕ) (kind : Option FaultKind) (rows : List Row) (lines : List SourceLine) (marks : List Mark) → lines_of rows ≡ lines → marks_of rows ≡ marks
+    → AreMarksOf script lines kind marks → AreMarksOf script (lines_of rows) kind (marks_of rows)
+rows_marks script kind rows lines marks has its h =
+    subst (λ ls. AreMarksOf script ls kind (marks_of rows)) (sym has) (subst (AreMarksOf script lines kind) (sym its) h)
 
 -- a line on a place in a file
 pub checked_by : (name : List ℕ) (number place : ℕ) (said : Remark) (old mid new : Option (List ℕ)) (f g h : Gathered)

@@ -1,6 +1,6 @@
 -- The rows of a listing around its answers: each a line of text, or an object of JSON.
 use Rattle.std.specs.Prelude.{◌≡◌, ◌≤◌, ◌<◌, ◌⊎◌, ℕ, ◌+◌, ◌-◌, min, List, [], ◌∷◌, ◌++◌, length, take, drop, codes}
-use Rattle.std.specs.Prelude.{if◌then◌else◌, nat_lt, slice_get, slice_index, slice_index_or, Some}
+use Rattle.std.specs.Prelude.{if◌then◌else◌, nat_lt, slice_get, slice_index, slice_index_or, Some, None}
 use Rattle.std.specs.Prelude.{Option, replicate}
 use Rattle.std.specs.Fmt.{decimal}
 use Rattle.std.specs.List.{flat_map, AllByRecursion}
@@ -12,7 +12,7 @@ use Rattle.listed_text.specs.declared.json.Form.TheVariants as form
 use Rattle.macro_operands.specs.declared.faults.FaultKind.{FaultKind}
 use Rattle.script_steps.specs.Responses.{fault_word}
 use Rattle.script_steps.specs.Script.{NoFeed, with_feed}
-use Rattle.statement_faults.specs.Places.{caret_width, first_card, further_cards, line_in, MarksOperand}
+use Rattle.statement_faults.specs.Places.{caret_width, first_card, further_cards, line_in, IsCaretOf}
 use Rattle.statement_faults.specs.declared.carets.Caret.{Caret}
 use Rattle.statement_faults.specs.declared.lines.SourceLine.{SourceLine}
 use Rattle.text_output.specs.Writing.{Puts}
@@ -155,23 +155,12 @@ pub record IsLineAt (script : List ℕ) (line : SourceLine) : Type 0 where
 abbrev pub IsLineBefore : List ℕ → SourceLine → SourceLine → Type 0
 IsLineBefore script line before = IsLineAt script before × (before.number + 1 ≡ line.number)
 
--- The caret of a fault is on this line, in this column, and marks this many bytes: it's that of a statement of some
--- lines of the script, this one among them.
-pub record IsCaretAt (script : List ℕ) (line : SourceLine) (place count : ℕ) (kind : FaultKind) : Type 0 where
-  pub lines : List SourceLine
-  pub each : AllByRecursion (IsLineAt script) lines
-  pub caret : Caret
-  pub marks : MarksOperand (first_card script lines) (further_cards script lines) kind caret
-  pub on : slice_get lines caret.place.line ≡ Some line
-  pub column : place ≡ caret.place.column
-  pub width : count ≡ caret_width kind caret
-
 -- A row is on a line of the script, and free words end no line.
 abbrev pub IsRowOf : List ℕ → Row → Type 0
 IsRowOf script (source line) = IsLineAt script line
 IsRowOf script (lost line before) = IsLineAt script line × IsLineBefore script line before
 IsRowOf script (faulty line place width kind words hint) =
-    IsLineAt script line × NoFeed words × NoFeed hint × IsCaretAt script line place width kind
+    IsLineAt script line × NoFeed words × NoFeed hint
 IsRowOf script (warned line place width words) = IsLineAt script line × NoFeed words
 IsRowOf script (on_file words) = NoFeed words
 
@@ -202,6 +191,46 @@ lines_of (faulty line place width kind words hint ∷ rows) = lines_of rows
 lines_of (warned line place width words ∷ rows) = lines_of rows
 lines_of (on_file words ∷ rows) = lines_of rows
 
+-- A caret: the line that it's on, its column, how many bytes it marks there, and the fault.
+pub record Mark : Type 0 where
+  pub line : SourceLine
+  pub place : ℕ
+  pub width : ℕ
+  pub kind : FaultKind
+
+-- The carets among rows,
+abbrev pub marks_of : List Row → List Mark
+marks_of [] = []
+marks_of (source line ∷ rows) = marks_of rows
+marks_of (lost line before ∷ rows) = marks_of rows
+marks_of (faulty line place width kind words hint ∷ rows) =
+    record { line = line; place = place; width = width; kind = kind } ∷ marks_of rows
+marks_of (warned line place width words ∷ rows) = marks_of rows
+marks_of (on_file words ∷ rows) = marks_of rows
+
+-- that of the code,
+abbrev pub mark_of : SourceLine → Caret × FaultKind → Mark
+mark_of line f = record { line = line; place = f.0.place.column; width = caret_width f.1 f.0; kind = f.1 }
+
+-- and the one on a line, if there is one.
+abbrev pub marks_on : SourceLine → Option (Caret × FaultKind) → List Mark
+marks_on line None = []
+marks_on line (Some f) = mark_of line f ∷ []
+
+-- The caret is that of a fault over these lines, and on one of them.
+pub record IsMarkAt (script : List ℕ) (lines : List SourceLine) (mark : Mark) : Type 0 where
+  pub caret : Caret
+  pub own : IsCaretOf (first_card script lines) (further_cards script lines) mark.kind caret
+  pub on : slice_get lines caret.place.line ≡ Some mark.line
+  pub column : mark.place ≡ caret.place.column
+  pub width : mark.width ≡ caret_width mark.kind caret
+
+-- Over lines with this fault, if any, there is no caret, or that of the fault.
+abbrev pub AreMarksOf : List ℕ → List SourceLine → Option FaultKind → List Mark → Type 0
+AreMarksOf script lines kind [] = Unit {0}
+AreMarksOf script lines kind (mark ∷ []) = (kind ≡ Some mark.kind) × IsMarkAt script lines mark
+AreMarksOf script lines kind _ = ⊥
+
 -- This was put, then free words, and a line feed.
 abbrev pub PutsWith : List ℕ → Option (List ℕ) → Option (List ℕ) → Gathered → Gathered → Type 0
 PutsWith front old new before after =
@@ -213,11 +242,11 @@ abbrev pub PutsEach : {X : Type 0} → (X → List ℕ) → (X → Type 0) → O
 PutsEach text Is old new before after =
     (xs : List _) × AllByRecursion Is xs × Puts old new before after (flat_map text xs)
 
--- Rows were put in this form, with these lines of the script among them.
-abbrev pub PutsRows : Form → List ℕ → List SourceLine → Option (List ℕ) → Option (List ℕ) → Gathered → Gathered
-    → Type 0
-PutsRows f script lines old new before after =
-    (rows : List Row) × AllByRecursion (IsRowOf script) rows × (lines_of rows ≡ lines)
+-- Rows were put in this form, with these lines of the script and these carets among them.
+abbrev pub PutsRows : Form → List ℕ → List SourceLine → List Mark → Option (List ℕ) → Option (List ℕ) → Gathered
+    → Gathered → Type 0
+PutsRows f script lines marks old new before after =
+    (rows : List Row) × AllByRecursion (IsRowOf script) rows × (lines_of rows ≡ lines) × (marks_of rows ≡ marks)
     × Puts old new before after (flat_map (row_in f script) rows)
 
 abbrev pub PutsChecks : List ℕ → Option (List ℕ) → Option (List ℕ) → Gathered → Gathered → Type 0

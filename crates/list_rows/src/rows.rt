@@ -1,12 +1,12 @@
 //! What is in a listing around the answers: lines of the script, carets and warnings.
-ghost use Rattle.std.specs.Prelude.{◌≡◌, ◌≤◌, ℕ, List, [], ◌∷◌, IfSome, codes, length, take};
+ghost use Rattle.std.specs.Prelude.{◌≡◌, ◌≤◌, ℕ, List, [], ◌∷◌, IfSome, codes, length, option_map, take};
 ghost use Rattle.listed_text.specs.Columns.{column};
 ghost use Rattle.listed_text.specs.Letters.{shown};
 ghost use Rattle.statement_faults.specs.Places.{caret_width, line_in};
 ghost use Rattle.text_output.specs.Writing.{Puts};
-ghost use Rattle.list_rows.specs.Rows.{IsCaretAt, IsLineAt, IsLineBefore, PutsRows, column_72};
-ghost use Rattle.list_rows.specs.Rows.{fault_text, faulty, line_text, loss_in, lost, more_text, on_file};
-ghost use Rattle.list_rows.specs.Rows.{pointer_text};
+ghost use Rattle.list_rows.specs.Rows.{IsLineAt, IsLineBefore, PutsRows, column_72};
+ghost use Rattle.list_rows.specs.Rows.{fault_text, faulty, line_text, loss_in, lost, mark_of, marks_on, more_text};
+ghost use Rattle.list_rows.specs.Rows.{on_file, pointer_text};
 ghost use Rattle.list_rows.specs.Rows.{row_in, row_text, source, warned, warning_text};
 
 use crate::objects::{put_dropped_object, put_fault_object, put_warning_object};
@@ -169,7 +169,7 @@ fn put_own_text<W: Write>(
     lost: Option<SourceLine>,
 )
     ensures { IsLineAt script.now line.now → IfSome lost (IsLineBefore script.now line.now)
-        → PutsRows Form.Text script.now (line.now ∷ []) (W.contents writer.old) (W.contents writer.new) gathered.old
+        → PutsRows Form.Text script.now (line.now ∷ []) [] (W.contents writer.old) (W.contents writer.new) gathered.old
         gathered.new }
 {
     match lost {
@@ -187,7 +187,7 @@ fn put_own_object<W: Write>(
     lost: Option<SourceLine>,
 )
     ensures { IsLineAt script.now line.now → IfSome lost (IsLineBefore script.now line.now)
-        → PutsRows Form.Json script.now (line.now ∷ []) (W.contents writer.old) (W.contents writer.new) gathered.old
+        → PutsRows Form.Json script.now (line.now ∷ []) [] (W.contents writer.old) (W.contents writer.new) gathered.old
         gathered.new }
 {
     if let Some(before) = lost {
@@ -211,7 +211,7 @@ fn put_own_row<W: Write>(
     lost: Option<SourceLine>,
 )
     ensures { IsLineAt script.now line.now → IfSome lost (IsLineBefore script.now line.now)
-        → PutsRows form script.now (line.now ∷ []) (W.contents writer.old) (W.contents writer.new) gathered.old
+        → PutsRows form script.now (line.now ∷ []) [] (W.contents writer.old) (W.contents writer.new) gathered.old
         gathered.new }
 {
     match form {
@@ -253,7 +253,7 @@ fn put_warned<W: Write>(
     warned: Warned,
 )
     ensures { IsLineAt script.now line.now
-        → PutsRows form script.now [] (W.contents writer.old) (W.contents writer.new) gathered.old gathered.new }
+        → PutsRows form script.now [] [] (W.contents writer.old) (W.contents writer.new) gathered.old gathered.new }
 {
     if let Some((place, warning)) = warned {
         let words = one_line(warning.text());
@@ -271,7 +271,7 @@ fn put_warnings<W: Write>(
     stand: &LineStand,
 )
     ensures { IsLineAt script.now line.now
-        → PutsRows form script.now [] (W.contents writer.old) (W.contents writer.new) gathered.old gathered.new }
+        → PutsRows form script.now [] [] (W.contents writer.old) (W.contents writer.new) gathered.old gathered.new }
 {
     for kind in 0..KINDS {
         let warned = warning_in(line.bytes(script), stand, kind);
@@ -315,8 +315,8 @@ fn put_caret<W: Write>(
     kind: FaultKind,
 )
     ensures { IsLineAt script.now line.now
-        → IsCaretAt script.now line.now caret.now.place.column (caret_width kind caret.now) kind
-        → PutsRows form script.now [] (W.contents writer.old) (W.contents writer.new) gathered.old gathered.new }
+        → PutsRows form script.now [] (mark_of line.now (caret.now, kind) ∷ []) (W.contents writer.old)
+        (W.contents writer.new) gathered.old gathered.new }
 {
     let mut words = Words::new();
     let hint = one_line(add_hint(&mut words, caret, kind));
@@ -337,7 +337,7 @@ fn put_role_warnings<W: Write>(
     stand: &LineStand,
 )
     ensures { IsLineAt script.now line.now
-        → PutsRows form script.now [] (W.contents writer.old) (W.contents writer.new) gathered.old gathered.new }
+        → PutsRows form script.now [] [] (W.contents writer.old) (W.contents writer.new) gathered.old gathered.new }
 {
     match stand.role {
         Role::Aside => (),
@@ -356,12 +356,13 @@ fn put_fault_row<W: Write>(
     line: &SourceLine,
     fault: Option<(&Caret, FaultKind)>,
 )
-    ensures { IsLineAt script.now line.now → IfSome fault.entry (λ f. IsCaretAt script.now line.now
-        f.0.now.place.column (caret_width f.1 f.0.now) f.1)
-        → PutsRows form script.now [] (W.contents writer.old) (W.contents writer.new) gathered.old gathered.new }
+    ensures { IsLineAt script.now line.now
+        → PutsRows form script.now [] (marks_on line.now (option_map (λ f. (f.0.now, f.1)) fault.entry))
+        (W.contents writer.old) (W.contents writer.new) gathered.old gathered.new }
 {
-    if let Some((caret, kind)) = fault {
-        put_caret(form, gathered, writer, script, line, caret, kind);
+    match fault {
+        Some((caret, kind)) => put_caret(form, gathered, writer, script, line, caret, kind),
+        None => (),
     }
 }
 
@@ -377,9 +378,8 @@ pub fn put_line_rows<W: Write>(
     fault: Option<(&Caret, FaultKind)>,
 )
     ensures { IsLineAt script.now line.now → IfSome lost (IsLineBefore script.now line.now)
-        → IfSome fault.entry (λ f. IsCaretAt script.now line.now f.0.now.place.column (caret_width f.1 f.0.now) f.1)
-        → PutsRows form script.now (line.now ∷ []) (W.contents writer.old) (W.contents writer.new) gathered.old
-        gathered.new }
+        → PutsRows form script.now (line.now ∷ []) (marks_on line.now (option_map (λ f. (f.0.now, f.1)) fault.entry))
+        (W.contents writer.old) (W.contents writer.new) gathered.old gathered.new }
 {
     put_own_row(form, gathered, writer, script, line, lost);
     put_role_warnings(form, gathered, writer, script, line, stand);
@@ -399,7 +399,7 @@ fn put_file_words<W: Write>(form: Form, gathered: &mut Gathered, writer: &mut W,
 
 /// Puts what is wrong with the file as a whole, if anything is.
 pub fn put_file_row<W: Write>(form: Form, gathered: &mut Gathered, writer: &mut W, script: &[u8])
-    ensures { PutsRows form script.now [] (W.contents writer.old) (W.contents writer.new) gathered.old
+    ensures { PutsRows form script.now [] [] (W.contents writer.old) (W.contents writer.new) gathered.old
         gathered.new }
 {
     if let Some(warning) = warning_on(script) {

@@ -183,8 +183,8 @@ pub fn put_table<W: Write>(
     put_pools(gathered, writer, form, storage);
 }
 
-/// Puts what the rows over time begin with: the names of the values of a subpool or of the whole storage, or the head of
-/// JSON.
+/// Puts what the rows over time begin with: the names of the values of a subpool or of the whole storage, or the head
+/// of JSON.
 pub fn put_heading<W: Write>(gathered: &mut Gathered, writer: &mut W, form: Form, is_subpool: bool)
     ensures { Puts (W.contents writer.old) (W.contents writer.new) gathered.old gathered.new
         (heading_in form is_subpool) }

@@ -133,7 +133,8 @@ pub record EndBrings (settings : Settings) (given : List ℕ) (answers : List Ma
   pub counts : Counts settings ((answers ++ more) ++ also) e.totals
 
 -- And what their statements asked for.
-pub record EndAsks (settings : Settings) (given : List ℕ) (answers : List Marked) (e : Ending) (asked : Asked) : Type 0 where
+pub record EndAsks (settings : Settings) (given : List ℕ) (answers : List Marked) (e : Ending) (asked : Asked)
+    : Type 0 where
   pub brings : EndBrings settings given answers e
   pub last : AreAsked asked (answers_of brings.more)
   pub unended : AreAsked asked (answers_of brings.also)

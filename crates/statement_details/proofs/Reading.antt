@@ -1,11 +1,11 @@
 -- The lines of a text, read one after another by a reader that gives no answer yet.
-use Rattle.std.proofs.Common.{◌≡◌, inl, inr, ℕ, ◌+◌, ◌-◌, ◌<◌, ◌≤◌, Bool, true, false, List, [], ◌∷◌, ◌++◌, length, map, take, drop, slice_index, Some, None, Ok, Err, refl, sym, ap, subst, ◌∙◌, arith, append_assoc}
+use Rattle.std.proofs.Common.{◌≡◌, inl, inr, ℕ, ◌+◌, ◌-◌, ◌<◌, ◌≤◌, Bool, true, false, true≢false, List, [], ◌∷◌, ◌++◌, length, map, take, drop, slice_index, Some, None, Ok, Err, refl, sym, ap, subst, ◌∙◌, arith, append_assoc}
 use Rattle.std.proofs.lemmas.List.{drop-drop, flat_map_more, length-drop, length-map, length_push, map_push, take-append-drop, take_more, take_all}
 use Rattle.std.proofs.lemmas.Bool.{cases_lt}
-use Rattle.std.specs.List.{flat_map}
+use Rattle.std.specs.List.{flat_map, AllByRecursion}
 use Rattle.macro_operands.specs.declared.faults.FaultKind.TheVariants as kind
 use Rattle.macro_reader.specs.Columns.{Line, is_skipped, used}
-use Rattle.macro_reader.specs.Scripts.{Answer, Answers, Kept, IsBehind, Mode, awaiting, dropping, gathering, skipped}
+use Rattle.macro_reader.specs.Scripts.{Answer, Answers, Between, Kept, IsBehind, IsPart, Mode, Part, answers_behind, awaiting, broken, dropping, gathering, lines_of, skipped, whole}
 use Rattle.macro_reader.proofs.Readings.{one_reading}
 use Rattle.macro_statements.specs.Requests.{asked_in}
 use Rattle.script_steps.specs.Script.{NoFeed, columns, with_feed}
@@ -13,7 +13,7 @@ use Rattle.script_steps.proofs.Feeds.{each_push}
 use Rattle.statement_faults.specs.Places.{card_in}
 use Rattle.statement_faults.specs.declared.lines.SourceLine.{SourceLine}
 use Rattle.statement_faults.specs.declared.lines.OpenLines.{OpenLines}
-use Rattle.statement_details.specs.Ahead.{AreFirst, Asks, BeginsWith, Brought, HasLines, IsAhead, IsBegun, IsReadAs, IsStatement}
+use Rattle.statement_details.specs.Ahead.{AreFirst, Asks, BeginsWith, Brought, HasLines, IsAhead, IsAside, IsBegun, IsReadAs, IsStatement}
 use Rattle.statement_details.proofs.Cards.{card_is}
 use Rattle.statement_details.specs.declared.ahead.NextStatement as ahead
 use Rattle.statement_details.specs.declared.ahead.NextStatement.TheVariants as variant
@@ -58,6 +58,25 @@ open_more (l ∷ ls) line k h told goes_on = h
 told_more : (lines : List Line) (line : Line) (a : Answer) (k : Kept) → IsBegun lines → IsBehind (lines ++ line ∷ []) (a ∷ []) k → IsBegun (lines ++ line ∷ [])
 told_more [] line a k h told = told_begun line a k.mode k.count (is_skipped line) refl told
 told_more (l ∷ ls) line a k h told = h
+
+-- ---- a comment or an empty line
+
+-- parts without an answer are lines that are skipped
+all_skipped : (parts : List Part) (n : ℕ) → AllByRecursion IsPart parts → [] ≡ answers_behind n parts → AllByRecursion (λ l. is_skipped l ≡ true) (flat_map lines_of parts)
+all_skipped [] n each e = tt
+all_skipped (skipped line ∷ parts) n (is, each) e = (is, all_skipped parts (n + length (lines_of (skipped line))) each e)
+all_skipped (whole line lines ∷ parts) n each e = absurd (cc)
+all_skipped (broken line before at dropped ∷ parts) n each e = absurd (cc)
+
+one_skipped : (lines : List Line) (line : Line) → IsBegun lines → AllByRecursion (λ l. is_skipped l ≡ true) (lines ++ line ∷ []) → IsAside (lines ++ line ∷ [])
+one_skipped [] line begun (is, each) = (line, refl, is)
+one_skipped (l ∷ ls) line begun (is, each) = absurd (true≢false (sym is ∙ begun))
+
+aside_is : (lines : List Line) (line : Line) (k : Kept) → IsBegun lines → IsBehind (lines ++ line ∷ []) [] k → k.mode ≡ awaiting → IsAside (lines ++ line ∷ [])
+aside_is lines line k begun h is =
+    let read : Between awaiting (lines ++ line ∷ []) [] = subst (λ m. Between m (lines ++ line ∷ []) []) is h.between in
+    one_skipped lines line begun
+    (subst (AllByRecursion (λ l. is_skipped l ≡ true)) (sym read.1.split) (all_skipped read.0 0 read.1.each read.1.told))
 
 -- ---- the lines of a text
 
@@ -171,6 +190,7 @@ module _ (text rest : List ℕ) (at count size : ℕ) (places : List SourceLine)
     lines = h.lines ++ line ∷ [];
     behind = stands.0;
     first = stands.1;
+    some = omega (arith, h.counted);
     count = counted;
     asks = asks;
     cards = carded;
@@ -182,7 +202,7 @@ module _ (text rest : List ℕ) (at count size : ℕ) (places : List SourceLine)
       told_by (variant.Request request) (answered (record { line = n; what = Ok (asked_in request) }) b, valid)
   told_ahead (variant.Fault kind) (n, b) = told_by (variant.Fault kind) (answered (record { line = n; what = Err kind }) b)
   told_ahead variant.Open b = absurd b
-  told_ahead variant.Aside b = told_by variant.Aside tt
+  told_ahead variant.Aside (b, is) = told_by variant.Aside (aside_is h.lines line new h.begun b is)
 
   still_open : (behind : List ℕ) → AreFirst text (h.lines ++ line ∷ []) behind → behind ≡ [] → Brought (h.lines ++ line ∷ []) new None →
       IsAhead text (record { asked = variant.Open; lines = count; places = now })
@@ -190,6 +210,7 @@ module _ (text rest : List ℕ) (at count size : ℕ) (places : List SourceLine)
     lines = h.lines ++ line ∷ [];
     behind = behind;
     first = first;
+    some = omega (arith, h.counted);
     count = counted;
     asks = record { begun = open_more h.lines line new h.begun b goes_on; quiet = (new, b); ends = inl none };
     cards = carded;
@@ -231,6 +252,7 @@ open_ten text at next places kept eleven h = record {
   lines = h.lines;
   behind = drop at text;
   first = inl h.first;
+  some = omega arith;
   count = omega (arith, h.counted, eleven);
   asks = record { begun = h.begun; quiet = (kept, h.quiet); ends = inr (omega (arith, h.counted, eleven)) };
   cards = h.cards;

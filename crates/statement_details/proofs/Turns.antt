@@ -1,6 +1,5 @@
 -- Which answers turn a name.
-use Rattle.std.proofs.Common.{◌≡◌, ℕ, ◌-◌, Bool, true, false, not, inl, inr, List, [], ◌∷◌, ◌++◌, length, Option, Some, None, is_some, append_assoc, arith, refl, subst, sym, ap, ◌∙◌}
-use Rattle.std.proofs.Math.Seq.{take-length}
+use Rattle.std.proofs.Common.{◌≡◌, ℕ, zero, suc, ◌-◌, Bool, true, false, not, inl, inr, List, [], ◌∷◌, ◌++◌, length, Option, Some, None, is_some, append_assoc, arith, refl, subst, sym, ap, ◌∙◌}
 use Rattle.std.proofs.lemmas.Bool.Decides.{eqb_tells}
 use Rattle.std.proofs.lemmas.List.{append-nil, length-append, take-append-le, take_all}
 use Rattle.vsm_model.specs.declared.limits.Settings.{Settings}
@@ -11,7 +10,7 @@ use Rattle.script_steps.specs.declared.session.Session.{Session}
 use Rattle.bench_core.specs.Stands.{bench_of}
 use Rattle.script_steps.proofs.Standings.{stands_for}
 use Rattle.vsm_model.specs.Names.{word_of}
-use Rattle.statement_details.specs.Defined.{AreItsLines, IsDefinition, IsNeverDefined, IsTurned, word_after}
+use Rattle.statement_details.specs.Defined.{AreItsLines, IsDefinition, IsNeverDefined, IsTurned, is_made, word_after}
 use Rattle.statement_details.specs.declared.definitions.Definition.{Definition}
 use Rattle.statement_details.specs.declared.definitions.Definition.TheVariants as definition
 
@@ -48,22 +47,22 @@ module _ (settings : Settings) (name : List ℕ) where
     | inr many ↦ ap (λ (xs : List Marked). is_some (word_after settings name xs)) (take_all n (answers ++ m ∷ []) (omega (arith, length-append answers (m ∷ []), many.1))) ∙ is
   ]
 
-  -- the name of which no answer made a definition isn't defined now
-  not_now : (answers : List Marked) → IsNeverDefined settings name answers → is_some (word_after settings name answers) ≡ false
-  not_now answers never = ap (λ xs. is_some (word_after settings name xs)) (sym (take-length answers)) ∙ never (length answers)
+  pub none_more : (answers more : List Marked) (told : Option (ℕ × Response)) → Brings settings answers more told → IsNeverDefined settings name answers
+      → is_some (word_after settings name (answers ++ more)) ≡ false → IsNeverDefined settings name (answers ++ more)
+  none_more answers [] told brings never is = subst (λ xs. IsNeverDefined settings name xs) (sym (append-nil answers)) never
+  none_more answers (m ∷ []) told brings never is = never_more answers m never is
+  none_more answers (m ∷ n ∷ ms) None brings never is = absurd brings
+  none_more answers (m ∷ n ∷ ms) (Some told) brings never is = absurd brings
 
-  -- a definition, after an answer by which the name isn't defined anew
-  pub definition_more : (answers more : List Marked) (told : Option (ℕ × Response)) (its : Definition) (was is : Bool) → Brings settings answers more told
-      → is_some (word_after settings name answers) ≡ was → is_some (word_after settings name (answers ++ more)) ≡ is → (was ≡ false → is ≡ true → ⊥)
+  -- a definition, after an answer that doesn't turn the name
+  pub definition_more : (answers more : List Marked) (told : Option (ℕ × Response)) (its : Definition) → Brings settings answers more told
+      → is_some (word_after settings name answers) ≡ is_some (word_after settings name (answers ++ more))
       → IsDefinition settings name answers its → IsDefinition settings name (answers ++ more) its
-  definition_more answers [] told its was is brings old new apart (lines, never) =
-      subst (λ xs. IsDefinition settings name xs its) (sym (append-nil answers)) (lines, never)
-  definition_more answers (m ∷ []) told its was true brings old new apart (lines, never) =
-      (lines_more answers (m ∷ []) its lines, λ e. absurd (apart (sym old ∙ not_now answers (never e)) refl))
-  definition_more answers (m ∷ []) told its was false brings old new apart (lines, never) =
-      (lines_more answers (m ∷ []) its lines, λ e. never_more answers m (never e) new)
-  definition_more answers (m ∷ n ∷ ms) None its was is brings old new apart h = absurd brings
-  definition_more answers (m ∷ n ∷ ms) (Some told) its was is brings old new apart h = absurd brings
+  definition_more answers more told its brings same h = record {
+    lines = lines_more answers more its h.lines;
+    now = sym same ∙ h.now;
+    missing = λ e. none_more answers more told brings (h.missing e) (sym same ∙ h.now ∙ ap is_made e);
+  }
 
   -- the answer that a line brings
   pub turned_by : (answers more : List Marked) (line : ℕ) (response : Response) (defined : Bool) → Brings settings answers more (Some (line, response))
@@ -73,6 +72,14 @@ module _ (settings : Settings) (name : List ℕ) where
   turned_by answers (m ∷ []) line response defined (number, responds) was is =
       record { before = answers; its = m; behind = []; split = refl; number = sym number; was = was; is = is }
   turned_by answers (m ∷ n ∷ ms) line response defined brings was is = absurd brings
+
+-- before the first answer it's missing
+none_at_first : (settings : Settings) (name : List ℕ) → IsNeverDefined settings name []
+none_at_first settings name zero = refl
+none_at_first settings name (suc n) = refl
+
+pub at_first : (settings : Settings) (name : List ℕ) → IsDefinition settings name [] definition.Missing
+at_first settings name = record { lines = tt; now = refl; missing = λ e n. none_at_first settings name n }
 
 -- a session that has taken some bytes
 pub unended : (settings : Settings) (given : List ℕ) (answers : List Marked) (s : Session) → Took settings given answers s → Unended settings given answers

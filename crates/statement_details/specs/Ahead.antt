@@ -1,5 +1,5 @@
 -- What the lines that a text begins with ask for.
-use Rattle.std.specs.Prelude.{◌≡◌, ◌⊎◌, ◌<◌, ℕ, false, List, [], ◌∷◌, ◌++◌, length, map, take, Option, Some, None}
+use Rattle.std.specs.Prelude.{◌≡◌, ◌⊎◌, ◌<◌, ℕ, true, false, List, [], ◌∷◌, ◌++◌, length, map, take, Option, Some, None}
 use Rattle.std.specs.Prelude.{Result, Ok, Err}
 use Rattle.std.specs.List.{flat_map, AllByRecursion}
 use Rattle.macro_operands.specs.declared.faults.FaultKind.{FaultKind}
@@ -55,19 +55,24 @@ pub record IsOpen (lines : List Line) (behind : List ℕ) : Type 0 where
   pub quiet : IsQuiet lines
   pub ends : (behind ≡ []) ⊎ (length lines ≡ 10)
 
--- What these lines ask for, which this follows; of a comment or an empty line nothing is said here.
+-- These lines are one that is a comment or empty.
+abbrev pub IsAside : List Line → Type 0
+IsAside lines = (line : Line) × (lines ≡ line ∷ []) × (is_skipped line ≡ true)
+
+-- What these lines ask for, which this follows.
 abbrev pub Asks : List Line → List ℕ → ahead.NextStatement → Type 0
 Asks lines behind (variant.Request request) =
     IsStatement lines (Ok (asked_in request)) × IsValidAsked (asked_in request)
 Asks lines behind (variant.Fault kind) = IsStatement lines (Err kind)
 Asks lines behind variant.Open = IsOpen lines behind
-Asks lines behind variant.Aside = Unit {0}
+Asks lines behind variant.Aside = IsAside lines
 
 -- What the first lines of a text ask for, how many they are, and where they are in it.
 pub record IsAhead (text : List ℕ) (a : Ahead) : Type 0 where
   pub lines : List Line
   pub behind : List ℕ
   pub first : AreFirst text lines behind
+  pub some : 0 < a.lines
   pub count : a.lines ≡ length lines
   pub asks : Asks lines behind a.asked
   pub cards : map (card_in text) a.places.lines.items ≡ map used lines
@@ -82,7 +87,7 @@ Brought lines kept (Some (variant.Request request)) =
 Brought lines kept (Some (variant.Fault kind)) =
     (number : ℕ) × IsBehind lines (record { line = number; what = Err kind } ∷ []) kept
 Brought lines kept (Some variant.Open) = ⊥
-Brought lines kept (Some variant.Aside) = Unit {0}
+Brought lines kept (Some variant.Aside) = IsBehind lines [] kept × (kept.mode ≡ awaiting)
 
 -- How a line of a text, of this many bytes, is read: columns 1 to 80, without a carriage return before its line feed.
 abbrev pub IsReadAs : List ℕ → ℕ → Line → Type 0

@@ -1,5 +1,5 @@
 -- Which lines defined a name, and took that back.
-use Rattle.std.specs.Prelude.{◌≡◌, ◌≤◌, ℕ, Bool, true, false, not, List, [], ◌∷◌, ◌++◌, length, take}
+use Rattle.std.specs.Prelude.{◌≡◌, ℕ, Bool, true, false, not, List, [], ◌∷◌, ◌++◌, take}
 use Rattle.std.specs.Prelude.{Option, Some, is_some}
 use Rattle.vsm_model.specs.declared.limits.Settings.{Settings}
 use Rattle.vsm_model.specs.Names.{NamedState, word_of}
@@ -41,16 +41,29 @@ AreItsLines settings name answers (definition.Discarded line back by) =
 abbrev pub IsNeverDefined : Settings → List ℕ → List Marked → Type 0
 IsNeverDefined settings name answers = (n : ℕ) → is_some (word_after settings name (take n answers)) ≡ false
 
--- The lines of a definition are those, and it's missing only if the name was never defined.
-abbrev pub IsDefinition : Settings → List ℕ → List Marked → Definition → Type 0
-IsDefinition settings name answers its =
-    AreItsLines settings name answers its × (its ≡ definition.Missing → IsNeverDefined settings name answers)
+-- whether a definition was made and not taken back
+abbrev pub is_made : Definition → Bool
+is_made definition.Missing = false
+is_made (definition.Made line) = true
+is_made (definition.Undone line back steps) = false
+is_made (definition.Discarded line back by) = false
 
--- So are they for a prefix of a script.
+-- The lines of a definition are those; it was made and not taken back exactly if the name is defined after all of the
+-- answers, and it's missing only if the name was never defined.
+pub record IsDefinition (settings : Settings) (name : List ℕ) (answers : List Marked) (its : Definition) : Type 0 where
+  pub lines : AreItsLines settings name answers its
+  pub now : is_some (word_after settings name answers) ≡ is_made its
+  pub missing : its ≡ definition.Missing → IsNeverDefined settings name answers
+
+-- So is it for the answers of all of these lines of a script.
 abbrev pub IsDefinitionIn : Settings → List ℕ → List ℕ → Definition → Type 0
 IsDefinitionIn settings name script its =
-    (n : ℕ) × (n ≤ length script) × ((answers : List Marked) × Unended settings (take n script) answers
-    × IsDefinition settings name answers its)
+    (answers : List Marked) × Unended settings script answers × IsDefinition settings name answers its
+
+-- An answer of a line turns a name, which is as it was turned after all of the answers.
+abbrev pub IsNowTurned : Settings → List ℕ → List Marked → ℕ → Bool → Type 0
+IsNowTurned settings name answers line defined =
+    IsTurned settings name answers line defined × (is_some (word_after settings name answers) ≡ defined)
 
 -- Of a request, this is what became of the definition of the first name in its values that isn't defined in a state.
 abbrev pub IsItsDefinition : Settings → NamedState → List ℕ → ahead.NextStatement → Definition → Type 0

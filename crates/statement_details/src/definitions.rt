@@ -3,11 +3,12 @@ ghost use Rattle.std.specs.Prelude.{◌≡◌, true, false, ℕ, List, [], ◌++
 ghost use Rattle.vsm_model.specs.declared.limits.Settings.{Settings};
 ghost use Rattle.script_steps.specs.Output.{Marked};
 ghost use Rattle.script_steps.specs.Taken.{Brings, Took};
-ghost use Rattle.statement_details.specs.Defined.{word_after, AreItsLines, IsDefinition, IsDefinitionIn, IsTurned};
+ghost use Rattle.statement_details.specs.Defined.{is_made, word_after, AreItsLines, IsDefinition, IsDefinitionIn};
+ghost use Rattle.statement_details.specs.Defined.{IsNowTurned};
 
 use bench_core::Bench;
 use macro_reader::Name;
-use script_steps::{LINES, NumberedResponse, Response, Session, TooLong, Watch};
+use script_steps::{NumberedResponse, Response, Session, TooLong, Watch};
 
 /// What became of the definition of a name. Lines are the first of their statements.
 #[derive(Clone, Copy)]
@@ -34,11 +35,11 @@ impl Definition {
         }
     }
 
-    /// What it is after BACK in a line, by which the name isn't defined any longer.
+    /// What it is after the answer of a line, that of a BACK, by which the name isn't defined any longer.
     fn undone(self, at: u32) -> Definition
         ensures { (settings : Settings) (name : List ℕ) (answers : List Marked)
-            → IsTurned settings name answers at false
-            → IsDefinition settings name answers self → IsDefinition settings name answers result }
+            → IsNowTurned settings name answers at false → is_made self ≡ true
+            → AreItsLines settings name answers self → IsDefinition settings name answers result }
     {
         match self {
             Definition::Made { line } => Definition::Undone {
@@ -53,7 +54,7 @@ impl Definition {
     /// What it is after FORWARD in a line, by which the name is defined again.
     fn redone(self, at: u32) -> Definition
         ensures { (settings : Settings) (name : List ℕ) (answers : List Marked)
-            → IsTurned settings name answers at true
+            → IsNowTurned settings name answers at true
             → AreItsLines settings name answers self → IsDefinition settings name answers result }
     {
         match self {
@@ -67,7 +68,7 @@ impl Definition {
     /// What it is after the answer of a line, by which the name is defined.
     fn made(self, at: u32, response: &Response) -> Definition
         ensures { (settings : Settings) (name : List ℕ) (answers : List Marked)
-            → IsTurned settings name answers at true
+            → IsNowTurned settings name answers at true
             → AreItsLines settings name answers self → IsDefinition settings name answers result }
     {
         match response {
@@ -79,24 +80,6 @@ impl Definition {
             | Response::Shown
             | Response::Map
             | Response::Fault(_) => Definition::Made { line: at },
-        }
-    }
-
-    /// What it is after the answer of a line, by which the name isn't defined any longer.
-    fn unmade(self, at: u32, response: &Response) -> Definition
-        ensures { (settings : Settings) (name : List ℕ) (answers : List Marked)
-            → IsTurned settings name answers at false
-            → IsDefinition settings name answers self → IsDefinition settings name answers result }
-    {
-        match response {
-            Response::Kept(_) => self.undone(at),
-            Response::Replied(_)
-            | Response::Refused(_)
-            | Response::TooFar(_)
-            | Response::TooFarAhead(_)
-            | Response::Shown
-            | Response::Map
-            | Response::Fault(_) => self,
         }
     }
 
@@ -130,7 +113,7 @@ impl Definition {
         };
         match (was_defined, is_defined) {
             (false, true) => self.made(*line, response),
-            (true, false) => self.unmade(*line, response),
+            (true, false) => self.undone(*line),
             (true, true) => self.left(*line, response),
             (false, false) => self.left(*line, response),
         }
@@ -173,7 +156,8 @@ fn steps_to(bench: &mut Bench, name: &Name) -> u32 {
     0
 }
 
-/// What became of the definition of a name, after lines that a session takes: whole lines of a script.
+/// What became of the definition of a name, after all of these lines of a script, which a session takes. `TooLong` if one
+/// of their bytes passes a bound, or the last has no line feed.
 fn follow<P: Watch>(
     session: &mut Session,
     lines: &[u8],
@@ -185,13 +169,10 @@ fn follow<P: Watch>(
 {
     let mut definition = Definition::Missing;
     let mut at = 0;
-    for _ in 0..LINES {
-        if at >= lines.len() {
-            return Ok(definition);
-        }
+    while at < lines.len() {
         let was_defined = is_defined(session, name);
         let Some(step) = session.take_line(lines, at)? else {
-            return Ok(definition);
+            return Err(TooLong);
         };
         definition = definition.after(&step.told, was_defined, is_defined(session, name));
         at = step.next;
@@ -200,7 +181,8 @@ fn follow<P: Watch>(
     Ok(definition)
 }
 
-/// What became of the definition of a name in these lines of a script, which a new session takes.
+/// What became of the definition of a name in all of these lines of a script, which a new session takes. `TooLong` if one
+/// of their bytes passes a bound, or the last has no line feed.
 pub fn definition_of<P: Watch>(
     session: Session,
     lines: &[u8],

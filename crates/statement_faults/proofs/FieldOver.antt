@@ -7,7 +7,8 @@ use Rattle.macro_operands.specs.declared.faults.FaultKind.{FaultKind}
 use Rattle.macro_statements.specs.Statements.{statement_with, from_operands}
 use Rattle.macro_reader.specs.Continuation.{Joined, no_field, begun, with_line, with_lines}
 use Rattle.statement_faults.specs.Operands.{IsWrongOperand}
-use Rattle.statement_faults.specs.Places.{added, places_of, card_in, first_card, further_cards, joined_of, IsFieldOver, is_of_operand}
+use Rattle.statement_faults.specs.Places.{added, places_of, card_in, first_card, further_cards, joined_of, IsFieldOver, IsOperandCaret, MarksOperand, is_of_operand}
+use Rattle.statement_faults.specs.declared.carets.Caret.{Caret}
 use Rattle.statement_faults.specs.declared.gathered.Field.{Field}
 use Rattle.statement_faults.specs.declared.gathered.TextPlace.{TextPlace}
 use Rattle.statement_faults.specs.declared.lines.SourceLine.{SourceLine}
@@ -85,3 +86,12 @@ caret_marks script lines more card kind f broken text from to place first furthe
     subst (λ k. Marks k (further_cards script lines) kind from to place) first
     (subst (λ ls. Marks card (map (card_in script) ls) kind from to place) further
     (marks card (map (card_in script) more) kind f broken text from to place whole breaks is wrong there))
+
+-- the caret of a statement that has the fault
+pub operand_caret : (card : List ℕ) (cards : List (List ℕ)) (kind : FaultKind) (caret : Caret) (text : List ℕ) → caret.card ≡ card → IsFieldOver card cards caret.field
+    → text ≡ caret.field.text.items → statement_with caret.card text ≡ Err kind → MarksOperand card cards kind caret → is_of_operand kind ≡ true
+    → IsOperandCaret card cards kind caret
+operand_caret card cards kind caret text same over is has marks k =
+    let fault : statement_with card caret.field.text.items ≡ Err kind = (λ i. statement_with (sym same i) (sym is i)) ∙ has in
+    let wrong = marks (joined_of caret.field) over.joined fault k in
+    record { joined = joined_of caret.field; joins = over.joined; fault = fault; wrong = wrong.0; place = wrong.1; places = over.places }

@@ -95,6 +95,22 @@ MarksOperand card cards kind caret =
     → IsWrongOperand card j.text kind caret.from caret.to
     × (caret.from < length j.text → slice_get (places_of card cards) caret.from ≡ Some caret.place)
 
+-- A statement over these lines, whose continuation breaks no rule, has this fault; the caret is that of the first
+-- operand with which it has the fault, is at the place of its first byte, if it has one, and keeps the place of each
+-- byte of the field.
+pub record IsOperandCaret (card : List ℕ) (cards : List (List ℕ)) (kind : FaultKind) (caret : Caret) : Type 0 where
+  pub joined : Joined
+  pub joins : with_lines (begun card) cards ≡ Some joined
+  pub fault : statement_with card joined.text ≡ Err kind
+  pub wrong : IsWrongOperand card joined.text kind caret.from caret.to
+  pub place : caret.from < length joined.text → slice_get (places_of card cards) caret.from ≡ Some caret.place
+  pub places : caret.field.places.items ≡ places_of card cards
+
+-- The caret of a fault over these lines; if it's one of an operand, a statement over them has it.
+abbrev pub IsCaretOf : List ℕ → List (List ℕ) → FaultKind → Caret → Type 0
+IsCaretOf card cards kind caret =
+    (caret.card ≡ card) × (is_of_operand kind ≡ true → IsOperandCaret card cards kind caret)
+
 -- How many bytes of the wrong operand are on the caret's line,
 abbrev pub operand_bytes : Caret → ℕ
 operand_bytes caret =

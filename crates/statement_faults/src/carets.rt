@@ -3,12 +3,13 @@ ghost use Rattle.std.specs.Prelude.{◌≡◌, ◌==◌, ◌≤◌, ◌<◌, tru
 ghost use Rattle.std.specs.List.{slice_get, take_while};
 ghost use Rattle.macro_reader.specs.Continuation.{begun, with_lines};
 ghost use Rattle.statement_faults.specs.Places.{card_in, first_card, further_cards, is_of_operand};
-ghost use Rattle.statement_faults.specs.Places.{IsFieldOver, MarksOperand, caret_width, operand_bytes, word_bytes};
+ghost use Rattle.statement_faults.specs.Places.{IsCaretOf, IsFieldOver, MarksOperand, caret_width};
+ghost use Rattle.statement_faults.specs.Places.{operand_bytes, word_bytes};
 
 use crate::fields::card_of;
 use crate::gathered::{Field, TextPlace};
 use crate::lines::SourceLine;
-use crate::operands::wrong_operand;
+use crate::operands::{has_fault, wrong_operand};
 use macro_statements::FaultKind;
 use operand_texts::words::{after_blanks, after_word, word_len};
 
@@ -191,21 +192,63 @@ fn place_for(
     }
 }
 
-/// Where a statement of these lines is wrong, which has a fault of this kind.
-pub fn caret_of(script: &[u8], lines: &[SourceLine], kind: FaultKind) -> Caret
+/// The caret of a fault of this kind over these lines, and whether they break no rule of continuation.
+fn gathered_caret(script: &[u8], lines: &[SourceLine], kind: FaultKind) -> (Caret, bool)
     requires { length lines.now ≤ 10 }
-    ensures { MarksOperand (first_card script.now lines.now) (further_cards script.now lines.now) kind result }
+    ensures marks { MarksOperand (first_card script.now lines.now) (further_cards script.now lines.now) kind result.0 }
+    ensures card { result.0.card ≡ first_card script.now lines.now }
+    ensures over { result.1 ≡ true
+        → IsFieldOver (first_card script.now lines.now) (further_cards script.now lines.now) result.0.field }
 {
     let card = first_card(script, lines);
     let (field, broken) = field_over(script, &card, further_lines(lines));
     let (from, to) = wrong_operand(&card, field.text(), kind);
+    let joins = broken.is_none();
     let broken = broken_place(broken, lines.len());
     let place = place_for(kind, &card, &field, from, broken);
-    Caret {
+    let caret = Caret {
         place,
         card,
         field,
         from,
         to,
+    };
+    (caret, joins)
+}
+
+/// Where a statement of these lines is wrong, which has a fault of this kind.
+pub fn caret_of(script: &[u8], lines: &[SourceLine], kind: FaultKind) -> Caret
+    requires { length lines.now ≤ 10 }
+    ensures { MarksOperand (first_card script.now lines.now) (further_cards script.now lines.now) kind result }
+{
+    let (caret, _) = gathered_caret(script, lines, kind);
+    caret
+}
+
+/// Whether an operand has such a fault.
+fn is_of_operand(kind: FaultKind) -> bool
+    ensures { result ≡ is_of_operand kind }
+{
+    match kind {
+        FaultKind::Operand | FaultKind::Repeated | FaultKind::Value | FaultKind::LeftOut => true,
+        FaultKind::Column | FaultKind::Continuation | FaultKind::Operation | FaultKind::Missing =>
+            false,
+    }
+}
+
+/// Where the statement of these lines is wrong, which has a fault of this kind; nowhere if an operand has such a fault,
+/// and these lines aren't a statement that has it.
+pub fn own_caret(script: &[u8], lines: &[SourceLine], kind: FaultKind) -> Option<Caret>
+    requires { length lines.now ≤ 10 }
+    ensures { IfSome result (IsCaretOf (first_card script.now lines.now) (further_cards script.now lines.now) kind) }
+{
+    let (caret, joins) = gathered_caret(script, lines, kind);
+    if !is_of_operand(kind) {
+        return Some(caret);
+    }
+    if joins && has_fault(&caret.card, caret.field.text(), kind) {
+        Some(caret)
+    } else {
+        None
     }
 }

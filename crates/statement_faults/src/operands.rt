@@ -21,7 +21,7 @@ fn is_fault(read: &Result<Request, FaultKind>, kind: FaultKind) -> bool
 }
 
 /// Whether a statement has this fault, whose first line has these columns and whose field is this text.
-fn has_fault(card: &[u8], text: &[u8], kind: FaultKind) -> bool
+pub(crate) fn has_fault(card: &[u8], text: &[u8], kind: FaultKind) -> bool
     ensures yes { result ≡ true → statement_with card.now text.now ≡ Err kind }
     ensures no { result ≡ false → statement_with card.now text.now ≢ Err kind }
 {

@@ -1,6 +1,5 @@
 -- The answers of questions, and their exit statuses.
 use Rattle.std.specs.Prelude.{◌≡◌, ℕ, Bool, List, min, if◌then◌else◌, Option, Result, Ok, Err}
-use Rattle.std.specs.Prelude.{⊤}
 use Rattle.vsm_model.specs.declared.limits.Settings.{Settings}
 use Rattle.explain_areas.specs.Told.{TellsAreas}
 use Rattle.explain_areas.specs.declared.faults.AreasFault.{AreasFault}
@@ -68,11 +67,12 @@ areas_status (Err (no_areas.Areas fault)) = who_status (Err fault)
 
 -- ---- what is asked for
 
--- a listing in this form, only of refused statements if these are asked for; or the places of faults
-abbrev pub IsShown : Form → Question → Shown → Type 0
-IsShown form (question.List only) (shown.Listing layout) = (layout.form ≡ form) × (layout.only_refused ≡ only)
-IsShown form question.Check (shown.Check name) = ⊤
-IsShown _ _ _ = ⊥
+-- a listing in this form, only of refused statements if these are asked for; or the places of faults, in a file of
+-- this name
+abbrev pub IsShown : Form → List ℕ → Question → Shown → Type 0
+IsShown form name (question.List only) (shown.Listing layout) = (layout.form ≡ form) × (layout.only_refused ≡ only)
+IsShown form name question.Check (shown.Check its) = its.now ≡ name
+IsShown _ _ _ _ = ⊥
 
 abbrev pub order_of : Bool → AreaOrder
 order_of longest = if longest then order.LongestFirst else order.ByAddress
@@ -87,34 +87,36 @@ subject_of (about.Taken address) = subject.Taken address
 
 -- ---- the answers
 
-abbrev pub IsListed : Settings → List ℕ → Form → Question → Option (List ℕ) → Option (List ℕ) → ℕ → Type 0
-IsListed settings script form question old new code =
-    (its : Shown) × IsShown form question its × (outcome : Result Bool ListFault)
+abbrev pub IsListed : Settings → List ℕ → List ℕ → Form → Question → Option (List ℕ) → Option (List ℕ) → ℕ
+    → Type 0
+IsListed settings script name form question old new code =
+    (its : Shown) × IsShown form name question its × (outcome : Result Bool ListFault)
     × Shows settings script its old new outcome × (code ≡ list_status outcome)
 
--- A question about a script that runs under these settings is answered: what is written, and the status. What is
--- written about an answer's meaning (`why S878`) is open.
-abbrev pub IsAnswered : Settings → List ℕ → Form → Question → Option (List ℕ) → Option (List ℕ) → ℕ → Type 0
-IsAnswered settings script form (question.List only) old new code =
-    IsListed settings script form (question.List only) old new code
-IsAnswered settings script form question.Check old new code =
-    IsListed settings script form question.Check old new code
-IsAnswered settings script form (question.Why line) old new code =
+-- A question about a script of this name that runs under these settings is answered: what is written, and the status.
+-- What is written about an answer's meaning (`why S878`) is open.
+abbrev pub IsAnswered : Settings → List ℕ → List ℕ → Form → Question → Option (List ℕ) → Option (List ℕ) → ℕ
+    → Type 0
+IsAnswered settings script name form (question.List only) old new code =
+    IsListed settings script name form (question.List only) old new code
+IsAnswered settings script name form question.Check old new code =
+    IsListed settings script name form question.Check old new code
+IsAnswered settings script name form (question.Why line) old new code =
     (outcome : Result Bool WhyFault) × Explains settings script form line old new outcome
     × (code ≡ why_status outcome)
-IsAnswered settings script form (question.Report line) old new code =
+IsAnswered settings script name form (question.Report line) old new code =
     (outcome : Result (Unit {0}) ReportFault) × Reports settings script form line old new outcome
     × (code ≡ report_status outcome)
-IsAnswered settings script form (question.OverTime seen) old new code =
+IsAnswered settings script name form (question.OverTime seen) old new code =
     (outcome : Result (Unit {0}) ReportFault) × ReportsOverTime settings script form seen old new outcome
     × (code ≡ report_status outcome)
-IsAnswered settings script form (question.Areas line longest) old new code =
+IsAnswered settings script name form (question.Areas line longest) old new code =
     (outcome : Result (Unit {0}) AreasFault)
     × TellsAreas settings script form line (order_of longest) old new outcome × (code ≡ areas_status outcome)
-IsAnswered settings script form (question.Who it) old new code =
+IsAnswered settings script name form (question.Who it) old new code =
     (outcome : Result (Unit {0}) WhoFault) × NamesChanges settings script form (subject_of it) old new outcome
     × (code ≡ who_status outcome)
-IsAnswered settings script form question.Log old new code =
+IsAnswered settings script name form question.Log old new code =
     (outcome : Result (Unit {0}) WhoFault) × NamesStatements settings script form old new outcome
     × (code ≡ who_status outcome)
-IsAnswered settings script form (question.Code first second) old new code = IsWordless code
+IsAnswered settings script name form (question.Code first second) old new code = IsWordless code

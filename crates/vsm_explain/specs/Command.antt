@@ -1,64 +1,72 @@
 -- What the program does with its arguments, its script and its output.
-use Rattle.std.specs.Prelude.{◌≡◌, ◌⊎◌, ℕ, true, List, ◌∷◌, [], codes, if◌then◌else◌, length, Option, Some, None}
-use Rattle.std.specs.Prelude.{IfSome, option_map}
-use Rattle.std.specs.Str.{bytes_eq}
-use Rattle.clap.specs.Words.{App, Row, Text, subcommand_of, takes}
+use Rattle.std.specs.Prelude.{◌≡◌, ◌⊎◌, ℕ, Bool, List, [], Option, Some, Result, Err}
+use Rattle.clap.specs.Words.{App, IsAmong, Row, Text, fault_of, subcommand_of}
+use Rattle.clap.specs.declared.error.ErrorKind.{ErrorKind}
+use Rattle.clap.specs.declared.error.ErrorKind.TheVariants as kind
 use Rattle.explain_questions.specs.Questions.{Asks, IsWrong}
 use Rattle.explain_questions.specs.declared.questions.Asking.{Asking}
 use Rattle.explain_questions.specs.declared.questions.Question.{Question}
 use Rattle.explain_questions.specs.declared.questions.Question.TheVariants as question
 use Rattle.explain_questions.specs.declared.refusals.WordRefusal.{WordRefusal}
 use Rattle.vsm_explain.specs.Answers.{IsAnswered}
+use Rattle.vsm_explain.specs.Messages.{EndsIn, Reports, fault_end}
 use Rattle.vsm_explain.specs.Options.{IsCommandLine}
-use Rattle.vsm_explain.specs.Status.{IsFailure, IsWordless}
+use Rattle.vsm_explain.specs.Scripts.{HasNoScript, IsScriptOf, file_in, is_listing, name_in, path_in}
+use Rattle.vsm_explain.specs.Status.{IsWordless, fault_status, status}
+use Rattle.vsm_explain.specs.declared.faults.CommandFault.{CommandFault}
+use Rattle.vsm_explain.specs.declared.faults.CommandFault.TheVariants as fault
 
--- ---- the script
-
--- the path of the script: none if it's standard input, which `-` names too
-abbrev pub path_in : Option Text → Option Text
-path_in None = None
-path_in (Some path) = if bytes_eq path (codes "-") then None else Some path
-
--- A script is all that a reader had left, if that is known.
-abbrev pub IsAll : Option (List ℕ) → List ℕ → Type 0
-IsAll left script = IfSome left (λ text. script ≡ text)
-
--- The script is the content of the file at this path, or the input: `opened` says what opening a path gave, `unread`
--- what an open script has left to be read, and `remaining` what the input has.
-abbrev pub IsScriptOf : {F I : Type 0} → (List ℕ → Option F → Type 0) → (F → Option (List ℕ)) → (I → Option (List ℕ))
-    → I → Option Text → List ℕ → Type 0
-IsScriptOf opened unread remaining input None script = IsAll (remaining input) script
-IsScriptOf {F} opened unread remaining input (Some path) script =
-    (file : F) × opened path (Some file) × IsAll (unread file) script
-
--- ---- the answer
-
--- `contents` says what an output holds.
+-- `contents` says what an output holds; the input may be a terminal.
 module _ {F I O : Type 0} (opened : List ℕ → Option F → Type 0) (unread : F → Option (List ℕ))
-    (remaining : I → Option (List ℕ)) (contents : O → Option (List ℕ)) (input : I) (output later : O) (code : ℕ) where
-  -- The script can't be read or explained, and nothing is written;
-  abbrev pub Fails : Type 0
-  Fails = (later ≡ output) × IsFailure code
+    (remaining : I → Option (List ℕ)) (contents : O → Option (List ℕ)) (input : I) (at_terminal : Bool)
+    (output later : O) where
+  -- No script is there to be explained, and nothing is written; or the question about it is answered. Of an answer's
+  -- meaning only the status is known.
+  abbrev pub Concludes : Asking → Question → Result Bool CommandFault → Type 0
+  Concludes asking (question.Code first second) outcome = IsWordless (status outcome)
+  Concludes asking _ outcome =
+      ((fault : CommandFault) × (outcome ≡ Err fault) × (later ≡ output)
+      × HasNoScript opened unread remaining input at_terminal asking fault)
+      ⊎ ((script : List ℕ)
+      × IsScriptOf opened unread remaining input (is_listing asking.question) (path_in (file_in asking)) script
+      × IsAnswered asking.settings script (name_in (path_in (file_in asking))) asking.form asking.question
+      (contents output) (contents later) (status outcome))
 
-  -- or the question about it is answered. Of an answer's meaning only the status is known.
-  abbrev pub AnswersOf : Asking → Question → Type 0
-  AnswersOf asking (question.Code first second) = IsWordless code
-  AnswersOf asking _ =
-      Fails ⊎ ((script : List ℕ)
-      × IsScriptOf opened unread remaining input (path_in (option_map (λ s. s.now) asking.file)) script
-      × IsAnswered asking.settings script asking.form asking.question (contents output) (contents later) code)
+-- By `said` what is said to standard error is known, which is `told` at last.
+module _ {O E : Type 0} (said : E → E → List ℕ → Bool → Type 0) (output later : O) (told : E) (code : ℕ) where
+  -- Nothing is written because of this fault, which is said.
+  abbrev pub Refuses : CommandFault → Type 0
+  Refuses its = (later ≡ output) × (code ≡ fault_status its) × EndsIn said told (fault_end its)
 
+  -- help or the version, or it can't be written
+  abbrev pub IsHelp : Type 0
+  IsHelp = (code ≡ 0) ⊎ ((code ≡ 8) × EndsIn said told (fault_end fault.Write))
+
+  -- The answer to words that ask no question, by the kind of their error.
+  abbrev pub AnswersKind : ErrorKind → Type 0
+  AnswersKind kind.DisplayHelp = IsHelp
+  AnswersKind kind.DisplayVersion = IsHelp
+  AnswersKind kind.OutOfMemory = Refuses fault.Memory
+  AnswersKind _ = (later ≡ output) × (code ≡ 16)
+
+module _ {F I O E : Type 0} (opened : List ℕ → Option F → Type 0) (unread : F → Option (List ℕ))
+    (remaining : I → Option (List ℕ)) (contents : O → Option (List ℕ)) (said : E → E → List ℕ → Bool → Type 0)
+    (input : I) (at_terminal : Bool) (output later : O) (told : E) (code : ℕ) where
   -- The arguments of a command are wrong, and nothing is written; or what they ask is answered.
   abbrev pub Obeys : Text → List Row → Type 0
   Obeys command rows =
-      ((refusal : WordRefusal) × IsWrong rows refusal × (later ≡ output) × (code ≡ 16))
-      ⊎ ((asking : Asking) × Asks command rows asking × AnswersOf asking asking.question)
+      ((refusal : WordRefusal) × IsWrong command rows refusal
+      × Refuses said output later told code (fault.Words refusal))
+      ⊎ ((asking : Asking) × Asks command rows asking × (outcome : Result Bool CommandFault)
+      × Concludes opened unread remaining contents input at_terminal output later asking asking.question outcome
+      × (code ≡ status outcome) × Reports said told outcome)
 
-  -- If the words are those of a command, that is obeyed, or memory runs out while they're read, and nothing is written.
-  -- Else they ask for help or the version, or are wrong: only the status is known.
+  -- Words that have no fault name a command, which is obeyed; any others are answered by the kind of a fault that they
+  -- have; or memory runs out while they're read.
   abbrev pub Does : List Text → Type 0
   Does words =
-      ((code ≡ 16) × (later ≡ output))
-      ⊎ (((app : App) × IsCommandLine app × (takes app words ≡ true → ⊥) × IsWordless code)
-      ⊎ ((app : App) × IsCommandLine app × (command : Text) × (rows : List Row)
+      Refuses said output later told code fault.Memory
+      ⊎ (((app : App) × IsCommandLine app × (error : ErrorKind) × IsAmong error (fault_of app words)
+      × AnswersKind said output later told code error)
+      ⊎ ((app : App) × IsCommandLine app × (fault_of app words ≡ []) × (command : Text) × (rows : List Row)
       × (subcommand_of app words ≡ Some (command, rows)) × Obeys command rows))

@@ -1,4 +1,6 @@
 pub mod Status
+pub mod Messages
+pub mod Scripts
 pub mod Answers
 pub mod Command
 pub mod Options

@@ -1,8 +1,8 @@
 -- The command line as it is given to clap.
-use Rattle.std.specs.Prelude.{◌≡◌, ◌⊎◌, ℕ, Result, Ok, Err, true, false, List, [], ◌∷◌, codes, fold, map, Some}
+use Rattle.std.specs.Prelude.{◌≡◌, ◌⊎◌, Result, Ok, Err, true, false, List, [], ◌∷◌, codes, fold, map, Some}
 use Rattle.clap.specs.Simple.{new_shape}
-use Rattle.clap.specs.Words.{App, Rule, Shape, Text, kind_of, new_app, new_rule, subcommand_of, subcommand_rows_of}
-use Rattle.clap.specs.Words.{takes, with_rule}
+use Rattle.clap.specs.Words.{App, IsAmong, Rule, Shape, Text, fault_of, kind_of, new_app, new_rule, subcommand_of}
+use Rattle.clap.specs.Words.{subcommand_rows_of, with_rule}
 use Rattle.clap.specs.declared.error.ErrorKind.TheVariants as error
 use Rattle.clap.specs.declared.parser.ArgMatches.{ArgMatches}
 use Rattle.clap.specs.declared.Error.{Error}
@@ -106,9 +106,11 @@ form_in form = record { name = form.name.now; rules = map rule_in form.rows.now 
 
 -- ---- what is read
 
--- What was read is what the words give to the command that they name; or they are no words of a command, or memory runs
--- out.
+-- What was read is what the words give to the command that they name, and they have no fault; or the kind of the error
+-- is one that they have, or memory ran out.
 abbrev pub Reads : List Text → Result ArgMatches Error → Type 0
-Reads words (Ok m) = (app : App) × IsCommandLine app × (subcommand_rows_of m ≡ subcommand_of app words)
+Reads words (Ok m) =
+    (app : App) × IsCommandLine app × (fault_of app words ≡ []) × (subcommand_rows_of m ≡ subcommand_of app words)
 Reads words (Err e) =
-    (kind_of e ≡ error.OutOfMemory) ⊎ ((app : App) × IsCommandLine app × (takes app words ≡ true → ⊥))
+    (kind_of e ≡ error.OutOfMemory)
+    ⊎ ((app : App) × IsCommandLine app × IsAmong (kind_of e) (fault_of app words))

@@ -231,8 +231,8 @@ pub(crate) fn answer<'a, W: Write, P: Watch>(
     out: &mut W,
     watch: &mut P,
 ) -> Result<bool, CommandFault<'a>>
-    ensures { IsAnswered asking.now.settings script.now asking.now.form asking.now.question (W.contents out.old)
-        (W.contents out.new) (status result) }
+    ensures { IsAnswered asking.now.settings script.now name.now asking.now.form asking.now.question
+        (W.contents out.old) (W.contents out.new) (status result) }
 {
     let settings = asking.settings;
     let form = asking.form;

@@ -2,21 +2,22 @@
 ghost use Rattle.std.specs.Prelude.{◌≡◌, IfErr, IfOk, map, option_map};
 ghost use Rattle.std.specs.String.{string_bytes};
 ghost use Rattle.clap.specs.Words.{kind_of};
-ghost use Rattle.vsm_explain.specs.Command.{AnswersOf, Does, IsScriptOf, path_in};
-ghost use Rattle.vsm_explain.specs.Status.{IsFailure, IsStatus, IsWordless, fault_status, status};
+ghost use Rattle.vsm_explain.specs.Command.{AnswersKind, Concludes, Does};
+ghost use Rattle.vsm_explain.specs.Messages.{Reports};
+ghost use Rattle.vsm_explain.specs.Scripts.{HasNoScript, IsScriptOf, file_in, is_listing, name_in, path_in};
+ghost use Rattle.vsm_explain.specs.Status.{IsStatus, IsWordless, status};
 
 use crate::answers::{answer, explain_code};
 use crate::faults::{CommandFault, report};
 use crate::options::read_words;
 use crate::progress::{Progress, Stopwatch};
-use crate::scripts::{Unread, read_whole};
+use crate::scripts::{read_file, read_whole};
 use clap::Error;
 use clap::error::ErrorKind;
 use explain_questions::{Asking, PlainText, Question, asking_of};
-use memchr::memchr;
 use std::alloc::Global;
 use std::io::{Read, Write};
-use vsm_bench::ScriptFiles;
+use vsm_bench::{Messages, ScriptFiles};
 
 /// Which of the standard streams are terminals.
 #[derive(Clone, Copy, Debug)]
@@ -43,14 +44,14 @@ fn put_first_paragraph<E: Write>(errors: &mut E, text: &str) {
 }
 
 /// Answers arguments that ask no question: help and the version on `output`, what is wrong on `errors`.
-fn answer_words<O: Write, E: Write>(
+fn answer_words<O: Write, E: Messages>(
     alloc: Global,
     error: &Error,
     output: &mut O,
     errors: &mut E,
 ) -> u8
+    ensures answers { AnswersKind E.said output.old output.new errors.new result (kind_of error.now) }
     ensures status { IsWordless result }
-    ensures memory { kind_of error.now ≡ ErrorKind.OutOfMemory → (result ≡ 16) × (output.new ≡ output.old) }
 {
     match error.kind() {
         ErrorKind::DisplayHelp | ErrorKind::DisplayVersion => match write!(output, "{error}") {
@@ -70,7 +71,7 @@ fn answer_words<O: Write, E: Write>(
 
 /// The path of the script that is asked about; `None` for standard input, which `-` names too.
 fn path_of<'a>(asking: &Asking<'a>) -> Option<&'a str>
-    ensures { option_map (λ s. s.now) result ≡ path_in (option_map (λ s. s.now) asking.now.file) }
+    ensures { option_map (λ s. s.now) result ≡ path_in (file_in asking.now) }
 {
     match asking.file {
         Some("-") => None,
@@ -78,40 +79,47 @@ fn path_of<'a>(asking: &Asking<'a>) -> Option<&'a str>
     }
 }
 
+/// What the script that is asked about is called.
+fn name_of<'a>(asking: &Asking<'a>) -> &'a str
+    ensures { result.now ≡ name_in (path_in (file_in asking.now)) }
+{
+    path_of(asking).unwrap_or(NO_NAME)
+}
+
+/// Whether a listing is asked for, which itself reports what is no text.
+fn is_listing(question: &Question<'_>) -> bool
+    ensures { result ≡ is_listing question.now }
+{
+    matches!(question, Question::List { .. } | Question::Check)
+}
+
 /// The whole script that is asked about.
 fn script_of<'a, R: ScriptFiles, I: Read>(
     rt: &R,
     alloc: Global,
     asking: &Asking<'a>,
-    terminals: Terminals,
+    at_terminal: bool,
     input: &mut I,
 ) -> Result<Vec<u8>, CommandFault<'a>>
     ensures script { IfOk result (λ bytes. IsScriptOf (R.opened rt.now) (R.Script.remaining) I.remaining input.old
-        (path_in (option_map (λ s. s.now) asking.now.file)) bytes.items) }
-    ensures failure { IfErr result (λ e. IsFailure (fault_status e)) }
+        (is_listing asking.now.question) (path_in (file_in asking.now)) bytes.items) }
+    ensures none { IfErr result (HasNoScript (R.opened rt.now) (R.Script.remaining) I.remaining input.old at_terminal
+        asking.now) }
 {
+    let listed = is_listing(&asking.question);
     let Some(path) = path_of(asking) else {
-        if terminals.input && asking.file.is_none() {
+        if at_terminal && asking.file.is_none() {
             return Err(CommandFault::Terminal);
         }
-        return match read_whole(alloc, input) {
+        return match read_whole(alloc, listed, input) {
             Ok(bytes) => Ok(bytes),
             Err(unread) => Err(CommandFault::Script(NO_NAME, unread)),
         };
     };
-    let read = match rt.open_script(path) {
-        Ok(mut script) => read_whole(alloc, &mut script),
-        Err(error) => Err(Unread::Read(error)),
-    };
-    match read {
+    match read_file(rt, alloc, listed, path) {
         Ok(bytes) => Ok(bytes),
         Err(unread) => Err(CommandFault::Script(path, unread)),
     }
-}
-
-/// Whether a listing is asked for, which itself reports what is no text.
-fn is_listing(question: &Question<'_>) -> bool {
-    matches!(question, Question::List { .. } | Question::Check)
 }
 
 /// Answers what is asked; `true` if status 4 reports a refusal.
@@ -123,22 +131,18 @@ fn answer_asking<'a, R: ScriptFiles + Stopwatch + AllocGlobal, I: Read, O: Write
     output: &mut O,
     errors: &mut E,
 ) -> Result<bool, CommandFault<'a>>
-    ensures { AnswersOf (R.opened rt.now) (R.Script.remaining) I.remaining O.contents input.old output.old output.new
-        (status result) asking.now asking.now.question }
+    ensures { Concludes (R.opened rt.now) (R.Script.remaining) I.remaining O.contents input.old terminals.input
+        output.old output.new asking.now asking.now.question result }
 {
     if let Question::Code { first, second } = asking.question {
         return explain_code(rt.alloc(), asking.form, first, second, output);
     }
-    let script = script_of(rt, rt.alloc(), asking, terminals, input)?;
-    let name = path_of(asking).unwrap_or(NO_NAME);
-    if !is_listing(&asking.question) && memchr(0, script.as_slice()).is_some() {
-        return Err(CommandFault::Script(name, Unread::Binary));
-    }
+    let script = script_of(rt, rt.alloc(), asking, terminals.input, input)?;
     let mut progress = Progress::new(rt, errors, terminals.errors);
     answer(
         rt.alloc(),
         asking,
-        name,
+        name_of(asking),
         script.as_slice(),
         output,
         &mut progress,
@@ -146,9 +150,10 @@ fn answer_asking<'a, R: ScriptFiles + Stopwatch + AllocGlobal, I: Read, O: Write
 }
 
 /// The exit status of an answer; a fault is reported on `errors`.
-fn end<E: Write>(errors: &mut E, outcome: Result<bool, CommandFault<'_>>) -> u8
+fn end<E: Messages>(errors: &mut E, outcome: Result<bool, CommandFault<'_>>) -> u8
     ensures status { result ≡ status outcome.entry }
     ensures all { IsStatus result }
+    ensures reports { Reports E.said errors.new outcome.entry }
 {
     match outcome {
         Ok(false) => 0,
@@ -164,7 +169,7 @@ fn end<E: Write>(errors: &mut E, outcome: Result<bool, CommandFault<'_>>) -> u8
 /// is 0 if the question was answered, 4 if a listed statement or the one that was asked about was refused, 8 if the
 /// script can't be read or the output can't be written, and 16 if the arguments are wrong, what they ask for doesn't
 /// exist, the settings are out of their limits or memory runs out.
-pub fn command<R: ScriptFiles + Stopwatch + AllocGlobal, I: Read, O: Write, E: Write>(
+pub fn command<R: ScriptFiles + Stopwatch + AllocGlobal, I: Read, O: Write, E: Messages>(
     rt: &R,
     words: &[String],
     terminals: Terminals,
@@ -172,8 +177,8 @@ pub fn command<R: ScriptFiles + Stopwatch + AllocGlobal, I: Read, O: Write, E: W
     output: &mut O,
     errors: &mut E,
 ) -> u8
-    ensures does { Does (R.opened rt.now) (R.Script.remaining) I.remaining O.contents input.old output.old output.new
-        result (map string_bytes words.now) }
+    ensures does { Does (R.opened rt.now) (R.Script.remaining) I.remaining O.contents E.said input.old terminals.input
+        output.old output.new errors.new result (map string_bytes words.now) }
     ensures all { IsStatus result }
 {
     let matches = match read_words(rt.alloc(), words) {

@@ -1,12 +1,14 @@
 //! The messages of questions without an answer, and their exit statuses.
 ghost use Rattle.std.specs.Prelude.{◌≡◌};
+ghost use Rattle.vsm_explain.specs.Messages.{EndsIn, fault_end};
 ghost use Rattle.vsm_explain.specs.Status.{fault_status, IsFailure};
 
-use crate::scripts::{Excess, MOST_BYTES, MOST_COLUMNS, MOST_LINES, Unread};
+use crate::scripts::{Excess, MOST_COLUMNS, MOST_LINES, Unread};
 use explain_questions::{PlainText, WordRefusal};
 use std::fmt;
 use std::fmt::{Display, Formatter};
 use std::io::Write;
+use vsm_bench::Messages;
 
 /// Why a question has no answer.
 #[derive(Clone, Copy)]
@@ -35,31 +37,15 @@ pub(crate) enum CommandFault<'a> {
     NoName,
 }
 
-/// The message about a script that can't be read, or isn't text.
-#[derive(Clone, Copy)]
-struct UnreadText<'a>(&'a str, Unread);
-
-impl Display for UnreadText<'_> {
-    fn fmt<W: fmt::Write>(&self, f: &mut Formatter<W>) -> fmt::Result {
-        let name = PlainText(self.0);
-        match self.1 {
-            Unread::Read(error) => write!(f, "{name} can't be read: {error}"),
-            Unread::Empty => write!(f, "{name} is empty"),
-            Unread::TooLong => write!(f, "{name} is longer than {MOST_BYTES} bytes"),
-            Unread::Binary => write!(f, "{name} isn't text: it has bytes X'00'"),
-        }
-    }
-}
-
 impl Display for CommandFault<'_> {
+    /// What is said of a fault before its end.
     fn fmt<W: fmt::Write>(&self, f: &mut Formatter<W>) -> fmt::Result {
         match *self {
             CommandFault::Words(refusal) => write!(f, "{refusal}"),
-            CommandFault::Terminal => f.write_str(
-                "no FILE is named, and standard input is a terminal",
-            ),
-            CommandFault::Script(name, unread) => write!(f, "{}", UnreadText(name, unread)),
-            CommandFault::Memory => f.write_str("memory ran out"),
+            CommandFault::Script(name, Unread::Read(error)) => {
+                write!(f, "{} can't be read: {error}", PlainText(name))
+            }
+            CommandFault::Script(name, _) => write!(f, "{}", PlainText(name)),
             CommandFault::TooLong(Excess::Lines) => {
                 write!(
                     f,
@@ -70,7 +56,6 @@ impl Display for CommandFault<'_> {
                 f,
                 "line {line} is too long: it has more than {MOST_COLUMNS} bytes"
             ),
-            CommandFault::Write => f.write_str("the output can't be written"),
             CommandFault::NoLine { line, lines } => write!(
                 f,
                 "line {line} doesn't exist: the script has {lines}"
@@ -87,7 +72,30 @@ impl Display for CommandFault<'_> {
             CommandFault::NoName => f.write_str(
                 "no statement in effect defines the name that --name asks for",
             ),
+            CommandFault::Terminal | CommandFault::Memory | CommandFault::Write => Ok(()),
         }
+    }
+}
+
+/// The end of what is said of a fault.
+fn fault_end(fault: &CommandFault<'_>) -> &'static str
+    ensures { result.now ≡ fault_end fault.now }
+{
+    match fault {
+        CommandFault::Terminal => "no FILE is named, and standard input is a terminal\n",
+        CommandFault::Memory => "memory ran out\n",
+        CommandFault::Write => "the output can't be written\n",
+        CommandFault::Script(_, Unread::Empty) => " is empty\n",
+        CommandFault::Script(_, Unread::TooLong) => " is longer than 268435456 bytes\n",
+        CommandFault::Script(_, Unread::Binary) => " isn't text: it has bytes X'00'\n",
+        CommandFault::Script(_, Unread::Read(_))
+        | CommandFault::Words(_)
+        | CommandFault::TooLong(_)
+        | CommandFault::NoLine { .. }
+        | CommandFault::Aside(_)
+        | CommandFault::Dropped(_)
+        | CommandFault::NoTask(_)
+        | CommandFault::NoName => "\n",
     }
 }
 
@@ -110,10 +118,12 @@ fn status_of(fault: &CommandFault<'_>) -> u8
 }
 
 /// Reports on standard error why a question has no answer, and returns the exit status.
-pub(crate) fn report<E: Write>(errors: &mut E, fault: CommandFault<'_>) -> u8
+pub(crate) fn report<E: Messages>(errors: &mut E, fault: CommandFault<'_>) -> u8
     ensures status { result ≡ fault_status fault.entry }
     ensures failure { IsFailure result }
+    ensures says { EndsIn E.said errors.new (fault_end fault.entry) }
 {
-    let _ = writeln!(errors, "vsm-explain: {fault}");
+    let _ = write!(errors, "vsm-explain: {fault}");
+    let _ = errors.say(fault_end(&fault));
     status_of(&fault)
 }

@@ -1,14 +1,16 @@
 //! Scripts, read whole.
 
-ghost use Rattle.std.specs.Prelude.{IfOk};
-ghost use Rattle.vsm_explain.specs.Command.{IsAll};
+ghost use Rattle.std.specs.Prelude.{◌≡◌, IfErr, IfOk};
+ghost use Rattle.vsm_explain.specs.Scripts.{IsScript, IsUnread, IsUnreadFile, OfFile, has_zero};
 
+use memchr::memchr;
 use std::alloc::Global;
 use std::io;
 use std::io::Read;
+use vsm_bench::ScriptFiles;
 
 /// The most bytes of a script: 256 for each of the lines that it may have.
-pub(crate) const MOST_BYTES: u64 = 268_435_456;
+const MOST_BYTES: u64 = 268_435_456;
 
 /// Why a script can't be explained.
 #[derive(Clone, Copy)]
@@ -23,9 +25,21 @@ pub(crate) enum Unread {
     Binary,
 }
 
-/// All that a reader has left, if that isn't more than a script may have.
-pub(crate) fn read_whole<S: Read>(alloc: Global, script: &mut S) -> Result<Vec<u8>, Unread>
-    ensures { IfOk result (λ bytes. IsAll (S.remaining script.old) bytes.items) }
+/// Whether a script has a byte X'00'.
+fn has_zero(script: &[u8]) -> bool
+    ensures { result ≡ has_zero script.now }
+{
+    memchr(0, script).is_some()
+}
+
+/// All that a reader has left, if that is a script. In one that is listed a byte may be X'00'.
+pub(crate) fn read_whole<S: Read>(
+    alloc: Global,
+    listed: bool,
+    script: &mut S,
+) -> Result<Vec<u8>, Unread>
+    ensures script { IfOk result (λ bytes. IsScript listed (S.remaining script.old) bytes.items) }
+    ensures unread { IfErr result (IsUnread listed (S.remaining script.old)) }
 {
     let mut bytes = Vec::new(alloc);
     let mut limited = script.take(MOST_BYTES + 1);
@@ -33,7 +47,25 @@ pub(crate) fn read_whole<S: Read>(alloc: Global, script: &mut S) -> Result<Vec<u
         Err(error) => Err(Unread::Read(error)),
         Ok(_) if bytes.is_empty() => Err(Unread::Empty),
         Ok(_) if bytes.len() as u64 > MOST_BYTES => Err(Unread::TooLong),
+        Ok(_) if !listed && has_zero(bytes.as_slice()) => Err(Unread::Binary),
         Ok(_) => Ok(bytes),
+    }
+}
+
+/// The script at a path.
+pub(crate) fn read_file<R: ScriptFiles>(
+    rt: &R,
+    alloc: Global,
+    listed: bool,
+    path: &str,
+) -> Result<Vec<u8>, Unread>
+    ensures script { IfOk result (λ bytes. OfFile (R.opened rt.now) (R.Script.remaining)
+        (λ left. IsScript listed left bytes.items) path.now) }
+    ensures unread { IfErr result (IsUnreadFile (R.opened rt.now) (R.Script.remaining) listed path.now) }
+{
+    match rt.open_script(path) {
+        Ok(mut script) => read_whole(alloc, listed, &mut script),
+        Err(error) => Err(Unread::Read(error)),
     }
 }
 

@@ -5,16 +5,18 @@ use Rattle.text_output.specs.Writing.{Puts}
 use Rattle.text_output.proofs.Gathering.{puts_both, puts_none}
 use Rattle.macro_statements.specs.Requests.{asked_in}
 use Rattle.list_rows.specs.Answers.{Notes, name_given, pool_made, told_in}
-use Rattle.explain_list.specs.Pages.{shown_of}
-use Rattle.list_rows.specs.Rows.{row_in, source}
-use Rattle.list_rows.proofs.Each.{lines_of_sources, sources_are}
+use Rattle.explain_list.specs.Pages.{fault_told, shown_of}
+use Rattle.list_rows.specs.Rows.{AreMarksOf, lines_of, row_in, source}
+use Rattle.list_rows.proofs.Each.{lines_of_sources, marks_of_sources, rows_marks, sources_are}
 use Rattle.explain_list.proofs.Unwritten.{unwritten_notes}
-use Rattle.explain_list.proofs.Marked.{shown_are}
+use Rattle.explain_list.proofs.Marked.{page_marks, shown_are}
 use Rattle.explain_list.proofs.answers.put_page.Goals as goal
 
 pub returns-then-is_written : goal.returns-then-is_written
 returns-then-is_written g c = λ page at.
-    let rows = c.put_rows.ensures page in
+    let kind = fault_told c.args.answered.now.told.now in
+    let rows = c.put_rows.ensures kind page in
+    let marks = page_marks c.args.script.now kind c.args.page.now page in
     let told = c.put_answer.ensures in
     let text = flat_map (row_in c.args.layout.form c.args.script.now) rows.0 in
     let its = c.args.answered.now in
@@ -23,13 +25,13 @@ returns-then-is_written g c = λ page at.
       rows.0,
       its.last,
       told.0,
-      rows.1,
+      (rows.1, rows_marks c.args.script.now kind rows.0 (shown_of c.args.page.now) _ rows.2 rows.3 marks),
       rows.2,
       at,
       told.1,
       subst (Puts (g.W.Write.contents c.args.writer.now) (g.W.Write.contents c.put_answer.new.writer) c.args.gathered.now c.put_answer.new.gathered)
           (sym (ap (λ w. if w then text ++ answer else []) (sym c.is_written.ensures ∙ c.if-is_written.true)))
-          (puts_both _ _ _ _ _ _ text answer rows.3 told.2),
+          (puts_both _ _ _ _ _ _ text answer rows.4 told.2),
     )
 
 pub returns-else-is_written : goal.returns-else-is_written
@@ -45,7 +47,10 @@ returns-else-is_written g c = λ page at.
       map source lines,
       its.last,
       notes,
-      sources_are script lines (shown_are script c.args.page.now page),
+      (
+        sources_are script lines (shown_are script (fault_told its.told.now) c.args.page.now page),
+        subst (AreMarksOf script (lines_of (map source lines)) (fault_told its.told.now)) (sym (marks_of_sources lines)) tt,
+      ),
       lines_of_sources lines,
       at,
       unwritten_notes c.args.layout (settings_in b) (bench_of b).present asked its.told.now (sym c.is_written.ensures ∙ c.if-is_written.false),

@@ -1,10 +1,7 @@
-use Rattle.std.proofs.Common.{subst}
-use Rattle.statement_faults.specs.Places.{first_card, further_cards, MarksOperand}
+use Rattle.std.proofs.Common.{◌∙◌, Some, ap}
+use Rattle.explain_list.specs.Pages.{fault_in}
+use Rattle.explain_list.proofs.Marked.{if_some}
 use Rattle.explain_list.proofs.pages.fault_of.Goals as goal
 
 pub returns-in-Fault : goal.returns-in-Fault
-returns-in-Fault c =
-    subst (λ lines. MarksOperand (first_card c.args.script.now lines) (further_cards c.args.script.now lines) c.in-Fault.kind c.caret_of.result) c.as_slice.ensures.value c.caret_of.ensures
-
-pub returns-in_default : goal.returns-in_default
-returns-in_default c = tt
+returns-in-Fault c = if_some _ _ c.place_of.result (λ f h. (ap fault_in c.in-Fault.is ∙ ap (λ k. Some k) h.0, h.1)) c.place_of.ensures

@@ -1,4 +1,4 @@
-use Rattle.std.proofs.Common.{sym, subst}
+use Rattle.std.proofs.Common.{length, sym, subst}
 use Rattle.std.specs.Prelude.{codes}
 use Rattle.macro_statements.specs.Requests.{asked_in}
 use Rattle.bench_core.specs.Stands.{bench_of, settings_in}
@@ -14,8 +14,8 @@ returns-in-Request-clause-told g c =
     let old = g.W.Write.contents c.args.writer.now in
     let now = g.W.Write.contents c.put_first.new.writer in
     let new = g.W.Write.contents c.put_reasons.new.writer in
-    subst (λ q. TellsAhead (settings_in b) (bench_of b).present q old new c.args.gathered.now c.put_reasons.new.gathered) (sym c.in-Request.is)
-    (told_behind (settings_in b) (bench_of b).present (asked_in c.in-Request.request) old now new
+    subst (λ q. TellsAhead (settings_in b) (bench_of b).present (length (bench_of b).past) (length (bench_of b).later) q old new c.args.gathered.now c.put_reasons.new.gathered) (sym c.in-Request.is)
+    (told_behind (settings_in b) (bench_of b).present (length (bench_of b).past) (length (bench_of b).later) (asked_in c.in-Request.request) old now new
     c.args.gathered.now c.put_first.new.gathered c.put_reasons.new.gathered
     (first_text c.args.place.now.first c.args.line, c.put_first.ensures) c.put_reasons.ensures.told)
 

@@ -1,4 +1,4 @@
-use Rattle.std.proofs.Common.{◌≡◌, ℕ, List, map, sym, subst}
+use Rattle.std.proofs.Common.{◌≡◌, ℕ, List, length, map, sym, subst}
 use Rattle.macro_reader.specs.Columns.{used}
 use Rattle.statement_faults.specs.Places.{card_in}
 use Rattle.bench_core.specs.Stands.{bench_of, settings_in}
@@ -24,8 +24,8 @@ returns-in-Ok-clause-told g c =
     let second = c.put_why.new.gathered in
     let third = c.put_detail.new.gathered in
     let last = c.put_answer_at.new.gathered in
-    ahead_written (settings_in b) (bench_of b).present asked old now later new first second last c.new-gathered.ensures
-    (subst (λ x. TellsAhead (settings_in x) (bench_of x).present asked old now first second) c.bench.ensures c.put_why.ensures.told)
+    ahead_written (settings_in b) (bench_of b).present (length (bench_of b).past) (length (bench_of b).later) asked old now later new first second last c.new-gathered.ensures
+    (subst (λ x. TellsAhead (settings_in x) (bench_of x).present (length (bench_of x).past) (length (bench_of x).later) asked old now first second) c.bench.ensures c.put_why.ensures.told)
     (some_both now then later second third last c.put_detail.ensures.some c.in_ok-refused.ensures.some) c.in-Ok.ensures
 
 pub returns-in-Ok-clause-detail : goal.returns-in-Ok-clause-detail

@@ -1,14 +1,15 @@
-use Rattle.std.proofs.Common.{subst, take}
+use Rattle.std.proofs.Common.{length, subst, take}
 use Rattle.bench_core.specs.Stands.{bench_of, settings_in}
 use Rattle.statement_details.specs.Defined.{IsItsDefinition}
 use Rattle.statement_details.specs.Details.{WritesDetail}
 use Rattle.explain_why.specs.Answers.{WritesAnswer}
 use Rattle.explain_why.specs.Explained.{IsExplained, WritesAhead}
+use Rattle.explain_why.proofs.Faulted.{other_says_nothing}
 use Rattle.explain_why.proofs.Found.{all_ok, explained}
 use Rattle.explain_why.proofs.lines.why_text.Goals as goal
 
-pub returns : goal.returns
-returns g c =
+pub returns-clause-explained : goal.returns-clause-explained
+returns-clause-explained g c =
     let settings = c.args.settings in
     let script = c.args.script.now in
     let line = c.args.line in
@@ -19,11 +20,14 @@ returns g c =
     let asked = place.ahead.asked in
     let m = (bench_of s.bench).present in
     let d = c.in_ok-definition.definition in
-    let found = c.in_ok-place.ensures.found settings c.in_ok-session.ensures in
+    let found = c.in_ok-place.ensures.found settings c.in_ok-session.ensures.took in
     let own = found.its.statement.ahead.lines in
     let defined : IsItsDefinition settings m (take place.at script) asked d =
-    subst (λ b. IsItsDefinition settings (bench_of b).present (take place.at script) asked d) c.bench.ensures c.in_ok-definition.ensures in
-    all_ok (WritesAhead (settings_in s.bench) m asked old new) (WritesDetail place.first own m asked d old new)
+    subst (λ b. IsItsDefinition settings (bench_of b).present (take place.at script) asked d) c.bench.ensures c.in_ok-definition.ensures.its in
+    all_ok (WritesAhead (settings_in s.bench) m (length (bench_of s.bench).past) (length (bench_of s.bench).later) asked old new) (WritesDetail place.first own m asked d old new)
     (WritesAnswer settings script found.before place.first line old new) (IsExplained settings script line old new) c.tell.result
     (λ refused told detail answer. explained settings script line s place d old new c.in_ok-place.ensures.within found refused told detail defined answer)
     c.tell.ensures.told (c.tell.ensures.detail own found.its.statement.ahead.cards) (c.tell.ensures.answer settings found.before found.took)
+
+pub returns-clause-fault : goal.returns-clause-fault
+returns-clause-fault g c = other_says_nothing c.args.script.now c.args.line c.tell.result c.tell.ensures.other

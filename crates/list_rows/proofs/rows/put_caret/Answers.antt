@@ -1,12 +1,12 @@
-use Rattle.std.proofs.Common.{[], refl}
+use Rattle.std.proofs.Common.{[], ◌∷◌, refl}
 use Rattle.statement_faults.specs.Places.{caret_width}
-use Rattle.list_rows.specs.Rows.{faulty}
+use Rattle.list_rows.specs.Rows.{faulty, mark_of}
 use Rattle.list_rows.proofs.Each.{row_one}
 use Rattle.list_rows.proofs.rows.put_caret.Goals as goal
 
 pub returns : goal.returns
-returns g c = λ line points.
+returns g c = λ line.
     let caret = c.args.caret.now in
     let kind = c.args.kind in
-    row_one c.args.form c.args.script.now [] _ _ _ _ (faulty c.args.line.now caret.place.column (caret_width kind caret) kind c.one_line.result.now c.one_line-hint.result.now) refl
-    (line, c.one_line.ensures, c.one_line-hint.ensures, points) c.put_faulty_row.ensures
+    row_one c.args.form c.args.script.now [] (mark_of c.args.line.now (caret, kind) ∷ []) _ _ _ _ (faulty c.args.line.now caret.place.column (caret_width kind caret) kind c.one_line.result.now c.one_line-hint.result.now) refl refl
+    (line, c.one_line.ensures, c.one_line-hint.ensures) c.put_faulty_row.ensures

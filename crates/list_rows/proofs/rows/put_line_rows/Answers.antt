@@ -3,8 +3,8 @@ use Rattle.list_rows.proofs.Each.{rows_both}
 use Rattle.list_rows.proofs.rows.put_line_rows.Goals as goal
 
 pub returns : goal.returns
-returns g c = λ line before points.
+returns g c = λ line before.
     let form = c.args.form in
     let script = c.args.script.now in
-    rows_both form script (c.args.line.now ∷ []) [] _ _ _ _ _ _ (c.put_own_row.ensures line before)
-    (rows_both form script [] [] _ _ _ _ _ _ (c.put_role_warnings.ensures line) (c.put_fault_row.ensures line points))
+    rows_both form script (c.args.line.now ∷ []) [] [] _ _ _ _ _ _ _ (c.put_own_row.ensures line before)
+    (rows_both form script [] [] [] _ _ _ _ _ _ _ (c.put_role_warnings.ensures line) (c.put_fault_row.ensures line))

@@ -8,10 +8,10 @@ use Rattle.list_rows.proofs.rows.put_own_object.Goals as goal
 
 pub returns-in-Some : goal.returns-in-Some
 returns-in-Some g c = λ line before.
-    row_one form.Json c.args.script.now (c.args.line.now ∷ []) _ _ _ _ (lost c.args.line.now c.in-Some.before) refl (line, rw c.in-Some.is at before)
+    row_one form.Json c.args.script.now (c.args.line.now ∷ []) [] _ _ _ _ (lost c.args.line.now c.in-Some.before) refl refl (line, rw c.in-Some.is at before)
     (subst (Puts (g.W.Write.contents c.args.writer.now) (g.W.Write.contents c.put_dropped_object.new.writer) c.args.gathered.now c.put_dropped_object.new.gathered)
     (λ i. dropped_object c.args.line.now.number (c.bytes.ensures i) (c.bytes-in-Some.ensures i)) c.put_dropped_object.ensures)
 
 pub returns-in_default : goal.returns-in_default
 returns-in_default g c = λ line before.
-    row_one form.Json c.args.script.now (c.args.line.now ∷ []) _ _ _ _ (source c.args.line.now) refl line (puts_none _ _)
+    row_one form.Json c.args.script.now (c.args.line.now ∷ []) [] _ _ _ _ (source c.args.line.now) refl refl line (puts_none _ _)

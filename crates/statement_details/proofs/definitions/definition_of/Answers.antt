@@ -3,4 +3,4 @@ use Rattle.statement_details.proofs.definitions.definition_of.Goals as goal
 pub returns : goal.returns
 returns g c = λ settings took.
     let h = c.in_ok-definition.ensures settings took in
-    (h.0, h.1, (h.2.0, h.2.1, c.with_steps.ensures settings c.args.name.now.bytes h.2.0 h.2.2))
+    (h.0, h.1, c.with_steps.ensures settings c.args.name.now.bytes h.0 h.2)

@@ -6,7 +6,7 @@ use Rattle.vsm_explain.proofs.answers.answer.Goals as goal
 
 pub returns-in-List : goal.returns-in-List
 returns-in-List g c =
-    subst (λ q. IsAnswered c.args.asking.now.settings c.args.script.now c.args.asking.now.form q (g.W.Write.contents c.args.out.now)
+    subst (λ q. IsAnswered c.args.asking.now.settings c.args.script.now c.args.name.now c.args.asking.now.form q (g.W.Write.contents c.args.out.now)
     (g.W.Write.contents c.list_shown.new.out) (status c.list_shown.result)) (sym c.in-List.is) (
       shown.Listing (record { form = c.args.asking.now.form; only_refused = c.in-List.only_refused }),
       (refl, refl),
@@ -17,6 +17,6 @@ returns-in-List g c =
 
 pub returns-in-Check : goal.returns-in-Check
 returns-in-Check g c =
-    subst (λ q. IsAnswered c.args.asking.now.settings c.args.script.now c.args.asking.now.form q (g.W.Write.contents c.args.out.now)
+    subst (λ q. IsAnswered c.args.asking.now.settings c.args.script.now c.args.name.now c.args.asking.now.form q (g.W.Write.contents c.args.out.now)
     (g.W.Write.contents c.list_shown-in-Check.new.out) (status c.list_shown-in-Check.result)) (sym c.in-Check.is)
-    (shown.Check c.as_bytes.result, tt, c.list_shown-in-Check.ensures.0, c.list_shown-in-Check.ensures.1, c.list_shown-in-Check.ensures.2)
+    (shown.Check c.as_bytes.result, c.as_bytes.ensures.value, c.list_shown-in-Check.ensures.0, c.list_shown-in-Check.ensures.1, c.list_shown-in-Check.ensures.2)

@@ -9,4 +9,4 @@ returns-in_err-command_line c = search rules
 pub returns : goal.returns
 returns c =
     read_as _ (map string_bytes c.args.words.now) c.try_get_matches_from.result c.in_ok-command_line.ensures
-    c.try_get_matches_from.ensures.matches c.try_get_matches_from.ensures.passes
+    c.try_get_matches_from.ensures.matches c.try_get_matches_from.ensures.kinds

@@ -1,11 +1,12 @@
-use Rattle.std.proofs.Common.{◌∙◌, ap, sym}
+use Rattle.std.proofs.Common.{◌∙◌, ap, sym, subst}
 use Rattle.statement_faults.specs.declared.lines.OpenLines.{OpenLines}
+use Rattle.explain_list.specs.Pages.{IsPage}
 use Rattle.explain_list.proofs.Marked.{open_none, shown_some}
 use Rattle.explain_list.proofs.pages.ListingPage.show_open.Goals as goal
 
 pub returns-after-as_slice-gt1 : goal.returns-after-as_slice-gt1
 returns-after-as_slice-gt1 c = record {
-  page = λ lines. c.show.ensures.page (c.hide.ensures.lines c.args.script.now lines);
+  page = λ lines. subst (λ kind. IsPage c.args.script.now kind c.show.new.self) c.brought_by.ensures (c.show.ensures.page (c.hide.ensures.lines c.args.script.now lines));
   whole = shown_some c.show.new.self _ c.show.ensures.last ∙ ap (λ (ls : OpenLines). ls.lines.items) c.show.ensures.lines
       ∙ sym (open_none c.hide.new.self c.hide.ensures.last) ∙ c.hide.ensures.open;
 }

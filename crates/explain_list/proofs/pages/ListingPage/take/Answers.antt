@@ -13,7 +13,7 @@ returns-then-shows c = record {
 
 pub returns-else-shows : goal.returns-else-shows
 returns-else-shows c = record {
-  page = λ at lines. plain_page c.args.script.now c.keep.new.self (c.keep.ensures.lines c.args.script.now at lines) c.keep.ensures.fault;
+  page = λ at lines. plain_page c.args.script.now _ c.keep.new.self (c.keep.ensures.lines c.args.script.now at lines) c.keep.ensures.fault;
   whole = λ room. whole_of c.keep.new.self ∙ c.keep.ensures.whole room;
   room = subst (λ (ls : List SourceLine). length ls ≤ 9) (sym (open_none c.keep.new.self c.keep.ensures.last)) (c.shows.ensures c.if-shows.false);
 }

@@ -1,8 +1,8 @@
 use Rattle.statement_faults.proofs.FieldOver.{caret_marks}
-use Rattle.statement_faults.proofs.carets.caret_of.Goals as goal
+use Rattle.statement_faults.proofs.carets.gathered_caret.Goals as goal
 
-pub returns : goal.returns
-returns c =
+pub returns-clause-marks : goal.returns-clause-marks
+returns-clause-marks c =
     let over = c.field_over-field in
     let wrong = c.wrong_operand-from in
     caret_marks c.args.script.now c.args.lines.now c.further_lines.result.now c.first_card-card.result c.args.kind over.result.0 over.result.1 c.text.result.now
