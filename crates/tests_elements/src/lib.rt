@@ -11,9 +11,3 @@ mod frames;
 mod subpool_steps;
 #[cfg(test)]
 mod subpool_storage_cells;
-#[cfg(test)]
-mod subpool_storage_pages;
-#[cfg(test)]
-mod subpool_storage_sharing;
-#[cfg(test)]
-mod subpools;
