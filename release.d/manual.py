@@ -186,8 +186,7 @@ def page_of_vsm(page: Page, help_text: str, messages: str, others: list[str]) ->
     status = markdown.section(blocks, "Standard error and exit status")
     if not options or not isinstance(options[0], Code):
         raise LookupError("the section 'Options' doesn't begin with the usage")
-    # The last paragraph is about the script in a clone.
-    usage, options = options[0], options[1:-1]
+    usage, options = options[0], options[1:]
     # The last paragraph has the version.
     parts = split_help(help_text)[:-1]
     at, ends, example = (part_at(parts, it) for it in ("Options:", "Exit status:", "Example:"))
