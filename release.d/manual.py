@@ -152,8 +152,11 @@ def see_also(page: Page, others: list[str]) -> list[str]:
 
 
 def files() -> list[str]:
-    return [".Sh FILES", *filled("The scripts of `examples/` are in `share/doc/nilbozad/examples`, below the "
-                                 "folder that this is installed in; that's `/usr` for a package.")]
+    return [".Sh FILES", *filled(
+        "The other documents are in `share/doc/nilbozad`, below the folder that this is installed in; that's `/usr` for a "
+        "package. ZOS.md says where z/OS differs, EXPLAIN.md how to find a mistake, TOOLS.md, VIEW.md, EDITORS.md, "
+        "PROTOCOL.md and BENCH-IN-A-BROWSER.md what the other programs do, GLOSSARY.md the manuals' words, and LIMITS.md "
+        "all limits. The scripts of `examples/` are there too; commands are for that folder.")]
 
 
 def joined(*parts: list[str]) -> str:

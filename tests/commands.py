@@ -40,7 +40,7 @@ STATUSES = {"vsm-test exercise.vsm": 1, "vsm --low 6 nowhere": 8, "vsm --low 429
 # Programs of the system that begin a command, and what documents show the output of.
 SYSTEM = ("rt", "bash", "cc", "echo", "git", "printf", "sed")
 COMPARED = re.compile(r"(\./)?vsm(-explain)? |(bash -c|echo|printf|sed) ")
-# What isn't there once a release is installed.
+# What a release lacks.
 IN_A_CLONE = re.compile(r"(?<![\w/.~-])(\./(?!mybench)|(tools|page|tests|bench|release\.d|\.ci)/)")
 
 
