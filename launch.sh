@@ -127,7 +127,28 @@ tell() {
   say "this run isn't proved: ./prove proves and builds $name, in about 45 minutes"
 }
 
+# Said at a terminal: options of the file's comments before its first statement that aren't given here, and that
+# assembler source is no script.
+advise() {
+  local file='' line word operation='^[^ ]* +(amode|copy|csect|dsect|equ|macro|print|rmode|rsect|start|title|using)( |$)'
+  [ -t 2 ] || return 0
+  for word; do [ ! -f "$word" ] || file=$word; done
+  [ -n "$file" ] || return 0
+  for _ in {1..50}; do
+    IFS= read -r line || [ -n "$line" ] || return 0
+    for word in ${line#'*! '}; do
+      [[ $line == '*! '* && $word == --* && " $* " != *" ${word%%=*}"[\ =]* ]] || continue
+      say "a comment of ${file##*/} asks for ${line#'*! '}: only the tools read it, so give it here too"
+      return 0
+    done
+    [[ $line == \** || -z $line ]] || break
+  done <"$file"
+  [[ ! ${file,,} =~ \.(asm|assemble|hlasm|mlc)$ && ! ${line,,} =~ $operation ]] ||
+    say "${file##*/} looks like assembler source: tools/vsm-paste makes a script of it"
+}
+
 if [ -x "$program" ] && "$top/prove" --program "$crate" --check; then
+  advise "$@"
   exec "$program" "$@"
 fi
 case $#,${1-} in
@@ -138,5 +159,6 @@ if ! "$top/prove" --program "$crate" --check "$unproved"; then
 elif [ -t 2 ]; then
   tell
 fi
+advise "$@"
 # Its errors about arguments begin with this name. The compiled-in checks would also look for leaks at its end.
 ASAN_OPTIONS=${ASAN_OPTIONS-detect_leaks=0} exec -a "$name" "$unproved" "$@"

@@ -23,11 +23,11 @@ from facts import Commit, Refusal
 # What of tools/ and page/ isn't put with the tools: tests, what bench.html is made from, and the library, which has
 # places of its own.
 NOT_INSTALLED = re.compile(r".*/(tests/|\.)|(page|tools)/check|tools/c/|"
-                           r"page/(bench|module|host|chromium|colours|expected|on_page|\w*trials)")
+                           r"page/(bench|module|host|chromium|colours|expected|on_page|\w*trials|.*\.test\.)")
 # How the tools begin, and how they have to in a package.
 FREE_PYTHON, SYSTEM_PYTHON = b"#!/usr/bin/env python3\n", b"#!/usr/bin/python3\n"
 DOCS = ("STATEMENTS.md", "MESSAGES.md", "EXPLAIN.md", "PROTOCOL.md", "ZOS.md", "GLOSSARY.md", "TOOLS.md", "VIEW.md",
-        "EDITORS.md", "BENCH-IN-A-BROWSER.md")
+        "EDITORS.md", "BENCH-IN-A-BROWSER.md", "LIMITS.md")
 # The proved programs, by the crates that build them.
 PROGRAMS = {"vsm": "vsm", "vsm-explain": "vsm_explain_program"}
 COMMANDS = ("list", "why", "report", "who")
@@ -51,6 +51,8 @@ Description: bench for the virtual storage of z/OS
  ATTACH, DETACH) over a simulated private region, and answers each with its
  return code and address or its completion code. It steps back and forward
  over what it did, exactly; that is proved. It has a library for C and Python.
+ .
+ Its documents are in /usr/share/doc/nilbozad: ZOS.md says where z/OS differs.
 """
 
 
@@ -182,11 +184,11 @@ def put_manual(release: Release, root: Path, helps: dict[str, str], commands: li
         put(root / "share" / "man" / f"{page.file}.gz", gzip.compress(text.encode(), 9, mtime=0))
 
 
-def put_completions(root: Path, options: dict[str, list[completions.Option]], zsh_folder: str) -> None:
-    for name, found in options.items():
-        put(root / "share/bash-completion/completions" / name, completions.bash({name: found}))
-        put(root / zsh_folder / f"_{name}", completions.zsh(name, found))
-        put(root / "share/fish/vendor_completions.d" / f"{name}.fish", completions.fish(name, found))
+def put_completions(root: Path, programs: list[completions.Program], zsh_folder: str) -> None:
+    for it in programs:
+        put(root / "share/bash-completion/completions" / it.name, completions.bash(it))
+        put(root / zsh_folder / f"_{it.name}", completions.zsh(it))
+        put(root / "share/fish/vendor_completions.d" / f"{it.name}.fish", completions.fish(it))
 
 
 def released_changes(release: Release) -> str:
@@ -214,10 +216,11 @@ def copyright_of(release: Release, licences: dict[str, bytes]) -> str:
 
 
 def moved(file: str, data: bytes) -> bytes:
-    """A file with its links, for the pages of docs/ one folder higher."""
+    """A document with its links, for the pages of docs/ one folder higher, and with the commands that a release has."""
     if not file.endswith(".md"):
         return data
-    return data.replace(b"](../", b"](") if file.startswith("docs/") else data.replace(b"](../docs/", b"](../")
+    data = data.replace(b"](../", b"](") if file.startswith("docs/") else data.replace(b"](../docs/", b"](../")
+    return re.sub(rb"(?<![\w./])(\./(?=vsm\b)|tools/(?=vsm-))", b"", data)
 
 
 def put_docs(release: Release, root: Path, statement: str) -> None:
@@ -225,7 +228,7 @@ def put_docs(release: Release, root: Path, statement: str) -> None:
     doc = root / "share" / "doc" / "nilbozad"
     for file in release.files:
         if file.removeprefix("docs/") in DOCS or re.fullmatch(
-                r"docs/pictures/.*|conformance/rules|(examples|conformance)/.*(\.(vsm|out)|README\.md)", file):
+                r"docs/pictures/.*|conformance/rules|(examples|conformance)/.*(\.(vsm|out)|README\.md|ANSWERS\.md)", file):
             put(doc / file.removeprefix("docs/"), moved(file, (release.top / file).read_bytes()))
     for name, data in licences.items():
         put(doc / "licenses" / name, data)
@@ -289,13 +292,16 @@ def read_me(release: Release, libc: str) -> str:
     man -l share/man/man1/vsm.1.gz                          describes the program
     man -l share/man/man5/vsm-statements.5.gz               what a script can have
     man -l share/man/man7/vsm-messages.7.gz                 what is printed
+    share/doc/nilbozad/ZOS.md                               where z/OS differs
     cc -Iinclude share/doc/nilbozad/examples/example.c lib/libvsm.a
     PYTHONPATH=lib/python3/dist-packages python3 -c 'import vsm_bench; help(vsm_bench)'
 
 Copied to /usr/local, bin/, include/, lib/ and share/ are found by the shell, by cc, by pkg-config (vsm), by man and by
 completions; ldconfig then makes the shared library known. vsm, vsm-explain and the library need x86-64 Linux and glibc
 {libc} or newer; the other programs of bin/ need Python 3.11.
-PROVED says what was proved, CHANGELOG.md what has changed.
+share/doc/nilbozad also has EXPLAIN.md, TOOLS.md, VIEW.md, EDITORS.md, PROTOCOL.md, BENCH-IN-A-BROWSER.md, GLOSSARY.md
+and LIMITS.md; STATEMENTS.md and MESSAGES.md are the manual's pages. Type their commands in that folder. PROVED says what
+was proved, CHANGELOG.md what has changed.
 """
 
 
@@ -361,20 +367,20 @@ def made(release: Release, room: Path) -> list[Path]:
     """Makes all files in a folder, and gives those that dist/ is to have."""
     helps = {**{name: help_of(built(release.top, name)) for name in PROGRAMS},
              **{name: help_of(release.top / "tools" / name) for name in release.tools}}
-    commands = [help_of(built(release.top, "vsm-explain"), command) for command in COMMANDS]
-    options = {name: completions.options_of(text) for name, text in helps.items()}
-    options["vsm-explain"] = completions.options_of("\n".join([helps["vsm-explain"], *commands]))
+    commands = {it: help_of(built(release.top, "vsm-explain"), it) for it in COMMANDS}
+    completed = [completions.program_of(name, text, commands if name == "vsm-explain" else {})
+                 for name, text in helps.items()]
     root, usr, out = room / "tree", room / "debian" / "usr", room / "out"
     out.mkdir()
     put_programs(release, root)
     put_library(release, root)
     statement = facts.proved(release.top, release.files, statement_head(release), what_was_built(release, root))
-    put_manual(release, root, helps, commands)
+    put_manual(release, root, helps, list(commands.values()))
     put_docs(release, root, statement)
     put_lessons_pages(release, root)
     shutil.copytree(root, usr, symlinks=True)
-    put_completions(root, options, "share/zsh/site-functions")
-    put_completions(usr, options, "share/zsh/vendor-completions")
+    put_completions(root, completed, "share/zsh/site-functions")
+    put_completions(usr, completed, "share/zsh/vendor-completions")
     names = [out / f"nilbozad-{release.version}-linux-x86_64.tar.gz",
              out / f"nilbozad_{release.version}_amd64.deb",
              out / f"nilbozad-{release.version}-py3-none-linux_x86_64.whl"]

@@ -152,8 +152,11 @@ def see_also(page: Page, others: list[str]) -> list[str]:
 
 
 def files() -> list[str]:
-    return [".Sh FILES", *filled("The scripts of `examples/` are in `share/doc/nilbozad/examples`, below the "
-                                 "folder that this is installed in; that's `/usr` for a package.")]
+    return [".Sh FILES", *filled(
+        "The other documents are in `share/doc/nilbozad`, below the folder that this is installed in; that's `/usr` for a "
+        "package. ZOS.md says where z/OS differs, EXPLAIN.md how to find a mistake, TOOLS.md, VIEW.md, EDITORS.md, "
+        "PROTOCOL.md and BENCH-IN-A-BROWSER.md what the other programs do, GLOSSARY.md the manuals' words, and LIMITS.md "
+        "all limits. The scripts of `examples/` are there too; commands are for that folder.")]
 
 
 def joined(*parts: list[str]) -> str:
@@ -186,8 +189,7 @@ def page_of_vsm(page: Page, help_text: str, messages: str, others: list[str]) ->
     status = markdown.section(blocks, "Standard error and exit status")
     if not options or not isinstance(options[0], Code):
         raise LookupError("the section 'Options' doesn't begin with the usage")
-    # The last paragraph is about the script in a clone.
-    usage, options = options[0], options[1:-1]
+    usage, options = options[0], options[1:]
     # The last paragraph has the version.
     parts = split_help(help_text)[:-1]
     at, ends, example = (part_at(parts, it) for it in ("Options:", "Exit status:", "Example:"))

@@ -7,13 +7,15 @@ import time
 import zipfile
 from pathlib import Path
 
-# What is installed next to the Python that pip belongs to, in a folder nilbozad except for the two programs.
+# What is installed next to the Python that pip belongs to, in a folder nilbozad except for the two programs and the manual.
 PLACES = {"share/nilbozad/": "nilbozad/", "lib/libvsm.so.1": "nilbozad/tools/libvsm.so.1",
           "share/doc/nilbozad/PROVED": "nilbozad/PROVED",
           "share/doc/nilbozad/copyright": "{info}/licenses/copyright",
-          "share/doc/nilbozad/licenses/": "{info}/licenses/licenses/"}
+          "share/doc/nilbozad/licenses/": "{info}/licenses/licenses/",
+          "share/doc/nilbozad/": "nilbozad/doc/", "share/man/": "{data}/data/share/man/"}
 STARTER = '''"""Nilbozad as pip installs it: each function here is a tool of the folder tools, which also has the library and
-its modules vsm_bench and vsmtools (nilbozad.pth puts it on Python's path). bench.html is the bench for a browser."""
+its modules vsm_bench and vsmtools (nilbozad.pth puts it on Python's path). bench.html is the bench for a browser, and
+doc has the documents and the lessons."""
 import os
 import sys
 
@@ -33,24 +35,28 @@ License: MIT OR Apache-2.0
 Requires-Python: >=3.11
 
 `vsm SCRIPT` runs a script of storage macros, `vsm-explain --help` and the other commands explain, draw and test one;
-`vsm_bench` and `vsmtools` are its modules for Python. It needs Linux on x86-64 and glibc {libc} or newer.
+`vsm_bench` and `vsmtools` are its modules for Python. The folder `nilbozad` of site-packages has `bench.html`, the bench
+for a browser, and in `doc` the documents and the lessons: `STATEMENTS.md` says what a script can have, `MESSAGES.md` what
+is printed, `ZOS.md` where z/OS differs; type their commands there. `man vsm-statements` works in an activated venv. It
+needs Linux on x86-64 and glibc {libc} or newer.
 """
 
 
-def placed(name: str, info: str) -> str | None:
+def placed(name: str, start: str) -> str | None:
     """The name in the wheel of a file of the release's tree, if it goes there."""
     for place, there in PLACES.items():
         if name.startswith(place):
-            return there.format(info=info) + name.removeprefix(place)
+            return there.format(info=f"{start}.dist-info", data=f"{start}.data") + name.removeprefix(place)
     return None
 
 
 def contents(version: str, tools: list[str], libc: str, programs: list[str], root: Path) -> dict[str, bytes]:
     """What the wheel has, by name."""
-    info = f"nilbozad-{version}.dist-info"
-    found = {f"nilbozad-{version}.data/scripts/{it}": (root / "bin" / it).read_bytes() for it in programs}
+    start = f"nilbozad-{version}"
+    info = f"{start}.dist-info"
+    found = {f"{start}.data/scripts/{it}": (root / "bin" / it).read_bytes() for it in programs}
     for path in root.rglob("*"):
-        name = placed(str(path.relative_to(root)), info)
+        name = placed(str(path.relative_to(root)), start)
         if name and path.is_file():
             found[name] = path.read_bytes()
     functions = {it: it.replace("-", "_") for it in tools}

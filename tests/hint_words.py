@@ -15,7 +15,7 @@ FORM = re.compile(r'Form \{\s*operation: b"(\w+)",\s*words: &\[(.*?)\],\s*positi
                   r'\s*required: &\[(.*?)\],\s*instead: (.*?),\s*\}', flags=re.S)
 # The kinds of values, as the page has them and as the source does. A number of PEEK has a kind of its own.
 KINDS = {
-    "value": "Value", "pair": "Pair", "value|pair": "Length", "place": "Place", "name": "Name", "location": "Location",
+    "value": "Value", "pair": "Pair", "value|pair": "Length", "target": "Place", "name": "Name", "location": "Location",
     "header": "Header", "bytes": "Content", "number": "Count", "DBLWD|PAGE": "Boundary", "YES|NO": "Condition",
     "UNCOND|U|COND|C": "ConditionWord",
 }
