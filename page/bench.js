@@ -145,7 +145,8 @@ class Bench {
   setOptions(options) {
     const residence = options.residence === '24' ? '' : options.residence ?? '', list = byId('residence');
     for (const it of [...list.options].slice(2)) it.remove();
-    if (![...list.options].some(it => it.value === residence)) list.append(new Option(residence.slice(0, 8), residence));
+    const isOther = ![...list.options].some(it => it.value === residence);
+    if (isOther) list.append(new Option(residence.slice(0, 8), residence));
     for (const it of NAMES) byId(it).value = it === 'residence' ? residence : options[it] ?? '';
   }
 

@@ -19,6 +19,7 @@ from vsmtools.maps import PAGE, CellPool, Map, parse_map
 
 UNIT = 8
 MARKED = 24  # the least units of a cell that a line separates from the next
+MARKED_AREA = 8  # and of an area that a line is before
 GRANTED = re.compile(r"RC=0 A=([0-9A-F]{8}) L=([0-9A-F]{8})")
 DATA = re.compile(r'<script type="application/json" id="data">(.*?)</script>', re.DOTALL)
 
@@ -109,8 +110,8 @@ def owners(stand: list[Answer], state: Map) -> dict[int, int]:
     return painted
 
 
-def area_edges(state: Map, painted: dict[int, int]) -> dict[int, set[float]]:
-    """By page, the doublewords that a line precedes: where two areas touch."""
+def area_edges(state: Map, painted: dict[int, int], scale: int) -> dict[int, set[float]]:
+    """By page, the doublewords that a line precedes: where two areas touch, and the second is wide enough for a line."""
     edges: dict[int, set[float]] = {}
     for subpool in state.subpools:
         free = {unit for area in subpool.free for unit in range(area.start // UNIT, area.end // UNIT)}
@@ -118,9 +119,23 @@ def area_edges(state: Map, painted: dict[int, int]) -> dict[int, set[float]]:
             for page in range(extent.start // PAGE, extent.end // PAGE):
                 units = range(page * PAGE // UNIT, (page + 1) * PAGE // UNIT)
                 whose = [None if unit in free else painted.get(unit, -1) for unit in units]
-                pairs = enumerate(zip(whose, whose[1:]), 1)
-                edges[page] = {at for at, (one, next_) in pairs if None not in (one, next_) and one != next_}
+                ends = [at for at in range(1, len(whose)) if whose[at] != whose[at - 1]] + [len(whose)]
+                edges[page] = {at for at, end in zip(ends, ends[1:]) if None not in (whose[at - 1], whose[at])
+                               and (end - at) * scale >= MARKED_AREA}
     return edges
+
+
+def totals(page: Page) -> list[tuple[int, int, int]]:
+    """The bytes taken, and the pages below and above the line, of each map."""
+    found = []
+    for answer in page.answers[page.skipped :: 2]:
+        text = "\n".join(answer.rest)
+        pages = re.search(r"^ PAGES LOW (\d+) OF \d+ HIGH (\d+) OF", text, re.MULTILINE)
+        taken = re.search(r"^ BYTES TAKEN (\d+) FREE", text, re.MULTILINE)
+        if not pages or not taken:
+            raise ValueError(f"a map of {page.path} lacks its totals")
+        found.append((int(taken[1]), int(pages[1]), int(pages[2])))
+    return found
 
 
 def cells_of(pool: CellPool) -> list[int]:

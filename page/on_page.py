@@ -74,8 +74,9 @@ def try_storage(trials: Trials, page: Page, step: int, drawn: dict[str, Any]) ->
     taken, free = (f"{count} byte{'s' * (count != 1)}" for count in (state.taken, state.free))
     trials.equal(f"step {step}: the totals", drawn["totals"], f"{taken} taken, {free} free")
     stand, _ = history(page.answers_to(step), state.history)
-    edges = area_edges(state, owners(stand, state))
-    trials.equal(f"step {step}: the lines between areas", by_page(strips, "edges"), edges)
+    painted = owners(stand, state)
+    edges = area_edges(state, painted, ROWS)
+    trials.equal(f"step {step}: the lines between areas", by_page(strips, "edges"), area_edges(state, painted, 1))
     cells = {number: cell_edges(state, number, 1) for number in edges}
     trials.equal(f"step {step}: the lines between cells", by_page(strips, "ofcells"), cells)
     trials.want(
@@ -94,7 +95,6 @@ def try_storage(trials: Trials, page: Page, step: int, drawn: dict[str, Any]) ->
         )
         trials.equal(f"step {step}: its lines", places(lens["edges"], WIDE), edges[chosen])
         granted = [answer for answer in stand if GRANTED.fullmatch(answer.text)]
-        painted = owners(stand, state)
         whose = [(at, painted.get(at // UNIT, len(granted))) for at, _ in drawn["by"]]
         wanted_by = [[at, page.line_of(granted[k])] for at, k in whose if k < len(granted)]
         trials.equal(f"step {step}: which lines obtained its parts", drawn["by"], wanted_by)

@@ -29,7 +29,7 @@ class Room {
 
 let clock = 0;
 const windowOn = room => new OwnScripts(() => room, () => ++clock);
-const scriptOf = (script, name = 'a.vsm') => ({ script, name, options: { low: '', high: '', residence: '', history: '' } });
+const scriptOf = (script, name = 'a.vsm') => ({ script, name, options: {} });
 const scriptsIn = own => own.all().map(it => it.script);
 
 test('each edit goes to the same entry, also after a reload', () => {

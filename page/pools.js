@@ -1,5 +1,5 @@
 // The cell pools: each cell is a box in its extent, and the next one to be handed out is framed.
-import { colourOf, count, hex, make, panel, tag } from './elements.js';
+import { colourOf, count, hex, make, panel, placeOf, tag } from './elements.js';
 
 const SIDE = 12, IN_ROW = 22, NEXT = 4;
 
@@ -39,7 +39,7 @@ function poolOf(run, pool) {
   const first = `next: ${pool.free.slice(0, NEXT).map(hex).join(' ')}${more > 0 ? ` and ${more} more` : ''}`;
   const next = pool.free.length ? first : 'no cell is free';
   return make(
-    'div', { class: 'pool', style: colourOf(run, pool.subpool) },
+    'div', { class: 'pool', style: colourOf(run, pool.subpool), ...placeOf(`pool ${pool.name}`) },
     make(
       'p', {}, make('strong', {}, pool.name), tag(run, { number: pool.subpool, owner: pool.owner }),
       `${count(pool.size, 'byte')} a cell`, pool.header && make('q', { class: 'muted' }, pool.header)

@@ -8,7 +8,7 @@ import { withoutRemarks } from './remarks.js';
 import { runsOf } from './map.js';
 import { momentOf } from './moment.js';
 import { Grants, kindOf, standing, stepsOf } from './replies.js';
-import { wrapped } from './script.js';
+import { lineRows, wrapped } from './script.js';
 import { Pages } from './storage.js';
 
 const subpool = (extents, free) => ({ number: 1, owner: 1, sharers: [], extents, free });
@@ -143,6 +143,25 @@ test('lines wrap after blanks, and nothing is lost', () => {
   assert.deepEqual(wrapped('* one two three', 8), ['* one ', 'two ', 'three']);
   assert.deepEqual(wrapped('   LONGWORD', 5), ['   LO', 'NGWOR', 'D']);
   assert.deepEqual(wrapped('', 5), ['']);
+});
+
+test('a statement breaks before its remarks, column 72 has no row of its own, and nothing is lost', () => {
+  const line = ' STORAGE OBTAIN,LENGTH=8,SP=1   three areas of 16 bytes'.padEnd(71) + 'X', remarks = 32;
+  assert.deepEqual(lineRows(line, remarks, 72), { rows: [line], more: [], mark: '' });
+  assert.deepEqual(lineRows(line, remarks, 60), { rows: [line.slice(0, 71)], more: [], mark: 'X' });
+  const { rows, more, mark } = lineRows(line, remarks, 40);
+  assert.deepEqual([rows, mark], [[' STORAGE OBTAIN,LENGTH=8,SP=1   '], 'X']);
+  assert.equal(more[0].trimEnd(), 'three areas of 16 bytes');
+  for (let most = 12; most < 80; most++) {
+    const it = lineRows(line, remarks, most);
+    assert.equal([...it.rows, ...it.more, it.mark].join(''), line);
+    assert.ok(it.rows.every(row => row.trimEnd().length <= most - (it.mark && 2)));
+    assert.ok(it.more.every(row => row.trimEnd().length <= most - 4));
+  }
+  assert.deepEqual(lineRows(' POKE P,X\'C1C2\'', 0, 12).rows, [' POKE ', 'P,X\'C1C2\'']);
+  const numbered = ' BACK 0'.padEnd(72) + '00000010', comment = `* ${'word '.repeat(15)}`.trimEnd();
+  assert.deepEqual(lineRows(numbered, 0, 60), { rows: [numbered.slice(0, 71)], more: [], mark: ' 00000010' });
+  assert.deepEqual(lineRows(comment, 0, 60, true), { rows: wrapped(comment, 60), more: [], mark: '' });
 });
 
 test('who is asked about the bytes or the area of a statement, or about all changes', () => {

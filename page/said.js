@@ -2,6 +2,7 @@
 import { count, make } from './elements.js';
 import { meaningOf } from './meanings.js';
 import { kindOf } from './replies.js';
+import { changedLine } from './summary.js';
 
 /** A step in one line, for screen readers. */
 export function spoken(view) {
@@ -12,6 +13,7 @@ export function spoken(view) {
   return `Statement ${view.step}. ${statement.split('\n')[0].trim()}. ${answer}`;
 }
 
+const LONG = 80; // characters of an answer that has smaller letters
 const muted = text => make('p', { class: 'muted' }, text);
 
 /** What an answer leaves, or what to do about it: folded until it's first opened. */
@@ -46,9 +48,8 @@ export function saidPart(view) {
   }
   function answer(text) {
     const { reply } = view.run.statement(view.step), { meaning, more } = meaningOf(reply, text);
-    return [
-      make('strong', { class: kindOf(reply) }, reply), make('p', {}, meaning), ...more ? [moreOf(view, more)] : []
-    ];
+    const told = [make('strong', { class: `${kindOf(reply)}${reply.length > LONG ? ' long' : ''}` }, reply), changedLine(view), make('p', {}, meaning)];
+    return [...told.filter(Boolean), ...more ? [moreOf(view, more)] : []];
   }
   /** If the map's history isn't what the replies add up to, the page doesn't know all of vsm's answers. */
   function warning() {

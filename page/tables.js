@@ -1,5 +1,5 @@
 // Subpools, names, the history and the totals, as tables.
-import { count, grouped, make, panel, tag } from './elements.js';
+import { count, grouped, make, panel, placeOf, tag } from './elements.js';
 import { PAGE } from './map.js';
 
 export const MOST_SUBPOOLS = 400; // of more, only those of one task are shown
@@ -10,7 +10,8 @@ const sizesOf = subpool =>
   subpool ? [sum(subpool.extents) / PAGE, sum(subpool.extents) - sum(subpool.free), sum(subpool.free)] : [];
 
 function subpoolRow(view, subpool, was, shared) {
-  return make('tr', {}, make('td', { class: 'text' }, tag(view.run, subpool)),
+  const place = placeOf(`subpool ${subpool.number} ${subpool.owner}`);
+  return make('tr', place, make('td', { class: 'text' }, tag(view.run, subpool)),
     ...sizesOf(subpool).map((it, k) => make('td', { class: was[k] === it ? null : 'changed' }, grouped(it))),
     shared ? make('td', { class: 'text sharers' }, subpool.sharers.map(it => `T${it}`).join(' ')) : null);
 }
@@ -45,11 +46,11 @@ export function namesPart(view) {
   function draw() {
     const { state, before } = view.moment, was = new Map(before.names);
     const row = ([name, word]) => make(
-      'tr', {}, make('td', { class: 'text' }, name),
+      'tr', placeOf(`name ${name}`), make('td', { class: 'text' }, name),
       make('td', { class: was.get(name) === word ? null : 'changed' }, word)
     );
     element.replaceChildren(
-      ...state.names.length ? [panel('Names', make('table', {}, ...state.names.map(row)))] : []
+      ...state.names.length ? [panel('Names', make('table', placeOf('names'), ...state.names.map(row)))] : []
     );
   }
   return { element, draw };

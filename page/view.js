@@ -69,6 +69,7 @@ class View {
     const columns = make('div', { class: 'columns' }, this.script.element, storage, rest);
     const foot = this.run.program ? make('footer', { class: 'muted' }, this.run.program) : null;
     const stage = make('div', { class: 'stage' }, head.element, columns, foot);
+    this.head = head;
     this.parts = [head, this.script, said, this.regions, lens, ...side];
     this.container.classList.add('run');
     this.container.replaceChildren(stage, this.live, this.dialog, this.asking);
@@ -103,6 +104,7 @@ class View {
   close() {
     this.ending.abort();
     this.resizing.disconnect();
+    this.head.close();
     clearInterval(this.clock);
     clearTimeout(this.noting);
     cancelAnimationFrame(this.drawing);
@@ -113,6 +115,14 @@ class View {
     this.step = Math.max(0, Math.min(this.run.steps, to));
     this.picked = null;
     this.drawing ??= requestAnimationFrame(() => this.draw());
+  }
+
+  /** To a statement, and a page there. */
+  goTo(step, page) {
+    this.go(step);
+    cancelAnimationFrame(this.drawing);
+    this.draw();
+    this.choose(page);
   }
 
   draw() {
@@ -162,6 +172,17 @@ class View {
     this.picked = task;
     this.draw();
     this.tasks.focus(task);
+  }
+
+  /** Leads to a place of the page by its name: a register of a task, a name, a subpool, a cell pool, a task. */
+  show(name, task) {
+    if (task !== undefined && task !== this.task.number) {
+      this.picked = task;
+      this.draw();
+    }
+    const place = this.container.querySelector(`[data-at="${CSS.escape(name)}"]`);
+    place?.scrollIntoView({ block: 'nearest' });
+    place?.focus({ preventScroll: true });
   }
 
   get playing() {
