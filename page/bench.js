@@ -52,11 +52,12 @@ class Bench {
       area: byId('script'), numbers: byId('numbers'), replies: byId('replies'), now: byId('now'), caret: byId('caret'),
       marks: byId('marks')
     };
-    this.editor = editorOf(parts, () => this.edited(), line => this.view?.go(this.view.run.atLine.get(line)));
+    this.editor = editorOf(parts, () => this.edited(), line => this.goToLine(line), text => this.refusePaste(text));
     this.faults = [];
     this.listFaults = faultsList(byId('faults'), it => this.editor.select(it));
     this.explainer = new Explainer(
-      partsOfPanel(byId), data.explainer, byId('explain-module'), it => this.foundFaults(it)
+      partsOfPanel(byId), data.explainer, byId('explain-module'), it => this.foundFaults(it),
+      line => this.goToLine(line)
     );
     byId('identity').textContent = data.identity.line;
     this.listen();
@@ -270,20 +271,44 @@ class Bench {
     this.showBeside();
   }
 
+  /** To the statement that a line belongs to; another line is only shown. */
+  goToLine(line) {
+    const step = this.view?.run.stepAt(line);
+    if (step > 0) this.view.go(step);
+    else this.editor.reveal(line);
+  }
+
+  /** The number of the script's lines that are as they were run: all, or those before the first that differs. */
+  sameLines(text) {
+    const ran = this.result.script.replace(/\n$/, ''), most = Math.min(text.length, ran.length);
+    if (text.startsWith(ran) && (text.length === most || text[most] === '\n')) return Infinity;
+    let at = 0;
+    for (let step = 2 ** 16; step; step = Math.floor(step / 2))
+      while (at + step <= most && text.slice(at, at + step) === ran.slice(at, at + step)) at += step;
+    return text.slice(0, at).split('\n').length - 1;
+  }
+
   /** Shows replies, faults and the present statement next to the editor's lines, as far as these are those of the
-      run. */
+      run. A reply is looked up when its line is in sight. */
   showBeside() {
-    const { view } = this, { run } = view ?? {}, byLine = new Map();
-    const lines = this.editor.text.split('\n'), ran = this.result.script.replace(/\n$/, '').split('\n');
-    const other = ran.findIndex((it, k) => it !== lines[k]), isSame = ([, to]) => other < 0 || to <= other;
-    const faults = this.isTeaching ? [] : this.faults.filter(it => isSame([it.line, it.line]));
+    const { view } = this, { run } = view ?? {}, same = this.sameLines(this.editor.text);
+    const faults = this.isTeaching ? [] : this.faults.filter(it => it.line <= same);
     this.listFaults(faults);
-    for (let step = 1; step <= view?.told && isSame(run.linesOf(step)); step++) {
-      const { line, reply } = run.statement(step);
-      byLine.set(line, { reply, kind: kindOf(reply) });
-    }
+    const replyAt = line => {
+      const step = run?.atLine.get(line);
+      if (!(step > 0 && step <= view.told && run.linesOf(step)[1] <= same)) return undefined;
+      const { reply } = run.statement(step);
+      return { reply, kind: kindOf(reply) };
+    };
     const now = view?.step ? run.linesOf(view.step) : [0, 0];
-    this.editor.show(byLine, isSame(now) ? now : [0, 0], faults);
+    this.editor.show(replyAt, now[1] <= same ? now : [0, 0], faults);
+  }
+
+  /** Refuses a text that would make the script too long, before the editor holds it. */
+  refusePaste(text) {
+    const fault = faultOfScript(text);
+    if (fault) this.note('This text can’t be put in', make('p', {}, `With it ${fault}.`));
+    return fault !== null;
   }
 
   /** The view calls this at each step; its own key T also switches the teacher's mode. */
@@ -414,7 +439,8 @@ class Bench {
     if (why) return this.withoutPicture(`There’s no picture of this run: ${why}.`);
     Object.assign(this.result, { mapped: output, bytes });
     const { result } = this, data = { ...this.dataOf(result), text: latinText(output) };
-    const view = await showRun(byId('picture'), data, { teacher: this.isTeaching, moved: it => this.moved(it) });
+    const view = await showRun(byId('picture'), data, { teacher: this.isTeaching, moved: it => this.moved(it),
+      revealed: line => this.editor.reveal(line) });
     if (this.result !== result) return view?.close();
     this.view = view;
     if (!this.isTeaching) view?.go(this.place);

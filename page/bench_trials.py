@@ -395,6 +395,9 @@ def try_link(page: BenchPage, trials: Trials) -> None:
     page.open(link)
     held = page.js("['script', 'low', 'high', 'residence', 'history'].map(it => document.getElementById(it).value)")
     trials.want("a link brings script and options back", held == [script.decode("latin-1"), "8", "", "31", "7"], held)
+    page.open(link.replace("residence=31", "residence=99"))
+    trials.want("a residence that doesn't exist is refused in words", page.text("errors") == "Residence is 24 or 31.",
+        page.text("errors"))
     packed = zlib.compress(b"\n" * 1_000_000, 9, -zlib.MAX_WBITS)
     page.open("#script=" + base64.urlsafe_b64encode(packed).decode().rstrip("="))
     trials.want("a link's script of a million lines is refused with a message",
@@ -416,36 +419,128 @@ def try_link(page: BenchPage, trials: Trials) -> None:
         page.js("document.getElementById('note').open") and page.text("status") != "", page.text("note"))
 
 
+OWN = """Object.entries(localStorage).filter(([key]) => key.startsWith('nilbozad.own ')).map(([, it]) => JSON.parse(it))
+  .sort((a, b) => b.at - a.at)"""
+SCRIPT = "document.getElementById('script').value"
+
+
+def reload(page: BenchPage) -> None:
+    page.wait("document.getElementById('kept').textContent.startsWith('Kept')")
+    page.js("window.isOld = true")
+    page.browser.call("Page.reload")
+    page.wait("!window.isOld && document.getElementById('status')?.textContent && "
+        "document.getElementById('result').getAttribute('aria-busy') === 'false'")
+
+
+def kept_soon(page: BenchPage, script: str) -> bool:
+    """Whether the newest entry becomes this script."""
+    return page.wait(f"({OWN})[0]?.script === {json.dumps(script)}", 10)
+
+
 def try_keeping(page: BenchPage, trials: Trials) -> None:
     page.open()
     page.put("script", "* kept\n BACK 0\n")
     page.put("high", "96")
     page.wait("document.getElementById('kept').textContent.startsWith('Kept in this browser')")
-    page.wait("JSON.parse(localStorage.getItem('nilbozad.own'))[0].options.high === '96'")
+    page.wait(f"({OWN})[0].options.high === '96'")
     page.open()
     held = page.js("['script', 'high'].map(it => document.getElementById(it).value)")
     trials.want("the browser keeps script and options", held == ["* kept\n BACK 0\n", "96"], held)
     page.put("examples", "overlay.vsm", "change")
     page.ended()
     page.open()
-    trials.want("choosing a lesson loses no script of one's own",
-        page.js("document.getElementById('script').value").startswith("* kept"))
-    other = "{ script: ' BACK 0', id: 'other window' }, ...JSON.parse(localStorage.getItem('nilbozad.own'))"
-    page.js(f"localStorage.setItem('nilbozad.own', JSON.stringify([{other}]))")
-    page.put("script", "* kept\n BACK 0\n* more")
-    page.wait("JSON.parse(localStorage.getItem('nilbozad.own'))[0].script.endsWith('more')")
-    trials.equal("nor does another window",
-        page.js("JSON.parse(localStorage.getItem('nilbozad.own')).map(it => it.script)"),
-        ["* kept\n BACK 0\n* more", " BACK 0"])
+    trials.want("choosing a lesson loses no script of one's own", page.js(SCRIPT).startswith("* kept"))
     page.open("#script="
         + base64.urlsafe_b64encode(zlib.compress(b" MAP  theirs", 9, -zlib.MAX_WBITS)).decode().rstrip("="))
-    trials.equal("a link is followed", page.js("document.getElementById('script').value"), " MAP  theirs")
+    trials.equal("a link is followed", page.js(SCRIPT), " MAP  theirs")
     page.open()
-    trials.want("nor does a link", page.js("document.getElementById('script').value").endswith("more"))
-    page.js("localStorage.setItem('nilbozad.own', '[{\"script\":7}, null]')")
+    trials.want("a link replaces none", page.js(SCRIPT).startswith("* kept"))
+    try_entries(page, trials)
+    try_windows(page, trials)
+    page.forget()
+    for text in ('[{"script":7}, null]', "{", "7"):
+        page.js(f"localStorage.setItem('nilbozad.own', {json.dumps(text)}); "
+            f"localStorage.setItem('nilbozad.own 5', {json.dumps(text)})")
+        page.open()
+        trials.want("if what was kept is no script, the first example is shown",
+            page.js("document.getElementById('examples').value") == "first-steps.vsm")
+    page.forget()
+
+
+def try_entries(page: BenchPage, trials: Trials) -> None:
+    """An edited lesson keeps its entry over reloads; entries have names, and can be deleted and saved."""
+    page.forget()
     page.open()
-    trials.want("if what was kept is no script, the first example is shown",
-        page.js("document.getElementById('examples').value") == "first-steps.vsm")
+    page.put("script", " STORAGE OBTAIN,LENGTH=40,SP=9   my important work\n")
+    page.ended()
+    page.wait(f"({OWN}).length === 1")
+    page.put("examples", "fragmentation.vsm", "change")
+    page.ended()
+    for k in range(12):
+        page.put("script", page.js(SCRIPT) + "*")
+        kept_soon(page, page.js(SCRIPT))
+        reload(page)
+    names = page.js(f"({OWN}).map(it => it.name)")
+    wanted = ["my-fragmentation.vsm", "my-first-steps.vsm"]
+    trials.equal("after 12 reloads, each with an edit, two entries", names, wanted)
+    trials.want("the first is as it was", "important" in page.js(f"({OWN})[1]?.script ?? ''"))
+    page.click("own")
+    rows = "document.querySelectorAll('#note .own li')"
+    named = "it.value = 'leak 3'; it.dispatchEvent(new Event('change'));"
+    page.js(f"(it => {{ {named} }})({rows}[0].querySelector('input'))")
+    trials.equal("a name can be given", page.js(f"({OWN})[0].name"), "leak 3")
+    page.js(f"{rows}[1].querySelector('button:last-of-type').click()")
+    trials.equal("an entry can be deleted", page.js(f"({OWN}).map(it => it.name)"), ["leak 3"])
+    page.js(f"{rows}[1].querySelector('button:last-of-type').click()")
+    trials.equal("and had back", len(page.js(OWN)), 2)
+    page.js("document.getElementById('note').close()")
+    page.forget()
+    page.js("""Array.from({ length: 30 }, (_, k) => localStorage.setItem(`nilbozad.own ${k}`, JSON.stringify(
+        { script: ` MAP ${k}`, name: `n${k}`, at: 1000 + k })))""")
+    page.put("examples", "overlay.vsm", "change")
+    page.ended()
+    page.put("script", " MAP  one too many")
+    said = page.wait("!document.getElementById('room').hidden", 10) and page.text("kept") + page.text("room")
+    trials.want("the thirty-first isn't kept without a word", "30 scripts" in str(said) and "n0" in str(said), said)
+    trials.equal("and drops none", len(page.js(OWN)), 30)
+    page.click("room")
+    page.wait(f"({OWN})[0].script === ' MAP  one too many'", 10)
+    trials.want("the oldest is deleted on request",
+        page.js(f"({OWN}).length === 30 && !({OWN}).some(it => it.name === 'n0')"))
+
+
+def in_front(page: BenchPage, session: str) -> None:
+    page.browser.session = session
+    page.browser.call("Page.bringToFront")
+
+
+def try_windows(page: BenchPage, trials: Trials) -> None:
+    """Two windows with the same script: each keeps its own edits, and says so truly."""
+    page.forget()
+    page.open()
+    page.put("script", " MAP  begun\n")
+    kept_soon(page, " MAP  begun\n")
+    page.open()
+    first = page.browser.session or ""
+    target = page.browser.call("Target.createTarget", url=page.address)["targetId"]
+    second = page.browser.call("Target.attachToTarget", targetId=target, flatten=True)["sessionId"]
+    in_front(page, second)
+    page.wait("document.getElementById('status')?.textContent")
+    in_front(page, first)
+    long = "* 3,000 lines\n" * 3000
+    page.put("script", long)
+    kept_soon(page, long)
+    in_front(page, second)
+    page.put("script", " MAP  one line\n")
+    kept_soon(page, " MAP  one line\n")
+    said = page.text("kept")
+    in_front(page, first)
+    trials.equal("two windows keep two scripts", page.js(f"({OWN}).map(it => it.script)"), [" MAP  one line\n", long])
+    trials.want("the second says that it's another entry", "Another window" in said, said)
+    trials.want("the first still says truly that it's kept", page.text("kept").startswith("Kept in this browser"))
+    reload(page)
+    trials.equal("and has its own after a reload", page.js(SCRIPT), long)
+    page.browser.call("Target.closeTarget", targetId=target)
 
 
 def try_limits(page: BenchPage, trials: Trials) -> None:
@@ -467,6 +562,12 @@ def try_limits(page: BenchPage, trials: Trials) -> None:
     trials.want("and nothing of that stays", page.output() == b"0000001 KEPT=0\n" and not page.text("errors"))
 
 
+# The width of a column of the editor.
+WIDE = """(() => {
+  const context = document.createElement('canvas').getContext('2d');
+  context.font = getComputedStyle(document.getElementById('script')).font;
+  return context.measureText('0'.repeat(100)).width / 100;
+})()"""
 OPENED = {"crlf.vsm": b" MAP\r\n BACK 0\r\n", "high.vsm": b"* \xe4\x80\n BACK 0", "low.vsm": b"*! --low 32\n MAP\n"}
 REFUSED = {"return.vsm": (b" MAP\n BACK\r 0\n", "line 2, column 6"), "last.vsm": (b" MAP\r", "line 1, column 5"),
     "many.vsm": (b"\n" * 1_000_000, "1,000,000 lines")}
@@ -504,6 +605,18 @@ def shown_step(page: BenchPage) -> str:
     return page.js("document.querySelector('.where').textContent")
 
 
+def try_column_72(page: BenchPage, trials: Trials) -> None:
+    """All 72 columns of a script that is longer than its field are in sight, next to the scroll bar."""
+    text = page.js(SCRIPT)
+    for width in (1280, 1440):
+        page.browser.size(width, 720)
+        page.put("script", text + "*\n" * 100)
+        wide, columns = page.js("document.getElementById('script').clientWidth"), page.js(WIDE)
+        trials.want(f"{width} wide: 72 columns are in sight", wide >= 8 + 72 * columns, (wide, columns))
+    page.browser.size(1440, 900)
+    page.put("script", text)
+
+
 def try_beside(page: BenchPage, trials: Trials) -> None:
     """Replies and the present statement next to the editor; the place after a run; what an edit makes old."""
     page.put("examples", "overlay.vsm", "change")
@@ -515,8 +628,7 @@ def try_beside(page: BenchPage, trials: Trials) -> None:
     wider = "it => it.scrollWidth > it.clientWidth"
     cut = page.js(f"[...document.querySelectorAll('#replies > div')].filter({wider}).length")
     trials.equal("replies that are cut", cut, 0)
-    trials.want("72 columns are in sight",
-        page.js("document.getElementById('script').scrollWidth <= document.getElementById('script').clientWidth"))
+    try_column_72(page, trials)
     trials.want("only one script is shown", not page.js("document.querySelector('#picture .script').checkVisibility()"))
     page.js("document.querySelectorAll('#replies > div')[3].click()")
     page.browser.settle()
@@ -533,8 +645,11 @@ def try_beside(page: BenchPage, trials: Trials) -> None:
     trials.want("an edit that is taken back doesn't", "Exit status" in page.text("status"), page.text("status"))
     page.click("run")
     page.ended()
-    trials.want("a run keeps the place",
-        page.wait("document.querySelector('.where')?.textContent.startsWith('4 of 10')", 10), shown_step(page))
+    at_4 = "document.querySelector('.where')?.textContent.startsWith('4 of 10')"
+    trials.want("a run keeps the place", page.wait(at_4, 10), shown_step(page))
+    trials.want("the address has the statement", page.wait("location.hash.includes('statement=4')", 5))
+    reload(page)
+    trials.want("so a reload keeps it too", page.wait(at_4, 10), shown_step(page))
     order = page.js("[...document.querySelectorAll('#examples optgroup[label=Lessons] option')].map(it => it.value)")
     trials.equal("the lessons are in their order", order, list(bench.lessons()))
 

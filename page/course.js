@@ -68,12 +68,16 @@ export class CourseRows {
   }
 }
 
-/** Works through a generator in slices, and then calls `done`; the function that it returns ends that. */
-function inSlices(work, done) {
+/** Works through a generator in slices, and then calls `done` with what it returned; the result is a call that ends
+    that. */
+export function inSlices(work, done) {
   let timer = 0;
   function slice() {
     const end = performance.now() + SLICE;
-    while (performance.now() < end) if (work.next().done) return done();
+    while (performance.now() < end) {
+      const { done: isDone, value } = work.next();
+      if (isDone) return done(value);
+    }
     timer = setTimeout(slice);
   }
   timer = setTimeout(slice);

@@ -30,8 +30,8 @@ export function put(element, nodes) {
 export const panel = (name, ...inner) =>
   make('section', {class: 'panel', 'aria-label': name}, make('h2', {}, name), ...inner);
 
-/** The attributes of a place that links of the page lead to, by its name. */
-export const placeOf = name => ({ 'data-at': name, tabindex: -1 });
+/** The attribute of a place that links of the page lead to, by its name. */
+export const placeOf = name => ({ 'data-at': name });
 
 /** The colour of a subpool's number, as a style. */
 export const colourOf = (run, number) => `--c:var(--c${run.colourOf(number)})`;

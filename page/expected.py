@@ -21,7 +21,24 @@ UNIT = 8
 MARKED = 24  # the least units of a cell that a line separates from the next
 MARKED_AREA = 8  # and of an area that a line is before
 GRANTED = re.compile(r"RC=0 A=([0-9A-F]{8}) L=([0-9A-F]{8})")
+HIDDEN = re.compile("[\\0-\\x1f\\x7f-\\x9f\\u200b-\\u200f\\u2028-\\u202e\\u2060-\\u2069\\ufeff]")
 DATA = re.compile(r'<script type="application/json" id="data">(.*?)</script>', re.DOTALL)
+
+
+def decoded(text: str) -> str:
+    """Characters that are bytes as letters, if they are UTF-8."""
+    try:
+        return text.encode("latin-1").decode("utf-8")
+    except UnicodeDecodeError:
+        return text
+
+
+def shown_line(line: str) -> str:
+    """A line of a script as a page shows it: UTF-8 as letters, column 72 in its place, a sign for control bytes."""
+    front, rest = decoded(line[:71]), line[71:]
+    is_cut = front == line[:71] and re.search(r"[\x80-\xff]", front)
+    text = decoded(line) if is_cut or not rest else front.ljust(71) + decoded(rest)
+    return HIDDEN.sub("\ufffd", text)
 
 
 @dataclass
@@ -111,7 +128,7 @@ def owners(stand: list[Answer], state: Map) -> dict[int, int]:
 
 
 def area_edges(state: Map, painted: dict[int, int], scale: int) -> dict[int, set[float]]:
-    """By page, the doublewords that a line precedes: where two areas touch, and the second is wide enough for a line."""
+    """By page, the doublewords that a line precedes: where two areas touch, and the second is wide enough."""
     edges: dict[int, set[float]] = {}
     for subpool in state.subpools:
         free = {unit for area in subpool.free for unit in range(area.start // UNIT, area.end // UNIT)}

@@ -34,6 +34,7 @@ export function keysOf(view) {
     t: () => view.turnTeaching(),
     T: () => view.turnTeaching(),
     '?': () => view.help(),
+    '/': () => view.find(),
   };
   return event => {
     const { target } = event;

@@ -191,6 +191,11 @@ export class Run {
     return rows;
   }
 
+  /** By row, the step that last changed its bytes, up to one. */
+  writersAt(step) {
+    return new Map(this.bytes.filter(it => it[0] <= step).map(([at, row]) => [row, at]));
+  }
+
   /** The lines of a step's statement: from its first one, while there is a character in column 72. */
   linesOf(step) {
     const first = this.statement(step).line;

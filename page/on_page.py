@@ -7,7 +7,7 @@ from pathlib import Path
 from typing import Any
 
 from chromium import Browser
-from expected import GRANTED, PAGE, UNIT, Page, area_edges, bytes_by_kind, cell_edges, history, owners
+from expected import GRANTED, PAGE, UNIT, Page, area_edges, bytes_by_kind, cell_edges, history, owners, shown_line
 from trials import Trials
 
 HERE = Path(__file__).resolve().parent
@@ -159,7 +159,7 @@ def try_cards(trials: Trials, browser: Browser, page: Page) -> None:
     for width, height in WINDOWS:
         browser.size(width, height)
         browser.settle()
-        lines = page.data["script"].split("\n")
+        lines = [shown_line(line.rstrip()) for line in page.data["script"].split("\n")]
         trials.equal(
             f"{width} x {height}: lines that are cut", browser.evaluate(probed(f"script({json.dumps(lines)})")), []
         )

@@ -82,7 +82,7 @@ const probe = {
       const { right } = box.getBoundingClientRect();
       for (const line of box.querySelectorAll('.line')) {
         const number = +line.querySelector('.number').textContent;
-        if (line.querySelector('.text').textContent !== lines[number - 1].trimEnd()) bad.add(number);
+        if (line.querySelector('.text').textContent !== lines[number - 1]) bad.add(number);
         if (line.scrollHeight > line.clientHeight + 1) bad.add(number);
         const range = document.createRange();
         range.selectNodeContents(line);
@@ -203,7 +203,7 @@ const probe = {
     };
   },
 
-  /** The curves: what each path reaches at most, as a share of the drawing's height, and the texts of what they reach. */
+  /** The curves: what each path reaches, as a share of the drawing's height, and the texts of what they reach. */
   curves: () => ({
     most: Object.fromEntries([...document.querySelectorAll('.curves path')].map(it =>
       [it.getAttribute('class'), 1 - Math.min(...[...it.getAttribute('d').matchAll(/(?:M[\d.]+ |V)([\d.]+)/g)]

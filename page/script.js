@@ -3,6 +3,7 @@
 import { make } from './elements.js';
 import { withoutRemarks } from './remarks.js';
 import { kindOf } from './replies.js';
+import { shownLine } from './shown.js';
 
 const BEYOND = 8, GAP = 2; // lines beyond those in sight; characters between a statement and its reply
 const COLUMN_72 = 71, INDENT = 4; // the place of column 72; the columns before remarks in a row of their own
@@ -21,8 +22,8 @@ export function wrapped(text, most) {
 }
 
 /** A line in rows that fit: a statement's operands; its remarks, which begin at a place, or at 0 if it has none; and, if
-    the line is too long for one row, what is from column 72 on, which is at the right of the first row. In a comment that
-    may be a word's: then it has no such part. */
+    the line is too long for one row, what it has from column 72 on, for the right of the first row. In a comment that
+    may be a part of a word: then it isn't apart. */
 export function lineRows(line, remarks, most, isComment = false) {
   if (line.length <= most) return { rows: [line], more: [], mark: '' };
   const isApart = !isComment || line[COLUMN_72 - 1] === ' ', text = isApart ? line.slice(0, COLUMN_72) : line;
@@ -65,12 +66,12 @@ export function scriptPart(view) {
     const step = run.stepAt(number);
     if (step === undefined) return 0;
     const [first, last] = run.linesOf(step), lines = run.lines.slice(first - 1, last);
-    const end = withoutRemarks(lines)[number - first].length;
+    const end = shownLine(withoutRemarks(lines)[number - first]).length;
     return end + /^ */.exec(text.slice(end))[0].length;
   }
   /** A line in rows, and its reply in rows; a reply may be next to the line's last row. */
   function rowsOf(number, most) {
-    const [reply] = replyOf(endOf.get(number)), line = view.textOfLine(number).trimEnd();
+    const [reply] = replyOf(endOf.get(number)), line = shownLine(view.textOfLine(number).trimEnd());
     const isLong = line.length > most, isComment = isLong && run.stepAt(number) === undefined;
     const text = lineRows(line, isLong && !isComment ? remarksOf(number, line) : 0, most, isComment);
     const replies = reply ? wrapped(reply, most) : [], count = text.rows.length + text.more.length;
@@ -121,7 +122,7 @@ export function scriptPart(view) {
     const marks = [
       'line', begins && 'begins', number >= from && number <= to && 'now',
       view.step && number > to && 'later', undone && 'undone', run.lines[number - 1][0] === '*' && 'comment',
-      isBeside && 'beside'
+      isBeside && 'beside', number === found && 'found'
     ];
     return make(
       'div', {
@@ -154,6 +155,13 @@ export function scriptPart(view) {
     if (from) box.setAttribute('aria-activedescendant', id + from);
     else box.removeAttribute('aria-activedescendant');
   }
+  let found = 0; // the line that was looked up
+  function reveal(line) {
+    found = line;
+    lay();
+    box.scrollTop = Math.max(0, layout.tops[line - 1] - box.clientHeight / 3);
+    drawLines();
+  }
   function draw() {
     lay();
     const [from, to] = view.step ? run.linesOf(view.step) : [1, 1];
@@ -163,5 +171,5 @@ export function scriptPart(view) {
       box.scrollTop = Math.max(0, top - box.clientHeight / 3);
     drawLines();
   }
-  return { element: box, draw, resize: drawLines };
+  return { element: box, draw, reveal, resize: drawLines };
 }

@@ -1,5 +1,5 @@
-"""Trials of what is in sight: pixels of the storage, the curves and the course over the slider, the script's column, and
-the answer with the chosen page and what has changed, in windows from a projector's to a desktop's."""
+"""Trials of what is in sight: pixels of the storage, the curves and the course over the slider, the script's column,
+and the answer with the chosen page and what has changed, in windows from a projector's to a desktop's."""
 from __future__ import annotations
 
 import json
@@ -39,7 +39,8 @@ def try_pixels(trials: Trials, browser: Browser, page: Page) -> None:
         browser.media(prefers_color_scheme=scheme, **STILL)
         for width in (390, 1440, 1920):
             browser.size(width, 900)
-            browser.key("End")
+            browser.evaluate(probed(f"at([{page.steps}])"))
+            browser.settle()
             for number, (left, top, wide, high), taken, free in browser.evaluate(probed("strips()"))[:MOST_STRIPS]:
                 if number not in full:
                     continue
@@ -69,11 +70,11 @@ def try_curves(trials: Trials, browser: Browser, page: Page) -> None:
     whole = max(1, *most.values())
     for kind in KINDS:
         found = round(drawn["most"].get(kind, -1) / HEIGHT * whole)
-        trials.want(f"the curve of {kind} reaches the greatest value", abs(found - most[kind]) <= whole / 2000, (found, most))
-    one, other = ("" if most[kind] == PAGE else "s" for kind in ("low", "high"))
-    wanted = {"taken": f"{most['taken']:,} byte{'s' * (most['taken'] != 1)} taken", "low": f"{most['low'] // PAGE:,} page{one} below",
-              **({"high": f"{most['high'] // PAGE:,} page{other} above"} if most["high"] else {}),
-              "largest": f"{most['largest']:,} free in one"}
+        near = abs(found - most[kind]) <= whole / 2000
+        trials.want(f"the curve of {kind} reaches the greatest value", near, (found, most))
+    pages = {kind: f"{most[kind] // PAGE:,} page{'s' * (most[kind] != PAGE)}" for kind in ("low", "high")}
+    wanted = {"taken": f"{most['taken']:,} byte{'s' * (most['taken'] != 1)} taken", "low": f"{pages['low']} below",
+              "largest": f"{most['largest']:,} free in one", **({"high": f"{pages['high']} above"} if most["high"] else {})}
     trials.equal("what the curves reach is said", drawn["texts"], wanted)
 
 
@@ -125,8 +126,8 @@ def try_column(trials: Trials, browser: Browser, page: Page) -> None:
         browser.size(width, height)
         browser.settle()
         found = browser.evaluate(probed("column()"))
-        lone = [it[0] for it in found if any(len(row.strip()) == 1 and lines[it[0] - 1][LAST_COLUMN:].strip() == row.strip()
-                and len(it[1][0]) > 1 for row in it[1][0])]
+        lone = [it[0] for it in found if len(it[1][0]) > 1
+                and any(len(row.strip()) == 1 and lines[it[0] - 1][LAST_COLUMN:].strip() == row.strip() for row in it[1][0])]
         trials.equal(f"{width} wide: lines whose column 72 has a row of its own", lone, [])
         trials.want(f"{width} wide: column 72 is one column", len({round(it[1][2]) for it in found if it[1][1]}) <= 1)
         torn = [it[0] for it in found if it[0] in within and len(it[1][0]) > 1 and it[1][4] < 0

@@ -62,8 +62,8 @@ function nameChanges({ state, before }) {
     .map(it => ({ text: it, at: now.has(it) ? `name ${it}` : 'names' }));
 }
 
-/** The parts of what a moment's statement changed: texts with their places. A page is named if bytes are stored in it, or
-    if nothing else is named. */
+/** The parts of what a moment's statement changed: texts with their places. A page is named if bytes were stored in it,
+    or if nothing else is named. */
 export function changesOf(moment) {
   const { changed } = moment;
   const found = [registerChanges, nameChanges, taskChanges, subpoolChanges, poolChanges].flatMap(it => it(moment));

@@ -16,6 +16,14 @@ function subpoolRow(view, subpool, was, shared) {
     shared ? make('td', { class: 'text sharers' }, subpool.sharers.map(it => `T${it}`).join(' ')) : null);
 }
 
+/** How the free bytes of a subpool are divided, if they are. */
+function freeRow({ free }, columns) {
+  if (free.length < 2) return [];
+  const most = free.reduce((found, [, length]) => Math.max(found, length), 0);
+  const text = `${count(free.length, 'free area')}, the largest ${grouped(most)}`;
+  return [make('tr', { class: 'divided muted' }, make('td', { colspan: columns }, text))];
+}
+
 /** The rows of the subpools: of very many, only those that the shown task sees and those that changed. */
 function subpoolRows(view, shared) {
   const { state, before } = view.moment, { number } = view.task;
@@ -23,7 +31,8 @@ function subpoolRows(view, shared) {
   const wasOf = it => sizesOf(known.get(`${it.number} ${it.owner}`));
   const isShown = it => state.subpools.length <= MOST_SUBPOOLS || it.owner === number || it.sharers.includes(number) ||
     String(wasOf(it)) !== String(sizesOf(it));
-  return state.subpools.filter(isShown).map(it => subpoolRow(view, it, wasOf(it), shared));
+  return state.subpools.filter(isShown)
+    .map(it => [subpoolRow(view, it, wasOf(it), shared), ...freeRow(it, shared ? 5 : 4)]);
 }
 
 export function subpoolsPart(view) {
@@ -36,7 +45,7 @@ export function subpoolsPart(view) {
       make('tr', {}, ...heads.map((it, k) => make('th', { scope: 'col', class: k % 4 ? null : 'text' }, it)));
     const more = subpools.length - rows.length;
     const others = more ? make('p', { class: 'muted' }, `${count(more, 'subpool')} more: choose their task.`) : null;
-    element.replaceChildren(panel('Subpools', make('table', {}, head, ...rows), others));
+    element.replaceChildren(panel('Subpools', make('table', {}, head, ...rows.flat()), others));
   }
   return { element, draw };
 }

@@ -1,6 +1,7 @@
 // The head of the page: the run, the present statement, and how to move: ticks, slider and buttons.
 import { bucketsOf, coursePart } from './course.js';
 import { count, grouped, icon, make } from './elements.js';
+import { findPart } from './find.js';
 import { PAGE } from './map.js';
 import { kindOf } from './replies.js';
 
@@ -127,7 +128,7 @@ export function transportPart(view) {
   );
   let ticks = make('svg', { class: 'ticks' }), curves = make('svg', { class: 'ticks curves' });
   let reach = make('div', { class: 'reach' });
-  const course = coursePart(view, drawCurves);
+  const course = coursePart(view, drawCurves), find = findPart(view);
   const element = make(
     'header', {},
     make(
@@ -139,7 +140,7 @@ export function transportPart(view) {
         button('on', 'One statement on (right arrow)', () => view.go(view.step + 1)),
         button('last', 'To the end (End)', () => view.go(run.steps))
       ),
-      teacher, button('help', 'Help (?)', view.help, '?')
+      find.element, teacher, button('help', 'Help (?)', view.help, '?')
     ),
     make('div', { class: 'time' }, reach, curves, course.element, ticks, slider)
   );
@@ -173,5 +174,5 @@ export function transportPart(view) {
     ticks = fresh;
     drawCurves();
   }
-  return { element, draw, close: course.close };
+  return { element, draw, close: course.close, find: find.focus };
 }

@@ -10,6 +10,7 @@ import { legend, regionsPart } from './regions.js';
 import { saidPart, spoken } from './said.js';
 import { scriptPart } from './script.js';
 import { namesPart, subpoolsPart, totalsPart } from './tables.js';
+import { takenPart } from './taken.js';
 import { registersPart, tasksPart } from './tasks.js';
 import { withoutRemarks } from './remarks.js';
 import { transportPart } from './transport.js';
@@ -59,7 +60,7 @@ class View {
   /** Puts the parts in place: the head, and below it the script, the storage, and the rest. */
   build() {
     const head = transportPart(this), said = saidPart(this), lens = lensPart(this);
-    const tables = [registersPart, subpoolsPart, poolsPart, namesPart, totalsPart].map(it => it(this));
+    const tables = [registersPart, subpoolsPart, takenPart, poolsPart, namesPart, totalsPart].map(it => it(this));
     const side = [this.tasks, ...tables];
     const within = [said.element, legend(), this.regions.element, lens.element];
     const storage = make('div', { class: 'storage' }, ...within);
@@ -69,7 +70,7 @@ class View {
     const columns = make('div', { class: 'columns' }, this.script.element, storage, rest);
     const foot = this.run.program ? make('footer', { class: 'muted' }, this.run.program) : null;
     const stage = make('div', { class: 'stage' }, head.element, columns, foot);
-    this.head = head;
+    this.find = head.find;
     this.parts = [head, this.script, said, this.regions, lens, ...side];
     this.container.classList.add('run');
     this.container.replaceChildren(stage, this.live, this.dialog, this.asking);
@@ -104,7 +105,7 @@ class View {
   close() {
     this.ending.abort();
     this.resizing.disconnect();
-    this.head.close();
+    for (const it of this.parts) it.close?.();
     clearInterval(this.clock);
     clearTimeout(this.noting);
     cancelAnimationFrame(this.drawing);
@@ -174,6 +175,14 @@ class View {
     this.tasks.focus(task);
   }
 
+  /** To a line of the script, and to its statement if it has one. */
+  toLine(line) {
+    const step = this.run.stepAt(line);
+    if (step > 0) this.go(step);
+    this.script.reveal(line);
+    this.options.revealed?.(line);
+  }
+
   /** Leads to a place of the page by its name: a register of a task, a name, a subpool, a cell pool, a task. */
   show(name, task) {
     if (task !== undefined && task !== this.task.number) {
@@ -181,8 +190,10 @@ class View {
       this.draw();
     }
     const place = this.container.querySelector(`[data-at="${CSS.escape(name)}"]`);
-    place?.scrollIntoView({ block: 'nearest' });
-    place?.focus({ preventScroll: true });
+    if (!place) return;
+    place.tabIndex = -1;
+    place.scrollIntoView({ block: 'nearest' });
+    place.focus({ preventScroll: true });
   }
 
   get playing() {
@@ -252,7 +263,7 @@ class View {
     the first map), perhaps `question` (the lesson's), `bytes` (see Run) and `program` (its identity), and what vsm
     printed for the script with inserted maps: `text`, or `output`, gzip'd and in base64. Options: `address` keeps the
     statement in the page's address; `teacher` begins in the teacher's mode; `moved` is called with the view whenever
-    it's drawn. */
+    it's drawn, and `revealed` with a line that was looked up. */
 export async function showRun(container, data, options = {}) {
   try {
     const lack = lackOf();

@@ -9,6 +9,7 @@ import re
 import subprocess
 import sys
 import tempfile
+from collections.abc import Callable
 from importlib import machinery, util
 from pathlib import Path
 from types import ModuleType
@@ -16,8 +17,9 @@ from types import ModuleType
 import colours
 from bench import option_words
 from chromium import Browser
-from expected import Page
-from on_page import READY, try_drawings, try_page
+from expected import Page, shown_line
+from on_page import READY, STILL, try_drawings, try_page
+from sight import try_sight
 from trials import Programs, Trials
 from vsmtools.lines import split_lines
 
@@ -95,10 +97,52 @@ def try_odd(trials: Trials, browser: Browser, program: str, folder: Path) -> Non
         trials.equal("the title", browser.evaluate("document.title"), f"{name}.vsm · vsm")
         lines = [line.decode("latin-1") for line in split_lines(script)]
         shown = browser.evaluate("[...document.querySelectorAll('.line .text')].map(it => it.textContent)")
-        trials.equal("the script's text", shown[: len(lines)], [line.rstrip() for line in lines])
+        trials.equal("the script's text", shown[: len(lines)], [shown_line(line.rstrip()) for line in lines])
     path = TOP / "examples" / "cell-pools.vsm"
     part = made(program, path, folder / "a part.html", "--first", "8", "--last", "20")
     try_page(trials, browser, part, keys=False, looks=False)
+
+
+def full_pages() -> bytes:
+    """Pages that are wholly taken, by areas from the smallest to a page's."""
+    sizes = ((4096, 1, 2), (8, 512, 1), (16, 256, 3), (32, 128, 4), (64, 64, 5))
+    return b"".join(b" STORAGE OBTAIN,LENGTH=%d,SP=%d\n" % (length, number) * count for length, count, number in sizes)
+
+
+def peak() -> bytes:
+    """A long run with one high and narrow peak, which no step of ten would meet."""
+    pair = b" STORAGE OBTAIN,LENGTH=8,SP=1,ADDR=P\n STORAGE RELEASE,LENGTH=8,ADDR=P,SP=1\n"
+    high = b" STORAGE OBTAIN,LENGTH=40960,SP=2,ADDR=BIG\n STORAGE RELEASE,LENGTH=40960,ADDR=BIG,SP=2\n"
+    return pair * 751 + high + pair * 750
+
+
+def continued() -> bytes:
+    """Statements over several lines, with remarks, so many that the script is higher than any window."""
+    rows = ("STORAGE OBTAIN,", "LENGTH=64,             a remark that is here", "SP=3,", "ADDR=TABLE")
+    lines = [f" {rows[0]}".ljust(71) + "X", *(f"{'':15}{it}".ljust(71) + "X" for it in rows[1:-1]), f"{'':15}{rows[-1]}"]
+    return ("\n".join(lines) + "\n").encode() * 30
+
+
+def deep() -> bytes:
+    """Tasks below tasks, of which the last makes the requests."""
+    return b"".join(b" ATTACH EP=D%d\n RUN %d\n STORAGE OBTAIN,LENGTH=64,SP=1\n" % (k, k) for k in range(2, 64))
+
+
+IN_SIGHT: dict[str, Callable[[], bytes]] = {"full pages": full_pages, "a peak": peak, "continued": continued, "deep": deep}
+
+
+def try_in_sight(trials: Trials, browser: Browser, program: str, folder: Path) -> None:
+    """What is in sight of scripts that no lesson is like."""
+    for name, script in IN_SIGHT.items():
+        trials.subject = name
+        path = folder / f"{name}.vsm"
+        path.write_bytes(script())
+        page = made(program, path, folder / f"{name}.html", "--low", "1024", "--history", "65536")
+        browser.media(**STILL)
+        browser.open(page.resolve().as_uri(), READY)
+        browser.settle()
+        try_sight(trials, browser, Page.of(page))
+        trials.equal("no message of the console", browser.messages(), [])
 
 
 def damaged(text: str) -> dict[str, str]:
@@ -212,11 +256,13 @@ def try_all(trials: Trials, browser: Browser, programs: Programs) -> None:
         pages = [made(program, script, folder / f"{script.stem}.html", *option_words(script)) for script in scripts]
         for page in pages:
             try_page(trials, browser, page)
+            try_sight(trials, browser, Page.of(page))
         made_by, told = hashlib.sha256(Path(program).read_bytes()).hexdigest(), Page.of(pages[0]).data["program"]
         is_proved = subprocess.run([TOP / "prove", "--check", program]).returncode == 0 and "unproved" not in program
         trials.want("the foot says by its sum whether the program is proved",
                     made_by in told and told.startswith("Made by the proved program") == is_proved, told)
         try_odd(trials, browser, program, folder)
+        try_in_sight(trials, browser, program, folder)
         try_damaged(trials, browser, pages[0], folder)
         try_lacks(trials, browser, pages[0])
         try_long(trials, browser, program, folder)
