@@ -5,8 +5,8 @@ import { make } from './elements.js';
 const ABOVE = 10, LEFT = 8; // pixels above the first line and before each, as in bench.css
 const LARGE = 10_000; // characters of a text that may make the script too long
 
-/** `edited` is called at each edit, `chosen` with the line whose reply is clicked, and `refused`, which says whether it's
-    refused, with what a large paste would make of the script. */
+/** `edited` is called at each edit, `chosen` with the line whose reply is clicked, `refused` with what a large paste
+    would make of the script: it says whether that's refused. */
 export function editorOf(parts, edited, chosen, refused) {
   const { area, numbers, replies, now, caret, marks } = parts;
   const lines = () => {

@@ -11,9 +11,11 @@ show the same for each example, and to do what docs/BENCH-IN-A-BROWSER.md says.
 from __future__ import annotations
 
 import base64
+import gzip
 import hashlib
 import json
 import os
+import re
 import select
 import shutil
 import subprocess
@@ -38,6 +40,7 @@ from on_page import probed  # noqa: E402
 from trials import Programs, Trials  # noqa: E402
 
 MODULE = TOP / "dist" / "vsm.wasm"
+BUILT = TOP / "crates" / "vsm" / "out" / "vsm"
 SECONDS = 60
 WORKER_SECONDS = 15  # until a busy worker has ended
 ENDLESS_BYTES = 1 << 22  # of an endless row, far more than the program reads of it
@@ -543,6 +546,24 @@ def try_windows(page: BenchPage, trials: Trials) -> None:
     page.browser.call("Target.closeTarget", targetId=target)
 
 
+def try_paste(page: BenchPage, trials: Trials) -> None:
+    """A paste that is too long is refused before the editor holds it."""
+    before = page.js(SCRIPT)
+    for lines, is_refused in ((100_000, True), (1000, False)):
+        page.js(f"""(it => {{
+            it.focus();
+            const data = new DataTransfer();
+            data.setData('text/plain', '* a pasted line\\n'.repeat({lines}));
+            window.isPrevented = !it.dispatchEvent(new ClipboardEvent('paste',
+                {{ clipboardData: data, bubbles: true, cancelable: true }}));
+        }})(document.getElementById('script'))""")
+        said = page.js("document.getElementById('note').open") and page.text("note-text")
+        trials.equal(f"a paste of {lines} lines is refused", page.js("window.isPrevented"), is_refused)
+        trials.want("and said so", bool(said) == is_refused and (not is_refused or "lines" in said), said)
+        trials.want("the script stays", page.js(SCRIPT) == before)
+        page.js("document.getElementById('note').close()")
+
+
 def try_limits(page: BenchPage, trials: Trials) -> None:
     page.run(b"".join(b"* %x\n" % (n * n * 0x9e3779b97f4a7c15 % (1 << 89)) for n in range(3000)))
     trials.want("that a script is too long for the address is said",
@@ -552,6 +573,7 @@ def try_limits(page: BenchPage, trials: Trials) -> None:
     trials.want("Copy link says it too",
         page.wait("document.getElementById('note').open", 10) and "too long" in page.text("note"), page.text("note"))
     page.js("document.getElementById('note').close()")
+    try_paste(page, trials)
     page.put("script", " BACK 0\n* 12 €\n")
     page.click("run")
     trials.want("a character that isn't a byte is refused with its place", "line 2, column 6" in page.text("errors"),
@@ -712,6 +734,51 @@ def try_saving(page: BenchPage, folder: Path, trials: Trials) -> None:
         page.js("document.title") == f"{name} · vsm" and not page.browser.messages(), page.browser.messages())
 
 
+def page_data(text: str) -> dict[str, Any]:
+    """The data of a run's page, without what says which program made it."""
+    found = re.search(r'id="data">(.*?)</script>', text, re.DOTALL)
+    data = json.loads(found[1]) if found else {}
+    output = gzip.decompress(base64.b64decode(data.pop("output", "")))
+    return {**{key: it for key, it in data.items() if key != "program"}, "output": output.decode("latin-1")}
+
+
+SAVED = (*(f"{name}.vsm" for name in ("overlay", "continued-lines", "tasks-and-subpools")), "odd.vsm")
+ODD = b"""* \xc3\xa4 \xff \x07
+P STORAGE OBTAIN,LENGTH=64,SP=1,ADDR=P      remark </script>
+ POKE P,X'C1'
+ POKE (1),X'C2C3'
+ BACK 1
+ POKE X'6010',                                                         X
+               X'01020304'
+ WRONG
+ STORAGE OBTAIN,""" + b" " * 55 + b"X\n"
+
+
+def try_same_page(page: BenchPage, folder: Path, program: str, trials: Trials) -> None:
+    """The page that the bench saves has the data of the page that vsm-view makes of the same script."""
+    (folder / "odd.vsm").write_bytes(ODD)
+    for name in SAVED:
+        script = folder / name if name == "odd.vsm" else TOP / "examples" / name
+        if name == "odd.vsm":
+            page.put("script", ODD.decode("latin-1"))
+            page.js("document.getElementById('run').click()")
+        else:
+            page.put("examples", name, "change")
+        page.ended()
+        page.wait("document.querySelector('#picture .said strong')", 20)
+        page.js("""window.saved = null; URL.createObjectURL = (real => blob => {
+            blob.text().then(it => window.saved ??= it); return real.call(URL, blob); })(URL.createObjectURL)""")
+        page.click("save-page")
+        page.wait("window.saved", 20)
+        words = [sys.executable, str(TOP / "tools" / "vsm-view"), "--vsm", program, str(script)]
+        view = subprocess.run(words, stdin=subprocess.DEVNULL, capture_output=True, timeout=300).stdout.decode()
+        ours, theirs = page_data(page.js("window.saved")), page_data(view)
+        for data in (ours, theirs):
+            data.pop("name", None)
+        trials.want(f"the saved page of {name} has the data of vsm-view's", ours == theirs,
+            [key for key in theirs if ours.get(key) != theirs[key]])
+
+
 def try_lacks(page: BenchPage, trials: Trials) -> None:
     """In a browser that lacks something needed, the page says so."""
     for lack in LACKS:
@@ -761,14 +828,15 @@ def try_no_network(page: BenchPage, trials: Trials) -> None:
     trials.want("and a script that isn't the page's", not page.js("window.isRun"))
 
 
-def try_page(page: BenchPage, node: Node, folder: Path, trials: Trials) -> None:
+def try_page(page: BenchPage, node: Node, folder: Path, program: str, trials: Trials) -> None:
     parts: list[Callable[[], None]] = [
         lambda: try_opening(page, trials), lambda: try_foot(page, node, trials), lambda: try_looks(page, trials),
         lambda: try_each_example(page, trials), lambda: try_odd_scripts(page, node, trials),
         lambda: try_command_line(page, node, trials), lambda: try_keys(page, trials), lambda: try_stop(page, trials),
         lambda: try_link(page, trials), lambda: try_keeping(page, trials), lambda: try_limits(page, trials),
         lambda: try_files(page, folder, trials), lambda: try_beside(page, trials), lambda: try_teacher(page, trials),
-        lambda: try_saving(page, folder, trials), lambda: try_lacks(page, trials),
+        lambda: try_saving(page, folder, trials), lambda: try_same_page(page, folder, program, trials),
+        lambda: try_lacks(page, trials),
         lambda: try_no_network(page, trials)]
     run_all(parts, trials)
 
@@ -790,7 +858,7 @@ def try_made(module: Path, program: str, trials: Trials) -> None:
         trials.equal(f"the module is {what}", said[sum_of], hashlib.sha256(file.read_bytes()).hexdigest())
 
 
-def try_module(module: Path, browser: Browser, trials: Trials) -> None:
+def try_module(module: Path, program: str, browser: Browser, trials: Trials) -> None:
     """All trials of one module and of the bench with it."""
     with tempfile.TemporaryDirectory(prefix="bench-trials-") as name:
         path, explain = Path(name) / "bench.html", module.with_name("vsm-explain.wasm")
@@ -801,7 +869,7 @@ def try_module(module: Path, browser: Browser, trials: Trials) -> None:
             try_rows(node, trials)
             try_examples(node, trials)
             trials.subject = path.name
-            try_page(BenchPage(browser, path), node, Path(name), trials)
+            try_page(BenchPage(browser, path), node, Path(name), program, trials)
         finally:
             node.close()
 
@@ -814,7 +882,7 @@ def try_all(trials: Trials, browser: Browser, programs: Programs) -> None:
         return
     try_made(MODULE, programs.vsm, trials)
     try:
-        try_module(MODULE, browser, trials)
+        try_module(MODULE, programs.vsm, browser, trials)
     except BuildFault as fault:
         trials.want("the page can be built", False, fault)
 
@@ -835,7 +903,7 @@ def main(words: list[str]) -> int:
         print(__doc__.split("\n")[2], file=sys.stderr)
         return 16
     module, trials = Path(words[0]) if words else MODULE, Trials()
-    return ended(trials, lambda browser: try_module(module, browser, trials))
+    return ended(trials, lambda browser: try_module(module, str(BUILT), browser, trials))
 
 
 if __name__ == "__main__":

@@ -203,6 +203,10 @@ const probe = {
     };
   },
 
+  /** What is still taken, by line: texts and bytes. */
+  taken: () => Object.fromEntries([...document.querySelectorAll('.by-line tr')].filter(it => it.querySelector('td'))
+    .map(it => [it.cells[0].textContent, +it.cells[1].textContent.replaceAll(',', '')])),
+
   /** The curves: what each path reaches, as a share of the drawing's height, and the texts of what they reach. */
   curves: () => ({
     most: Object.fromEntries([...document.querySelectorAll('.curves path')].map(it =>

@@ -21,7 +21,7 @@ export function wrapped(text, most) {
   return rows;
 }
 
-/** A line in rows that fit: a statement's operands; its remarks, which begin at a place, or at 0 if it has none; and, if
+/** A line in rows that fit: a statement's operands; its remarks, which begin at a place, or at 0 if it has none; and if
     the line is too long for one row, what it has from column 72 on, for the right of the first row. In a comment that
     may be a part of a word: then it isn't apart. */
 export function lineRows(line, remarks, most, isComment = false) {

@@ -74,7 +74,9 @@ def try_curves(trials: Trials, browser: Browser, page: Page) -> None:
         trials.want(f"the curve of {kind} reaches the greatest value", near, (found, most))
     pages = {kind: f"{most[kind] // PAGE:,} page{'s' * (most[kind] != PAGE)}" for kind in ("low", "high")}
     wanted = {"taken": f"{most['taken']:,} byte{'s' * (most['taken'] != 1)} taken", "low": f"{pages['low']} below",
-              "largest": f"{most['largest']:,} free in one", **({"high": f"{pages['high']} above"} if most["high"] else {})}
+              "largest": f"{most['largest']:,} free in one"}
+    if most["high"]:
+        wanted["high"] = f"{pages['high']} above"
     trials.equal("what the curves reach is said", drawn["texts"], wanted)
 
 
@@ -126,8 +128,9 @@ def try_column(trials: Trials, browser: Browser, page: Page) -> None:
         browser.size(width, height)
         browser.settle()
         found = browser.evaluate(probed("column()"))
-        lone = [it[0] for it in found if len(it[1][0]) > 1
-                and any(len(row.strip()) == 1 and lines[it[0] - 1][LAST_COLUMN:].strip() == row.strip() for row in it[1][0])]
+        ends_of = {number: line[LAST_COLUMN:].strip() for number, line in enumerate(lines, 1)}
+        lone = [number for number, it in found if len(it[0]) > 1
+                and any(len(row.strip()) == 1 and row.strip() == ends_of[number] for row in it[0])]
         trials.equal(f"{width} wide: lines whose column 72 has a row of its own", lone, [])
         trials.want(f"{width} wide: column 72 is one column", len({round(it[1][2]) for it in found if it[1][1]}) <= 1)
         torn = [it[0] for it in found if it[0] in within and len(it[1][0]) > 1 and it[1][4] < 0
