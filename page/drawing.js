@@ -40,6 +40,14 @@ function lines(parts, begin, wide) {
   return places.map(it => `M${it % wide} ${Math.floor(it / wide)}v1`).join('');
 }
 
+/** What a strip of a page has, in doublewords: boxes of its parts, then of its cells, and lines where areas touch. */
+export function drawingBoxes(page) {
+  const placeOf = at => (at - page.page * PAGE) / UNIT;
+  const boxOf = it => ({ from: placeOf(it.from), to: placeOf(it.to), kind: it.kind });
+  const lineOf = it => ({ from: placeOf(it.from), isLine: true });
+  return [...[...page.parts, ...page.cells].map(boxOf), ...touching(page.parts, 1).map(lineOf)];
+}
+
 /** A page in rows of `wide` doublewords, each drawn `scale` units wide. */
 export function drawingOf(page, granted, wide, scale) {
   const begin = page.page * PAGE;

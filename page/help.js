@@ -45,13 +45,27 @@ export function helpDialog(view) {
   );
 }
 
+/** Saves the storage as a picture of a kind, or prints a handout of the statements that a text names. */
+export function savingDialog({ save, print }) {
+  const field = make('input', { 'aria-label': 'Statements', placeholder: '1-3, 8', autocomplete: 'off' });
+  const button = (text, kind) => make('button', { type: 'button', onclick: () => save(kind) }, text);
+  const form = make('form', { method: 'dialog', onsubmit: () => print(field.value) });
+  form.append(make('label', {}, 'Statements ', field), ' ', make('button', {}, 'Print'));
+  return make(
+    'dialog', { 'aria-label': 'Pictures and handouts' }, make('h2', {}, 'Pictures and handouts'),
+    make('p', {}, 'The storage as it’s shown: ', button('SVG', 'svg'), ' ', button('PNG', 'png')),
+    make('p', {}, 'Or statements by their numbers, each with its answer and its storage:'), form,
+    make('form', { method: 'dialog' }, make('button', {}, 'Close'))
+  );
+}
+
 /** Asks whether to show all answers. */
 export function askingDialog(act) {
   return make(
     'dialog', { 'aria-label': 'Show all answers?' }, make('h2', {}, 'Show all answers?'),
     make('p', {}, 'That shows the answers, remarks and comments of the whole script.'),
     make(
-      'form', { method: 'dialog' }, make('button', { autofocus: true }, 'Keep them hidden'), ' ',
+      'form', { method: 'dialog' }, make('button', {}, 'Keep them hidden'), ' ',
       make('button', { class: 'all', onclick: act }, 'Show all')
     )
   );

@@ -1,4 +1,4 @@
-// Trials of what keeps one's own scripts, in a storage that stands in for the browser's.
+// Trials of what keeps one's own scripts, in a storage in place of the browser's.
 import assert from 'node:assert';
 import test from 'node:test';
 import { editedAt, MOST_OWN, OwnScripts } from './bench-own.js';

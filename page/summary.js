@@ -81,6 +81,6 @@ export function changedLine(view) {
     make('button', { type: 'button', class: 'by', onclick: () => act(it) }, it.text));
   return make(
     'p', { class: 'what' }, 'Changed: ', ...parts.flatMap((it, k) => k ? [', ', it] : [it]),
-    more > 0 ? ` and ${count(more, 'part')} more` : ''
+    more > 0 ? ` and ${count(more, 'part')} more.` : '.'
   );
 }

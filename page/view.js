@@ -1,10 +1,11 @@
 // A run, statement by statement. Other pages need only showRun.
 import { make } from './elements.js';
-import { askingDialog, helpDialog } from './help.js';
+import { askingDialog, helpDialog, savingDialog } from './help.js';
 import { keysOf } from './keys.js';
 import { lensPart } from './lens.js';
 import { PAGE, Run, Sentence } from './map.js';
 import { momentOf } from './moment.js';
+import { handoutOf, savePicture, stepsIn } from './picture.js';
 import { poolsPart } from './pools.js';
 import { legend, regionsPart } from './regions.js';
 import { saidPart, spoken } from './said.js';
@@ -49,6 +50,7 @@ class View {
     for (const act of ['play', 'ask', 'help']) this[act] = this[act].bind(this);
     this.dialog = helpDialog(this);
     this.asking = askingDialog(() => this.teach());
+    this.saving = savingDialog({ save: kind => savePicture(this, kind), print: text => this.print(text) });
     this.live = make('div', { class: 'unseen', 'aria-live': 'polite' });
     this.regions = regionsPart(this);
     this.tasks = tasksPart(this);
@@ -62,7 +64,7 @@ class View {
     const head = transportPart(this), said = saidPart(this), lens = lensPart(this);
     const tables = [registersPart, subpoolsPart, takenPart, poolsPart, namesPart, totalsPart].map(it => it(this));
     const side = [this.tasks, ...tables];
-    const within = [said.element, legend(), this.regions.element, lens.element];
+    const within = [said.element, legend(this), this.regions.element, lens.element];
     const storage = make('div', { class: 'storage' }, ...within);
     const name = 'Tasks, registers, subpools, cell pools and names';
     const rest = make('div', { class: 'side', role: 'group', 'aria-label': name });
@@ -73,7 +75,7 @@ class View {
     this.find = head.find;
     this.parts = [head, this.script, said, this.regions, lens, ...side];
     this.container.classList.add('run');
-    this.container.replaceChildren(stage, this.live, this.dialog, this.asking);
+    this.container.replaceChildren(stage, this.live, this.dialog, this.asking, this.saving);
   }
 
   /** A step's statement as it's shown: without remarks while its answer is hidden. */
@@ -207,6 +209,20 @@ class View {
       ? null
       : setInterval(() => this.step < this.run.steps ? this.go(this.step + 1) : this.play(), PLAY);
     this.draw();
+  }
+
+  /** Prints statements with their storage, as far as answers are shown. */
+  print(text) {
+    const asked = stepsIn(text, this.told), steps = asked.length ? asked : [Math.min(this.step, this.told)];
+    const handout = handoutOf(this, steps, step => momentOf(this.run, step));
+    document.querySelector('.handout')?.remove();
+    this.container.append(handout);
+    this.container.classList.add('handing');
+    addEventListener('afterprint', () => {
+      handout.remove();
+      this.container.classList.remove('handing');
+    }, { once: true });
+    window.print();
   }
 
   help() {

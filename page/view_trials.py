@@ -128,7 +128,7 @@ def peak() -> bytes:
 
 
 def continued() -> bytes:
-    """Statements over several lines, with remarks, so many that the script is higher than any window."""
+    """Statements over several lines, with remarks, in a script that is higher than any window."""
     rows = ("STORAGE OBTAIN,", "LENGTH=64,             a remark that is here", "SP=3,", "ADDR=TABLE")
     lines = [f" {rows[0]}", *(f"{'':15}{it}" for it in rows[1:])]
     lines = [*(it.ljust(71) + "X" for it in lines[:-1]), lines[-1]]
