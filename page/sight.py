@@ -18,7 +18,8 @@ MOST_STRIPS = 6
 WHOLE = ((1440, 900), (1366, 768), (1280, 720), (1024, 768))  # the answer and the chosen page are in sight
 LOW = (853, 480)  # a row or the chosen page is
 MOST_LINES, MOST_ANSWER = 3, 100  # of a statement, and characters of an answer, with all in sight
-MOST_STEPS = 60
+MOST_STEPS = 24  # of a page that are looked at in each window
+MOST_COURSE, MOST_ROWS = 300, 48  # steps and pages of a course whose rows are single pages
 KINDS = ("taken", "low", "high", "largest")
 
 
@@ -94,11 +95,13 @@ def wanted_column(page: Page, state: Map, order: list[int]) -> list[tuple[int, f
 
 def try_course(trials: Trials, browser: Browser, page: Page) -> None:
     """The picture of the whole run: each page at some steps, by its colour and by how much of it is taken."""
+    if page.steps > MOST_COURSE:
+        return
     states = [page.map_at(step) for step in range(page.steps + 1)]
     pages = {number for state in states for subpool in state.subpools for area in subpool.extents
              for number in range(area.start // PAGE, area.end // PAGE)}
     order = sorted(pages, key=lambda it: (it < 0x8000, it))
-    if not 0 < len(order) <= 48 or page.steps > 300:
+    if not 0 < len(order) <= MOST_ROWS:
         return
     steps = sorted({0, 1, page.steps // 2, page.steps})
     palette, columns = browser.evaluate(probed("palette()")), browser.evaluate(

@@ -121,10 +121,10 @@ def full_pages() -> bytes:
 
 
 def peak() -> bytes:
-    """A long run with one high and narrow peak, which no step of ten would meet."""
+    """A long run with one high and narrow peak, which every third step doesn't meet."""
     pair = b" STORAGE OBTAIN,LENGTH=8,SP=1,ADDR=P\n STORAGE RELEASE,LENGTH=8,ADDR=P,SP=1\n"
     high = b" STORAGE OBTAIN,LENGTH=40960,SP=2,ADDR=BIG\n STORAGE RELEASE,LENGTH=40960,ADDR=BIG,SP=2\n"
-    return pair * 751 + high + pair * 750
+    return pair * 302 + high + pair * 300
 
 
 def continued() -> bytes:
@@ -132,12 +132,12 @@ def continued() -> bytes:
     rows = ("STORAGE OBTAIN,", "LENGTH=64,             a remark that is here", "SP=3,", "ADDR=TABLE")
     lines = [f" {rows[0]}", *(f"{'':15}{it}" for it in rows[1:])]
     lines = [*(it.ljust(71) + "X" for it in lines[:-1]), lines[-1]]
-    return ("\n".join(lines) + "\n").encode() * 30
+    return ("\n".join(lines) + "\n").encode() * 20
 
 
 def deep() -> bytes:
     """Tasks below tasks, of which the last makes the requests."""
-    return b"".join(b" ATTACH EP=D%d\n RUN %d\n STORAGE OBTAIN,LENGTH=64,SP=1\n" % (k, k) for k in range(2, 64))
+    return b"".join(b" ATTACH EP=D%d\n RUN %d\n STORAGE OBTAIN,LENGTH=64,SP=1\n" % (k, k) for k in range(2, 40))
 
 
 IN_SIGHT: dict[str, Callable[[], bytes]] = {
