@@ -12,12 +12,8 @@ const LEGEND = [
   ['unassigned', 'not assigned']
 ];
 
-/** The legend, and what makes pictures and handouts of the storage. */
-export function legend(view) {
-  const tags = LEGEND.map(([kind, name]) => make('span', {class: `tag ${kind}`}, name));
-  const onclick = () => view.saving.showModal();
-  return make('div', { class: 'legend' }, ...tags, make('button', { type: 'button', class: 'save', onclick }, 'Save…'));
-}
+export const legend = () =>
+  make('div', {class: 'legend'}, ...LEGEND.map(([kind, name]) => make('span', {class: `tag ${kind}`}, name)));
 
 function labelOf(number, page, changed) {
   const free = page?.parts.reduce((sum, it) => sum + (it.kind === 'free' ? it.to - it.from : 0), 0);

@@ -140,7 +140,8 @@ export function transportPart(view) {
         button('on', 'One statement on (right arrow)', () => view.go(view.step + 1)),
         button('last', 'To the end (End)', () => view.go(run.steps))
       ),
-      find.element, teacher, button('help', 'Help (?)', view.help, '?')
+      find.element, teacher, button('save', 'Pictures and handouts', () => view.saving.showModal(), 'Save…'),
+      button('help', 'Help (?)', view.help, '?')
     ),
     make('div', { class: 'time' }, reach, curves, course.element, ticks, slider)
   );

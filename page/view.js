@@ -64,7 +64,7 @@ class View {
     const head = transportPart(this), said = saidPart(this), lens = lensPart(this);
     const tables = [registersPart, subpoolsPart, takenPart, poolsPart, namesPart, totalsPart].map(it => it(this));
     const side = [this.tasks, ...tables];
-    const within = [said.element, legend(this), this.regions.element, lens.element];
+    const within = [said.element, legend(), this.regions.element, lens.element];
     const storage = make('div', { class: 'storage' }, ...within);
     const name = 'Tasks, registers, subpools, cell pools and names';
     const rest = make('div', { class: 'side', role: 'group', 'aria-label': name });
