@@ -5,7 +5,7 @@ import { PAGE } from './map.js';
 import { countOf } from './storage.js';
 
 const MOST_COURSE_ROWS = 48, MOST_COLUMNS = 400;
-const SLICE = 10; // milliseconds of work between two pauses
+const SLICE = 10, DELAY = 250; // milliseconds: of work between two pauses; until it begins
 const CANVAS = 1200, FAINT = .18; // pixels of the drawing's width; how strong a free area is
 const HIGH_REGION = 0x8000000;
 
@@ -80,7 +80,7 @@ export function inSlices(work, done) {
     }
     timer = setTimeout(slice);
   }
-  timer = setTimeout(slice);
+  timer = setTimeout(slice, DELAY);
   return () => clearTimeout(timer);
 }
 

@@ -28,8 +28,9 @@ function survey(text) {
     else if (text.startsWith('SU', at + 1)) numbers.add(text.slice(at + 9, text.indexOf(' ', at + 9)));
     else if (text.startsWith(' E', at + 1)) extents.add(text.slice(at + 9, at + 26));
     else if (text.startsWith('PA', at + 1)) {
-      const words = text.slice(at, text.indexOf(' FREE ', at)).split(/\s/);
-      totals[answers.length - 1] = { taken: +words[13], low: +words[3] * PAGE, high: +words[7] * PAGE };
+      const numberAfter = word => parseInt(text.slice(text.indexOf(word, at) + word.length, at + 120), 10);
+      totals[answers.length - 1] =
+        { taken: numberAfter('TAKEN '), low: numberAfter('LOW ') * PAGE, high: numberAfter('HIGH ') * PAGE };
     }
   }
   const areas = [...extents].map(it => it.split(' ').map(word => parseInt(word, 16)));
