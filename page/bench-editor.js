@@ -3,9 +3,11 @@
 import { make } from './elements.js';
 
 const ABOVE = 10, LEFT = 8; // pixels above the first line and before each, as in bench.css
+const LARGE = 10_000; // characters of a text that may make the script too long
 
-/** `edited` is called at each edit, and `chosen` with the line whose reply is clicked. */
-export function editorOf(parts, edited, chosen) {
+/** `edited` is called at each edit, `chosen` with the line whose reply is clicked, `refused` with what a large paste
+    would make of the script: it says whether that's refused. */
+export function editorOf(parts, edited, chosen, refused) {
   const { area, numbers, replies, now, caret, marks } = parts;
   const lines = () => {
     let count = 1;
@@ -13,7 +15,8 @@ export function editorOf(parts, edited, chosen) {
     return count;
   };
   const lineHeight = () => parseFloat(getComputedStyle(area).lineHeight);
-  let count = 1, told = new Map(), present = [0, 0], faults = [];
+  const none = () => undefined;
+  let count = 1, told = none, present = [0, 0], faults = [];
 
   /** Draws what is next to the lines in sight, and no others. */
   function drawBeside() {
@@ -22,8 +25,8 @@ export function editorOf(parts, edited, chosen) {
     const shown = Array.from({ length: Math.max(0, Math.min(seen, count - first)) }, (_, k) => first + k + 1);
     numbers.replaceChildren(...shown.map(it => make('div', {}, String(it))));
     replies.replaceChildren(...shown.map(it => {
-      const { reply = ' ', kind = '' } = told.get(it) ?? {};
-      const act = () => told.has(it) && chosen(it);
+      const { reply = ' ', kind = '' } = told(it) ?? {};
+      const act = () => told(it) && chosen(it);
       return make('div', { class: kind, title: reply, 'data-line': it, onclick: act }, reply);
     }));
     const top = number => ABOVE + (number - 1) * line - area.scrollTop;
@@ -50,6 +53,15 @@ export function editorOf(parts, edited, chosen) {
     edited();
     changed();
   });
+  /** A large text that is pasted or dropped is judged before the field has to hold it. */
+  function judge(event, data) {
+    const added = data?.getData('text/plain') ?? '', { value, selectionStart, selectionEnd } = area;
+    if (added.length < LARGE) return;
+    const text = value.slice(0, selectionStart) + added.replaceAll('\r\n', '\n') + value.slice(selectionEnd);
+    if (refused(text)) event.preventDefault();
+  }
+  area.addEventListener('paste', event => judge(event, event.clipboardData));
+  area.addEventListener('drop', event => judge(event, event.dataTransfer));
   area.addEventListener('scroll', drawBeside);
   document.addEventListener('selectionchange', () => document.activeElement === area && drawCaret());
   new ResizeObserver(drawBeside).observe(area);
@@ -61,22 +73,26 @@ export function editorOf(parts, edited, chosen) {
       area.value = text;
       area.scrollTop = 0;
       area.setSelectionRange(0, 0);
-      told = new Map();
+      told = none;
       present = [0, 0];
       faults = [];
       changed();
     },
-    /** Shows replies, by line, and marks faults and the lines of the present statement; these are scrolled to if they
-        have moved. */
-    show(byLine, [from, to], found) {
+    /** Shows replies, by a function of the line, and marks faults and the lines of the present statement; these are
+        scrolled to if they have moved. */
+    show(replyAt, [from, to], found) {
       const isMoved = from !== present[0];
-      told = byLine;
+      told = replyAt;
       present = [from, to];
       faults = found;
       const line = lineHeight(), top = (from - 1) * line, bottom = to * line + 2 * ABOVE;
       if (from && isMoved && (top < area.scrollTop || bottom > area.scrollTop + area.clientHeight))
         area.scrollTop = Math.max(0, top - area.clientHeight / 3);
       drawBeside();
+    },
+    /** Scrolls to a line. */
+    reveal(line) {
+      area.scrollTop = Math.max(0, (line - 1) * lineHeight() - area.clientHeight / 3);
     },
     /** Selects what is at a place. */
     select({ line, column, length }) {

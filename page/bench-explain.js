@@ -7,7 +7,7 @@ import { latin } from './module-host.js';
 
 const SETTLING = 50; // milliseconds from a step until its questions are asked, so that those passed by aren't
 const MOST_SHOWN = 2 ** 20; // characters of an answer
-const MOST_FAULTS = 200;
+const MOST_FAULTS = 200, MOST_LINKS = 4000;
 const PARTS = ['why', 'who', 'areas'];
 export const NO_RUN = { script: '', words: [], name: '' };
 
@@ -18,11 +18,20 @@ function shownText({ status, output, errors }) {
   return `${text.slice(0, MOST_SHOWN)}\n.. and ${(text.length - MOST_SHOWN).toLocaleString('en')} characters more.\n`;
 }
 
+/** A text in which each `line 6` leads to that line. */
+function withLinks(text, chosen) {
+  const pieces = text.split(/\b(line \d+)\b/);
+  if (pieces.length > MOST_LINKS) return [text];
+  return pieces.map((it, k) => k % 2
+    ? make('button', { type: 'button', class: 'to-line', onclick: () => chosen(+it.slice(5)) }, it) : it);
+}
+
 export class Explainer {
   /** `parts` are elements by name; `source` is the worker's text; `module` is the element that holds the module (JSON
-      of a text: gzip'd, in base64), or nothing; `found` is called with the faults of the script. */
-  constructor(parts, source, module, found) {
-    Object.assign(this, { parts, source, module, found, runner: null, ready: null, asking: null });
+      of a text: gzip'd, in base64), or nothing; `found` is called with the faults of the script, and `chosen` with a
+      line that is clicked. */
+  constructor(parts, source, module, found, chosen) {
+    Object.assign(this, { parts, source, module, found, chosen, runner: null, ready: null, asking: null });
     this.isThere = module.textContent !== '';
     this.begin(NO_RUN);
     parts.panel.hidden = !this.isThere;
@@ -146,7 +155,7 @@ export class Explainer {
     const { parts, askedAt: place, run: { name, words } } = this, { key, asked, status } = answer;
     if (key === 'why') this.say('');
     parts.of.textContent = `line ${place.line}`;
-    parts[key].textContent = shownText(answer);
+    parts[key].replaceChildren(...withLinks(shownText(answer), this.chosen));
     parts[key].classList.toggle('bad', status > 4);
     const front = shell(['head', '-n', String(place.end), name]), told = asked.split(/\s+/).filter(Boolean);
     if (key === 'who') parts.asked.placeholder = parts.asked.value.trim() ? parts.asked.placeholder : asked;

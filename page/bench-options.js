@@ -7,6 +7,7 @@ const LIMITS = {
 
 /** What is wrong with an option's value, as a sentence; or null. An omitted option is right. */
 export function faultOfOption(option, value) {
+  if (option === 'residence') return ['', '24', '31'].includes(value) ? null : 'Residence is 24 or 31.';
   const limits = LIMITS[option];
   if (!limits || value === '') return null;
   const { name, least, most, step } = limits, number = /^\+?\d+$/.test(value) ? Number(value) : NaN;

@@ -2,10 +2,10 @@
 import { showOutput } from './bench-answers.js';
 import { editorOf } from './bench-editor.js';
 import { Explainer, faultsList, NO_RUN, partsOfPanel } from './bench-explain.js';
-import {
-  base64Of, bytesOf, gunzipped, gzipped, keep, keptScripts, linkOf, MOST_LINK, NAMES, readLink
-} from './bench-keep.js';
+import { base64Of, bytesOf, gunzipped, gzipped, linkOf, MOST_LINK, NAMES, readLink } from './bench-keep.js';
 import { faultOfOption } from './bench-options.js';
+import { editedAt, MOST_OWN, OwnScripts } from './bench-own.js';
+import { ownList } from './bench-own-list.js';
 import { runnerOf } from './bench-runner.js';
 import { editorText, faultOfScript, optionsIn } from './bench-script.js';
 import { make } from './elements.js';
@@ -42,7 +42,8 @@ class Bench {
     this.result = { output: '', script: '', words: [], mapped: null };
     this.view = null;
     this.turned = false; // whether the output is shown because there was no picture
-    this.id = null; // of one's own script in the editor: a lesson or a link's script has none until it's edited
+    this.own = new OwnScripts(() => localStorage);
+    this.isOwn = false; // a lesson or a link's script becomes one's own when it's edited
     this.isUnkept = false;
     this.place = Infinity; // the statement that the next picture shows
     this.ending = ''; // the status line of a run that has ended
@@ -51,11 +52,12 @@ class Bench {
       area: byId('script'), numbers: byId('numbers'), replies: byId('replies'), now: byId('now'), caret: byId('caret'),
       marks: byId('marks')
     };
-    this.editor = editorOf(parts, () => this.edited(), line => this.view?.go(this.view.run.atLine.get(line)));
+    this.editor = editorOf(parts, () => this.edited(), line => this.goToLine(line), text => this.refusePaste(text));
     this.faults = [];
     this.listFaults = faultsList(byId('faults'), it => this.editor.select(it));
     this.explainer = new Explainer(
-      partsOfPanel(byId), data.explainer, byId('explain-module'), it => this.foundFaults(it)
+      partsOfPanel(byId), data.explainer, byId('explain-module'), it => this.foundFaults(it),
+      line => this.goToLine(line)
     );
     byId('identity').textContent = data.identity.line;
     this.listen();
@@ -65,7 +67,8 @@ class Bench {
     const clicks = {
       open: () => byId('file').click(), 'save-script': () => this.saveScript(), 'save-output': () => this.saveOutput(),
       'save-page': () => this.savePage(), copy: () => this.copyLink(), teacher: () => this.teach(!this.isTeaching),
-      help: () => this.help(), stop: () => this.stop(), fold: () => this.fold(true), unfold: () => this.fold(false)
+      help: () => this.help(), stop: () => this.stop(), fold: () => this.fold(true), unfold: () => this.fold(false),
+      own: () => this.manage(), room: () => this.makeRoom()
     };
     for (const [id, act] of Object.entries(clicks)) byId(id).addEventListener('click', act);
     byId('form').addEventListener('submit', event => {
@@ -83,12 +86,16 @@ class Bench {
       this.run();
     });
     addEventListener('hashchange', () => this.followLink());
+    addEventListener('storage', () => {
+      this.listScripts();
+      if (this.isOwn) this.keepSoon();
+    });
   }
 
   /** Begins with the link's script, or else with the newest script of one's own, or else with the first lesson. */
   async begin() {
     if (await this.followLink()) return;
-    const [own] = keptScripts();
+    const [own] = this.own.all();
     if (own) this.load(own, own.id);
     else this.choose(this.examples.has('first-steps.vsm') ? 'first-steps.vsm' : [...this.examples.keys()][0]);
   }
@@ -106,35 +113,51 @@ class Bench {
   }
 
   get state() {
-    return { script: this.editor.text, options: this.options, name: this.name, teacher: this.isTeaching };
+    const { view, place } = this, step = !view ? place : view.step === view.run.steps ? Infinity : view.step;
+    return { script: this.editor.text, options: this.options, name: this.name, teacher: this.isTeaching, step };
   }
 
   /** Loads a script with its options, and runs it. A script that is kept nowhere isn't replaced without a question. */
-  load({ script, options, name, teacher }, id = null) {
+  load({ script, options, name, teacher, step = Infinity }, id = null) {
     if (this.isLost() && !confirm('The script in the editor is kept nowhere. Is it to be replaced?'))
       return this.listScripts();
     const isLesson = id === null && this.examples.get(name)?.script === script;
-    this.id = id;
-    this.name = !name || !isLesson && this.examples.has(name) ? OWN : name;
+    this.own.open(id);
+    this.isOwn = id !== null;
+    this.name = isLesson ? name : this.ownName(name);
     this.chosen = isLesson ? name : '';
     this.isUnkept = false;
-    for (const it of NAMES) byId(it).value = options[it] ?? '';
+    this.setOptions(options);
     if (teacher !== undefined) this.setTeaching(teacher);
     this.editor.text = script;
     this.view?.close();
     this.view = null;
-    this.place = Infinity;
+    this.place = step;
     this.listScripts();
     this.run(true);
   }
 
+  /** A script's name, which is no lesson's: the file of a lesson is another one. */
+  ownName(name) {
+    return this.examples.has(name) ? `my-${name}` : name || OWN;
+  }
+
+  /** Sets the options; a residence that doesn't exist gets an entry, so that it's seen and refused. */
+  setOptions(options) {
+    const residence = options.residence === '24' ? '' : options.residence ?? '', list = byId('residence');
+    for (const it of [...list.options].slice(2)) it.remove();
+    const isOther = ![...list.options].some(it => it.value === residence);
+    if (isOther) list.append(new Option(residence.slice(0, 8), residence));
+    for (const it of NAMES) byId(it).value = it === 'residence' ? residence : options[it] ?? '';
+  }
+
   /** Whether an edit would be lost because it can be kept nowhere. */
   isLost() {
-    return this.isUnkept && !keep({ ...this.state, id: this.id });
+    return this.isUnkept && !this.own.write(this.state).isKept;
   }
 
   choose(value) {
-    const own = keptScripts().find(it => `own ${it.id}` === value);
+    const own = this.own.all().find(it => `own ${it.id}` === value);
     if (own) this.load(own, own.id);
     else if (this.examples.has(value)) this.load(this.examples.get(value));
   }
@@ -142,20 +165,46 @@ class Bench {
   /** Lists one's own scripts and the lessons, and chooses the one that the editor has. */
   listScripts() {
     const front = text => text.trim().split('\n')[0].slice(0, 40);
-    const own = keptScripts().map(it => new Option(`${it.name}: ${front(it.script)}`, `own ${it.id}`));
+    const label = it => `${it.name}, edited ${editedAt(it.at)}: ${front(it.script)}`;
+    const own = this.own.all().map(it => new Option(label(it), `own ${it.id}`));
     const titled = it => it.title ? `${it.name}: ${it.title}` : it.name;
     const lessons = [...this.examples.values()].map(it => new Option(titled(it), it.name));
     const groups = [['Your own', own], ['Lessons', lessons]].filter(it => it[1].length);
-    const now = new Option(this.id === null ? this.name : `${this.name} (your own)`, '');
+    const now = new Option(this.isOwn ? `${this.name} (your own)` : this.name, '');
     byId('examples').replaceChildren(now, ...groups.map(([label, inner]) => make('optgroup', { label }, ...inner)));
     byId('examples').value = this.chosen;
   }
 
+  /** One's own scripts in a list, where they can be named, opened, saved and deleted. */
+  manage() {
+    const had = this.own.id;
+    this.note('Your own scripts', ownList(this.own, {
+      open: own => {
+        byId('note').close();
+        this.load(own, own.id);
+      },
+      save: own => this.save(own.name, '.vsm', latin(own.script), 'application/octet-stream'),
+      changed: (id, name) => {
+        if (name !== undefined && id === this.own.id) this.name = name;
+        if (had !== null) this.isOwn = this.own.id !== null;
+        this.listScripts();
+        this.keepSoon();
+      },
+    }));
+  }
+
+  /** Deletes the oldest of one's own scripts, so that the one in the editor can be kept. */
+  makeRoom() {
+    this.own.remove(this.own.all().at(-1).id);
+    this.isOwn = true;
+    this.keepNow();
+  }
+
   /** An edit makes a script one's own. */
   edited() {
-    if (this.id === null) {
-      this.id = `${Date.now()} ${Math.random()}`;
-      if (this.chosen) this.name = OWN;
+    if (!this.isOwn) {
+      this.isOwn = true;
+      this.name = this.ownName(this.name);
       this.chosen = '';
       this.listScripts();
     }
@@ -174,21 +223,34 @@ class Bench {
       leads to the script before a newly loaded one. */
   async keepNow(isNew = false) {
     clearTimeout(this.keeping);
-    const { state, id } = this, isKept = id !== null && keep({ ...state, id });
+    const { state } = this, told = this.isOwn ? this.own.write(state) : {};
     this.kept = state;
     const link = faultOfScript(state.script) ? null : await linkOf(state);
     const fits = link !== null && link.length <= MOST_LINK, address = fits ? link : '#';
     // Another edit may have been made while this one was packed.
     if (this.kept !== state) return { link, fits };
-    if (isNew && location.hash.length > 1 && location.hash !== address) history.pushState(null, '', address);
-    else history.replaceState(null, '', address);
-    this.isUnkept = id !== null && !isKept && !fits;
+    // The address of a script that is too long for it has at least its entry and its place.
+    const held = { own: this.own.id, step: state.step };
+    if (isNew && location.hash.length > 1 && location.hash !== address) history.pushState(held, '', address);
+    else history.replaceState(held, '', address);
+    this.isUnkept = this.isOwn && !told.isKept && !fits;
     window.onbeforeunload = this.isUnkept ? event => event.preventDefault() : null;
-    const where = [isKept && 'in this browser', fits && 'in the address'].filter(Boolean).join(' and ');
-    const tail = fits || link === null ? '.' : '; the script is too long for the address.';
-    byId('kept').textContent = (where ? `Kept ${where}` : 'Not kept') + tail;
-    byId('kept').classList.toggle('bad', this.isUnkept);
+    this.sayKept(told, fits, link !== null);
     return { link, fits };
+  }
+
+  /** Says where this window's script is kept. */
+  sayKept({ isKept, isFull, isOther }, fits, isScript) {
+    const where = [isKept && 'in this browser', fits && 'in the address'].filter(Boolean).join(' and ');
+    const more = [
+      isKept && isOther && 'Another window has edited the one that was here: it’s another entry.',
+      isFull && `This browser keeps ${MOST_OWN} scripts of yours.`,
+      !fits && isScript && 'The script is too long for the address.'
+    ];
+    byId('kept').textContent = [`${where ? `Kept ${where}` : 'Not kept'}.`, ...more.filter(Boolean)].join(' ');
+    byId('kept').classList.toggle('bad', this.isUnkept);
+    byId('room').hidden = !isFull;
+    if (isFull) byId('room').textContent = `Delete the oldest, ${this.own.all().at(-1).name}`;
   }
 
   /** What is wrong with the options, a sentence for each. */
@@ -209,20 +271,44 @@ class Bench {
     this.showBeside();
   }
 
+  /** To the statement that a line belongs to; another line is only shown. */
+  goToLine(line) {
+    const step = this.view?.run.stepAt(line);
+    if (step > 0) this.view.go(step);
+    else this.editor.reveal(line);
+  }
+
+  /** The number of the script's lines that are as they were run: all, or those before the first that differs. */
+  sameLines(text) {
+    const ran = this.result.script.replace(/\n$/, ''), most = Math.min(text.length, ran.length);
+    if (text.startsWith(ran) && (text.length === most || text[most] === '\n')) return Infinity;
+    let at = 0;
+    for (let step = 2 ** 16; step; step = Math.floor(step / 2))
+      while (at + step <= most && text.slice(at, at + step) === ran.slice(at, at + step)) at += step;
+    return text.slice(0, at).split('\n').length - 1;
+  }
+
   /** Shows replies, faults and the present statement next to the editor's lines, as far as these are those of the
-      run. */
+      run. A reply is looked up when its line is in sight. */
   showBeside() {
-    const { view } = this, { run } = view ?? {}, byLine = new Map();
-    const lines = this.editor.text.split('\n'), ran = this.result.script.replace(/\n$/, '').split('\n');
-    const other = ran.findIndex((it, k) => it !== lines[k]), isSame = ([, to]) => other < 0 || to <= other;
-    const faults = this.isTeaching ? [] : this.faults.filter(it => isSame([it.line, it.line]));
+    const { view } = this, { run } = view ?? {}, same = this.sameLines(this.editor.text);
+    const faults = this.isTeaching ? [] : this.faults.filter(it => it.line <= same);
     this.listFaults(faults);
-    for (let step = 1; step <= view?.told && isSame(run.linesOf(step)); step++) {
-      const { line, reply } = run.statement(step);
-      byLine.set(line, { reply, kind: kindOf(reply) });
-    }
+    const replyAt = line => {
+      const step = run?.atLine.get(line);
+      if (!(step > 0 && step <= view.told && run.linesOf(step)[1] <= same)) return undefined;
+      const { reply } = run.statement(step);
+      return { reply, kind: kindOf(reply) };
+    };
     const now = view?.step ? run.linesOf(view.step) : [0, 0];
-    this.editor.show(byLine, isSame(now) ? now : [0, 0], faults);
+    this.editor.show(replyAt, now[1] <= same ? now : [0, 0], faults);
+  }
+
+  /** Refuses a text that would make the script too long, before the editor holds it. */
+  refusePaste(text) {
+    const fault = faultOfScript(text);
+    if (fault) this.note('This text can’t be put in', make('p', {}, `With it ${fault}.`));
+    return fault !== null;
   }
 
   /** The view calls this at each step; its own key T also switches the teacher's mode. */
@@ -231,6 +317,7 @@ class Bench {
     if (view.teaching !== this.isTeaching) this.setTeaching(view.teaching);
     this.showBeside();
     this.explain();
+    this.keepSoon();
   }
 
   /** Has the panel explain the present statement, or say why not. */
@@ -252,10 +339,10 @@ class Bench {
   /** Loads the script in the address; whether it has one. */
   async followLink() {
     try {
-      const found = await readLink(location.hash);
-      if (!found) return false;
+      const held = history.state ?? {}, found = await readLink(location.hash);
+      if (!found) return this.followEntry(held);
       const { text, fault } = editorText(found.script);
-      if (!fault) this.load({ ...found, script: text });
+      if (!fault) this.load({ ...found, script: text }, this.entryOf({ ...found, script: text }, held.own));
       else this.note('This link can’t be followed', make('p', {}, `${found.name || OWN}, ${fault}.`));
       return !fault;
     } catch {
@@ -264,6 +351,21 @@ class Bench {
         'place.'));
       return false;
     }
+  }
+
+  /** The id of the entry that has a link's script: the one that the address has had, or another one; null if none has
+      it, or if it's a lesson. */
+  entryOf(found, id = null) {
+    const own = id !== null && this.own.get(id), isSame = own && own.script === found.script;
+    if (isSame) return id;
+    return this.examples.get(found.name)?.script === found.script ? null : this.own.equal(found)?.id ?? null;
+  }
+
+  /** Loads the entry of an address that holds no script; whether there is one. */
+  followEntry({ own: id, step }) {
+    const own = typeof id === 'string' ? this.own.get(id) : null;
+    if (own) this.load({ ...own, step: step ?? Infinity }, id);
+    return own !== null;
   }
 
   run(isNew = false) {
@@ -337,7 +439,8 @@ class Bench {
     if (why) return this.withoutPicture(`There’s no picture of this run: ${why}.`);
     Object.assign(this.result, { mapped: output, bytes });
     const { result } = this, data = { ...this.dataOf(result), text: latinText(output) };
-    const view = await showRun(byId('picture'), data, { teacher: this.isTeaching, moved: it => this.moved(it) });
+    const view = await showRun(byId('picture'), data, { teacher: this.isTeaching, moved: it => this.moved(it),
+      revealed: line => this.editor.reveal(line) });
     if (this.result !== result) return view?.close();
     this.view = view;
     if (!this.isTeaching) view?.go(this.place);
@@ -514,20 +617,20 @@ class Bench {
     }
   }
 
-  save(ending, content, type) {
+  save(name, ending, content, type) {
     const url = URL.createObjectURL(new Blob([content], { type }));
-    make('a', { href: url, download: this.name.replace(/\.vsm$/, '') + ending }).click();
+    make('a', { href: url, download: name.replace(/\.vsm$/, '') + ending }).click();
     setTimeout(() => URL.revokeObjectURL(url), 60_000);
   }
 
   saveScript() {
     const fault = faultOfScript(this.editor.text);
     if (fault) this.note('This script can’t be saved', make('p', {}, `${this.name}, ${fault}.`));
-    else this.save('.vsm', latin(this.editor.text), 'application/octet-stream');
+    else this.save(this.name, '.vsm', latin(this.editor.text), 'application/octet-stream');
   }
 
   saveOutput() {
-    this.save('.out', latin(this.result.output), 'application/octet-stream');
+    this.save(this.name, '.out', latin(this.result.output), 'application/octet-stream');
   }
 
   /** Saves the page that vsm-view would make of this run. */
@@ -539,7 +642,7 @@ class Bench {
     const title = make('title', {}, `${name} · vsm`).outerHTML;
     const data = `id="data">${JSON.stringify(told).replaceAll('<', '\\u003c')}`;
     const page = this.data.page.replace('<title></title>', () => title).replace('id="data">', () => data);
-    this.save('.html', page, 'text/html');
+    this.save(this.name, '.html', page, 'text/html');
   }
 }
 

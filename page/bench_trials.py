@@ -11,9 +11,11 @@ show the same for each example, and to do what docs/BENCH-IN-A-BROWSER.md says.
 from __future__ import annotations
 
 import base64
+import gzip
 import hashlib
 import json
 import os
+import re
 import select
 import shutil
 import subprocess
@@ -38,6 +40,7 @@ from on_page import probed  # noqa: E402
 from trials import Programs, Trials  # noqa: E402
 
 MODULE = TOP / "dist" / "vsm.wasm"
+BUILT = TOP / "crates" / "vsm" / "out" / "vsm"
 SECONDS = 60
 WORKER_SECONDS = 15  # until a busy worker has ended
 ENDLESS_BYTES = 1 << 22  # of an endless row, far more than the program reads of it
@@ -395,6 +398,9 @@ def try_link(page: BenchPage, trials: Trials) -> None:
     page.open(link)
     held = page.js("['script', 'low', 'high', 'residence', 'history'].map(it => document.getElementById(it).value)")
     trials.want("a link brings script and options back", held == [script.decode("latin-1"), "8", "", "31", "7"], held)
+    page.open(link.replace("residence=31", "residence=99"))
+    trials.want("a residence that doesn't exist is refused in words", page.text("errors") == "Residence is 24 or 31.",
+        page.text("errors"))
     packed = zlib.compress(b"\n" * 1_000_000, 9, -zlib.MAX_WBITS)
     page.open("#script=" + base64.urlsafe_b64encode(packed).decode().rstrip("="))
     trials.want("a link's script of a million lines is refused with a message",
@@ -416,36 +422,146 @@ def try_link(page: BenchPage, trials: Trials) -> None:
         page.js("document.getElementById('note').open") and page.text("status") != "", page.text("note"))
 
 
+OWN = """Object.entries(localStorage).filter(([key]) => key.startsWith('nilbozad.own ')).map(([, it]) => JSON.parse(it))
+  .sort((a, b) => b.at - a.at)"""
+SCRIPT = "document.getElementById('script').value"
+
+
+def reload(page: BenchPage) -> None:
+    page.wait("document.getElementById('kept').textContent.startsWith('Kept')")
+    page.js("window.isOld = true")
+    page.browser.call("Page.reload")
+    page.wait("!window.isOld && document.getElementById('status')?.textContent && "
+        "document.getElementById('result').getAttribute('aria-busy') === 'false'")
+
+
+def kept_soon(page: BenchPage, script: str) -> bool:
+    """Whether the newest entry becomes this script."""
+    return page.wait(f"({OWN})[0]?.script === {json.dumps(script)}", 10)
+
+
 def try_keeping(page: BenchPage, trials: Trials) -> None:
     page.open()
     page.put("script", "* kept\n BACK 0\n")
     page.put("high", "96")
     page.wait("document.getElementById('kept').textContent.startsWith('Kept in this browser')")
-    page.wait("JSON.parse(localStorage.getItem('nilbozad.own'))[0].options.high === '96'")
+    page.wait(f"({OWN})[0].options.high === '96'")
     page.open()
     held = page.js("['script', 'high'].map(it => document.getElementById(it).value)")
     trials.want("the browser keeps script and options", held == ["* kept\n BACK 0\n", "96"], held)
     page.put("examples", "overlay.vsm", "change")
     page.ended()
     page.open()
-    trials.want("choosing a lesson loses no script of one's own",
-        page.js("document.getElementById('script').value").startswith("* kept"))
-    other = "{ script: ' BACK 0', id: 'other window' }, ...JSON.parse(localStorage.getItem('nilbozad.own'))"
-    page.js(f"localStorage.setItem('nilbozad.own', JSON.stringify([{other}]))")
-    page.put("script", "* kept\n BACK 0\n* more")
-    page.wait("JSON.parse(localStorage.getItem('nilbozad.own'))[0].script.endsWith('more')")
-    trials.equal("nor does another window",
-        page.js("JSON.parse(localStorage.getItem('nilbozad.own')).map(it => it.script)"),
-        ["* kept\n BACK 0\n* more", " BACK 0"])
+    trials.want("choosing a lesson loses no script of one's own", page.js(SCRIPT).startswith("* kept"))
     page.open("#script="
         + base64.urlsafe_b64encode(zlib.compress(b" MAP  theirs", 9, -zlib.MAX_WBITS)).decode().rstrip("="))
-    trials.equal("a link is followed", page.js("document.getElementById('script').value"), " MAP  theirs")
+    trials.equal("a link is followed", page.js(SCRIPT), " MAP  theirs")
     page.open()
-    trials.want("nor does a link", page.js("document.getElementById('script').value").endswith("more"))
-    page.js("localStorage.setItem('nilbozad.own', '[{\"script\":7}, null]')")
+    trials.want("a link replaces none", page.js(SCRIPT).startswith("* kept"))
+    try_entries(page, trials)
+    try_windows(page, trials)
+    page.forget()
+    for text in ('[{"script":7}, null]', "{", "7"):
+        page.js(f"localStorage.setItem('nilbozad.own', {json.dumps(text)}); "
+            f"localStorage.setItem('nilbozad.own 5', {json.dumps(text)})")
+        page.open()
+        trials.want("if what was kept is no script, the first example is shown",
+            page.js("document.getElementById('examples').value") == "first-steps.vsm")
+    page.forget()
+
+
+def try_entries(page: BenchPage, trials: Trials) -> None:
+    """An edited lesson keeps its entry over reloads; entries have names, and can be deleted and saved."""
+    page.forget()
     page.open()
-    trials.want("if what was kept is no script, the first example is shown",
-        page.js("document.getElementById('examples').value") == "first-steps.vsm")
+    page.put("script", " STORAGE OBTAIN,LENGTH=40,SP=9   my important work\n")
+    page.ended()
+    page.wait(f"({OWN}).length === 1")
+    page.put("examples", "fragmentation.vsm", "change")
+    page.ended()
+    for k in range(12):
+        page.put("script", page.js(SCRIPT) + "*")
+        kept_soon(page, page.js(SCRIPT))
+        reload(page)
+    names = page.js(f"({OWN}).map(it => it.name)")
+    wanted = ["my-fragmentation.vsm", "my-first-steps.vsm"]
+    trials.equal("after 12 reloads, each with an edit, two entries", names, wanted)
+    trials.want("the first is as it was", "important" in page.js(f"({OWN})[1]?.script ?? ''"))
+    page.click("own")
+    rows = "document.querySelectorAll('#note .own li')"
+    named = "it.value = 'leak 3'; it.dispatchEvent(new Event('change'));"
+    page.js(f"(it => {{ {named} }})({rows}[0].querySelector('input'))")
+    trials.equal("a name can be given", page.js(f"({OWN})[0].name"), "leak 3")
+    page.js(f"{rows}[1].querySelector('button:last-of-type').click()")
+    trials.equal("an entry can be deleted", page.js(f"({OWN}).map(it => it.name)"), ["leak 3"])
+    page.js(f"{rows}[1].querySelector('button:last-of-type').click()")
+    trials.equal("and had back", len(page.js(OWN)), 2)
+    page.js("document.getElementById('note').close()")
+    page.forget()
+    page.js("""Array.from({ length: 30 }, (_, k) => localStorage.setItem(`nilbozad.own ${k}`, JSON.stringify(
+        { script: ` MAP ${k}`, name: `n${k}`, at: 1000 + k })))""")
+    page.put("examples", "overlay.vsm", "change")
+    page.ended()
+    page.put("script", " MAP  one too many")
+    said = page.wait("!document.getElementById('room').hidden", 10) and page.text("kept") + page.text("room")
+    trials.want("the thirty-first isn't kept without a word", "30 scripts" in str(said) and "n0" in str(said), said)
+    trials.equal("and drops none", len(page.js(OWN)), 30)
+    page.click("room")
+    page.wait(f"({OWN})[0].script === ' MAP  one too many'", 10)
+    trials.want("the oldest is deleted on request",
+        page.js(f"({OWN}).length === 30 && !({OWN}).some(it => it.name === 'n0')"))
+
+
+def in_front(page: BenchPage, session: str) -> None:
+    page.browser.session = session
+    page.browser.call("Page.bringToFront")
+
+
+def try_windows(page: BenchPage, trials: Trials) -> None:
+    """Two windows with the same script: each keeps its own edits, and says so truly."""
+    page.forget()
+    page.open()
+    page.put("script", " MAP  begun\n")
+    kept_soon(page, " MAP  begun\n")
+    page.open()
+    first = page.browser.session or ""
+    target = page.browser.call("Target.createTarget", url=page.address)["targetId"]
+    second = page.browser.call("Target.attachToTarget", targetId=target, flatten=True)["sessionId"]
+    in_front(page, second)
+    page.wait("document.getElementById('status')?.textContent")
+    in_front(page, first)
+    long = "* 3,000 lines\n" * 3000
+    page.put("script", long)
+    kept_soon(page, long)
+    in_front(page, second)
+    page.put("script", " MAP  one line\n")
+    kept_soon(page, " MAP  one line\n")
+    said = page.text("kept")
+    in_front(page, first)
+    trials.equal("two windows keep two scripts", page.js(f"({OWN}).map(it => it.script)"), [" MAP  one line\n", long])
+    trials.want("the second says that it's another entry", "Another window" in said, said)
+    trials.want("the first still says truly that it's kept", page.text("kept").startswith("Kept in this browser"))
+    reload(page)
+    trials.equal("and has its own after a reload", page.js(SCRIPT), long)
+    page.browser.call("Target.closeTarget", targetId=target)
+
+
+def try_paste(page: BenchPage, trials: Trials) -> None:
+    """A paste that is too long is refused before the editor holds it."""
+    before = page.js(SCRIPT)
+    for lines, is_refused in ((100_000, True), (1000, False)):
+        page.js(f"""(it => {{
+            it.focus();
+            const data = new DataTransfer();
+            data.setData('text/plain', '* a pasted line\\n'.repeat({lines}));
+            window.isPrevented = !it.dispatchEvent(new ClipboardEvent('paste',
+                {{ clipboardData: data, bubbles: true, cancelable: true }}));
+        }})(document.getElementById('script'))""")
+        said = page.js("document.getElementById('note').open") and page.text("note-text")
+        trials.equal(f"a paste of {lines} lines is refused", page.js("window.isPrevented"), is_refused)
+        trials.want("and said so", bool(said) == is_refused and (not is_refused or "lines" in said), said)
+        trials.want("the script stays", page.js(SCRIPT) == before)
+        page.js("document.getElementById('note').close()")
 
 
 def try_limits(page: BenchPage, trials: Trials) -> None:
@@ -457,6 +573,7 @@ def try_limits(page: BenchPage, trials: Trials) -> None:
     trials.want("Copy link says it too",
         page.wait("document.getElementById('note').open", 10) and "too long" in page.text("note"), page.text("note"))
     page.js("document.getElementById('note').close()")
+    try_paste(page, trials)
     page.put("script", " BACK 0\n* 12 €\n")
     page.click("run")
     trials.want("a character that isn't a byte is refused with its place", "line 2, column 6" in page.text("errors"),
@@ -467,6 +584,12 @@ def try_limits(page: BenchPage, trials: Trials) -> None:
     trials.want("and nothing of that stays", page.output() == b"0000001 KEPT=0\n" and not page.text("errors"))
 
 
+# The width of a column of the editor.
+WIDE = """(() => {
+  const context = document.createElement('canvas').getContext('2d');
+  context.font = getComputedStyle(document.getElementById('script')).font;
+  return context.measureText('0'.repeat(100)).width / 100;
+})()"""
 OPENED = {"crlf.vsm": b" MAP\r\n BACK 0\r\n", "high.vsm": b"* \xe4\x80\n BACK 0", "low.vsm": b"*! --low 32\n MAP\n"}
 REFUSED = {"return.vsm": (b" MAP\n BACK\r 0\n", "line 2, column 6"), "last.vsm": (b" MAP\r", "line 1, column 5"),
     "many.vsm": (b"\n" * 1_000_000, "1,000,000 lines")}
@@ -504,6 +627,18 @@ def shown_step(page: BenchPage) -> str:
     return page.js("document.querySelector('.where').textContent")
 
 
+def try_column_72(page: BenchPage, trials: Trials) -> None:
+    """All 72 columns of a script that is longer than its field are in sight, next to the scroll bar."""
+    text = page.js(SCRIPT)
+    for width in (1280, 1440):
+        page.browser.size(width, 720)
+        page.put("script", text + "*\n" * 100)
+        wide, columns = page.js("document.getElementById('script').clientWidth"), page.js(WIDE)
+        trials.want(f"{width} wide: 72 columns are in sight", wide >= 8 + 72 * columns, (wide, columns))
+    page.browser.size(1440, 900)
+    page.put("script", text)
+
+
 def try_beside(page: BenchPage, trials: Trials) -> None:
     """Replies and the present statement next to the editor; the place after a run; what an edit makes old."""
     page.put("examples", "overlay.vsm", "change")
@@ -515,8 +650,7 @@ def try_beside(page: BenchPage, trials: Trials) -> None:
     wider = "it => it.scrollWidth > it.clientWidth"
     cut = page.js(f"[...document.querySelectorAll('#replies > div')].filter({wider}).length")
     trials.equal("replies that are cut", cut, 0)
-    trials.want("72 columns are in sight",
-        page.js("document.getElementById('script').scrollWidth <= document.getElementById('script').clientWidth"))
+    try_column_72(page, trials)
     trials.want("only one script is shown", not page.js("document.querySelector('#picture .script').checkVisibility()"))
     page.js("document.querySelectorAll('#replies > div')[3].click()")
     page.browser.settle()
@@ -533,8 +667,11 @@ def try_beside(page: BenchPage, trials: Trials) -> None:
     trials.want("an edit that is taken back doesn't", "Exit status" in page.text("status"), page.text("status"))
     page.click("run")
     page.ended()
-    trials.want("a run keeps the place",
-        page.wait("document.querySelector('.where')?.textContent.startsWith('4 of 10')", 10), shown_step(page))
+    at_4 = "document.querySelector('.where')?.textContent.startsWith('4 of 10')"
+    trials.want("a run keeps the place", page.wait(at_4, 10), shown_step(page))
+    trials.want("the address has the statement", page.wait("location.hash.includes('statement=4')", 5))
+    reload(page)
+    trials.want("so a reload keeps it too", page.wait(at_4, 10), shown_step(page))
     order = page.js("[...document.querySelectorAll('#examples optgroup[label=Lessons] option')].map(it => it.value)")
     trials.equal("the lessons are in their order", order, list(bench.lessons()))
 
@@ -597,6 +734,51 @@ def try_saving(page: BenchPage, folder: Path, trials: Trials) -> None:
         page.js("document.title") == f"{name} · vsm" and not page.browser.messages(), page.browser.messages())
 
 
+def page_data(text: str) -> dict[str, Any]:
+    """The data of a run's page, without what says which program made it."""
+    found = re.search(r'id="data">(.*?)</script>', text, re.DOTALL)
+    data = json.loads(found[1]) if found else {}
+    output = gzip.decompress(base64.b64decode(data.pop("output", "")))
+    return {**{key: it for key, it in data.items() if key != "program"}, "output": output.decode("latin-1")}
+
+
+SAVED = (*(f"{name}.vsm" for name in ("overlay", "continued-lines", "tasks-and-subpools")), "odd.vsm")
+ODD = b"""* \xc3\xa4 \xff \x07
+P STORAGE OBTAIN,LENGTH=64,SP=1,ADDR=P      remark </script>
+ POKE P,X'C1'
+ POKE (1),X'C2C3'
+ BACK 1
+ POKE X'6010',                                                         X
+               X'01020304'
+ WRONG
+ STORAGE OBTAIN,""" + b" " * 55 + b"X\n"
+
+
+def try_same_page(page: BenchPage, folder: Path, program: str, trials: Trials) -> None:
+    """The page that the bench saves has the data of the page that vsm-view makes of the same script."""
+    (folder / "odd.vsm").write_bytes(ODD)
+    for name in SAVED:
+        script = folder / name if name == "odd.vsm" else TOP / "examples" / name
+        if name == "odd.vsm":
+            page.put("script", ODD.decode("latin-1"))
+            page.js("document.getElementById('run').click()")
+        else:
+            page.put("examples", name, "change")
+        page.ended()
+        page.wait("document.querySelector('#picture .said strong')", 20)
+        page.js("""window.saved = null; URL.createObjectURL = (real => blob => {
+            blob.text().then(it => window.saved ??= it); return real.call(URL, blob); })(URL.createObjectURL)""")
+        page.click("save-page")
+        page.wait("window.saved", 20)
+        words = [sys.executable, str(TOP / "tools" / "vsm-view"), "--vsm", program, str(script)]
+        view = subprocess.run(words, stdin=subprocess.DEVNULL, capture_output=True, timeout=300).stdout.decode()
+        ours, theirs = page_data(page.js("window.saved")), page_data(view)
+        for data in (ours, theirs):
+            data.pop("name", None)
+        trials.want(f"the saved page of {name} has the data of vsm-view's", ours == theirs,
+            [key for key in theirs if ours.get(key) != theirs[key]])
+
+
 def try_lacks(page: BenchPage, trials: Trials) -> None:
     """In a browser that lacks something needed, the page says so."""
     for lack in LACKS:
@@ -646,14 +828,15 @@ def try_no_network(page: BenchPage, trials: Trials) -> None:
     trials.want("and a script that isn't the page's", not page.js("window.isRun"))
 
 
-def try_page(page: BenchPage, node: Node, folder: Path, trials: Trials) -> None:
+def try_page(page: BenchPage, node: Node, folder: Path, program: str, trials: Trials) -> None:
     parts: list[Callable[[], None]] = [
         lambda: try_opening(page, trials), lambda: try_foot(page, node, trials), lambda: try_looks(page, trials),
         lambda: try_each_example(page, trials), lambda: try_odd_scripts(page, node, trials),
         lambda: try_command_line(page, node, trials), lambda: try_keys(page, trials), lambda: try_stop(page, trials),
         lambda: try_link(page, trials), lambda: try_keeping(page, trials), lambda: try_limits(page, trials),
         lambda: try_files(page, folder, trials), lambda: try_beside(page, trials), lambda: try_teacher(page, trials),
-        lambda: try_saving(page, folder, trials), lambda: try_lacks(page, trials),
+        lambda: try_saving(page, folder, trials), lambda: try_same_page(page, folder, program, trials),
+        lambda: try_lacks(page, trials),
         lambda: try_no_network(page, trials)]
     run_all(parts, trials)
 
@@ -675,7 +858,7 @@ def try_made(module: Path, program: str, trials: Trials) -> None:
         trials.equal(f"the module is {what}", said[sum_of], hashlib.sha256(file.read_bytes()).hexdigest())
 
 
-def try_module(module: Path, browser: Browser, trials: Trials) -> None:
+def try_module(module: Path, program: str, browser: Browser, trials: Trials) -> None:
     """All trials of one module and of the bench with it."""
     with tempfile.TemporaryDirectory(prefix="bench-trials-") as name:
         path, explain = Path(name) / "bench.html", module.with_name("vsm-explain.wasm")
@@ -686,7 +869,7 @@ def try_module(module: Path, browser: Browser, trials: Trials) -> None:
             try_rows(node, trials)
             try_examples(node, trials)
             trials.subject = path.name
-            try_page(BenchPage(browser, path), node, Path(name), trials)
+            try_page(BenchPage(browser, path), node, Path(name), program, trials)
         finally:
             node.close()
 
@@ -699,7 +882,7 @@ def try_all(trials: Trials, browser: Browser, programs: Programs) -> None:
         return
     try_made(MODULE, programs.vsm, trials)
     try:
-        try_module(MODULE, browser, trials)
+        try_module(MODULE, programs.vsm, browser, trials)
     except BuildFault as fault:
         trials.want("the page can be built", False, fault)
 
@@ -720,7 +903,7 @@ def main(words: list[str]) -> int:
         print(__doc__.split("\n")[2], file=sys.stderr)
         return 16
     module, trials = Path(words[0]) if words else MODULE, Trials()
-    return ended(trials, lambda browser: try_module(module, browser, trials))
+    return ended(trials, lambda browser: try_module(module, str(BUILT), browser, trials))
 
 
 if __name__ == "__main__":

@@ -190,7 +190,12 @@ class Browser:
         self.settle()
 
     def picture(self, path: Path) -> None:
-        path.write_bytes(base64.b64decode(self.call("Page.captureScreenshot", format="png")["data"]))
+        path.write_bytes(self.png())
+
+    def png(self, clip: Optional[dict[str, float]] = None) -> bytes:
+        """A picture of the window, or of a box in it: x, y, width, height."""
+        more = {"clip": {**clip, "scale": 1}} if clip else {}
+        return base64.b64decode(self.call("Page.captureScreenshot", format="png", **more)["data"])
 
     def messages(self) -> list[str]:
         """What was written to the console or thrown since the page was opened."""

@@ -13,7 +13,7 @@ export function make(name, values = {}, ...inner) {
     else if (value !== null && value !== undefined && value !== false)
       it.setAttribute(key, value === true ? '' : value);
   }
-  it.append(...inner.filter(part => part !== null && part !== undefined));
+  it.append(...inner.filter(part => part !== null && part !== undefined && part !== ''));
   return it;
 }
 
@@ -30,9 +30,11 @@ export function put(element, nodes) {
 export const panel = (name, ...inner) =>
   make('section', {class: 'panel', 'aria-label': name}, make('h2', {}, name), ...inner);
 
-const COLOURS = 8;
-/** The colour of a subpool's number: by its rank among all numbers of the run. */
-export const colourOf = (run, number) => `--c:var(--c${Math.max(0, run.numbers.indexOf(number)) % COLOURS})`;
+/** The attribute of a place that links of the page lead to, by its name. */
+export const placeOf = name => ({ 'data-at': name });
+
+/** The colour of a subpool's number, as a style. */
+export const colourOf = (run, number) => `--c:var(--c${run.colourOf(number)})`;
 
 /** A subpool by colour, number and owner; the owner is omitted next to its own name. */
 export function tag(run, subpool, { shared = false, own = false } = {}) {

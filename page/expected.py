@@ -19,8 +19,26 @@ from vsmtools.maps import PAGE, CellPool, Map, parse_map
 
 UNIT = 8
 MARKED = 24  # the least units of a cell that a line separates from the next
+MARKED_AREA = 8  # and of an area that a line is before
 GRANTED = re.compile(r"RC=0 A=([0-9A-F]{8}) L=([0-9A-F]{8})")
+HIDDEN = re.compile("[\\0-\\x1f\\x7f-\\x9f\\u200b-\\u200f\\u2028-\\u202e\\u2060-\\u2069\\ufeff]")
 DATA = re.compile(r'<script type="application/json" id="data">(.*?)</script>', re.DOTALL)
+
+
+def decoded(text: str) -> str:
+    """Characters that are bytes as letters, if they are UTF-8."""
+    try:
+        return text.encode("latin-1").decode("utf-8")
+    except UnicodeDecodeError:
+        return text
+
+
+def shown_line(line: str) -> str:
+    """A line of a script as a page shows it: UTF-8 as letters, column 72 in its place, a sign for control bytes."""
+    front, rest = decoded(line[:71]), line[71:]
+    is_cut = front == line[:71] and re.search(r"[\x80-\xff]", front)
+    text = decoded(line) if is_cut or not rest else front.ljust(71) + decoded(rest)
+    return HIDDEN.sub("\ufffd", text)
 
 
 @dataclass
@@ -109,8 +127,8 @@ def owners(stand: list[Answer], state: Map) -> dict[int, int]:
     return painted
 
 
-def area_edges(state: Map, painted: dict[int, int]) -> dict[int, set[float]]:
-    """By page, the doublewords that a line precedes: where two areas touch."""
+def area_edges(state: Map, painted: dict[int, int], scale: int) -> dict[int, set[float]]:
+    """By page, the doublewords that a line precedes: where two areas touch, and the second is wide enough."""
     edges: dict[int, set[float]] = {}
     for subpool in state.subpools:
         free = {unit for area in subpool.free for unit in range(area.start // UNIT, area.end // UNIT)}
@@ -118,9 +136,23 @@ def area_edges(state: Map, painted: dict[int, int]) -> dict[int, set[float]]:
             for page in range(extent.start // PAGE, extent.end // PAGE):
                 units = range(page * PAGE // UNIT, (page + 1) * PAGE // UNIT)
                 whose = [None if unit in free else painted.get(unit, -1) for unit in units]
-                pairs = enumerate(zip(whose, whose[1:]), 1)
-                edges[page] = {at for at, (one, next_) in pairs if None not in (one, next_) and one != next_}
+                ends = [at for at in range(1, len(whose)) if whose[at] != whose[at - 1]] + [len(whose)]
+                edges[page] = {at for at, end in zip(ends, ends[1:]) if None not in (whose[at - 1], whose[at])
+                               and (end - at) * scale >= MARKED_AREA}
     return edges
+
+
+def totals(page: Page) -> list[tuple[int, int, int]]:
+    """The bytes taken, and the pages below and above the line, of each map."""
+    found = []
+    for answer in page.answers[page.skipped :: 2]:
+        text = "\n".join(answer.rest)
+        pages = re.search(r"^ PAGES LOW (\d+) OF \d+ HIGH (\d+) OF", text, re.MULTILINE)
+        taken = re.search(r"^ BYTES TAKEN (\d+) FREE", text, re.MULTILINE)
+        if not pages or not taken:
+            raise ValueError(f"a map of {page.path} lacks its totals")
+        found.append((int(taken[1]), int(pages[1]), int(pages[2])))
+    return found
 
 
 def cells_of(pool: CellPool) -> list[int]:

@@ -28,7 +28,7 @@ TOP = HERE.parent
 sys.path[:0] = [str(HERE), str(TOP / "tools"), str(TOP / "tests")]
 
 import bench  # noqa: E402
-from bench_trials import ODD_SCRIPTS, PALE, BenchPage, Node, attach, encoded, ended  # noqa: E402
+from bench_trials import ODD_SCRIPTS, PALE, WIDE, BenchPage, Node, attach, encoded, ended  # noqa: E402
 from bench_trials import run_all, try_made, workers  # noqa: E402
 from build import BuildFault  # noqa: E402
 from chromium import Browser  # noqa: E402
@@ -181,6 +181,13 @@ def try_lessons(panel: Panel, trials: Trials) -> None:
     panel.begin()
     for path in sorted((TOP / "examples").glob("*.vsm")):
         try_lesson(panel, path, trials)
+    line = "[...document.querySelectorAll('#areas .to-line')].at(0)"
+    if panel.page.js(f"Boolean({line})"):
+        number = panel.page.js(f"{line}.textContent").split()[1]
+        panel.page.js(f"{line}.click()")
+        panel.page.browser.settle()
+        shown = panel.page.js("document.querySelector('.where').textContent")
+        trials.want("a line of the panel leads there", shown.endswith(f"line {number}"), (shown, number))
     trials.want("nothing is said on the console", not panel.page.browser.messages(), panel.page.browser.messages())
     trials.want("no request leaves the page",
         not [it for it in panel.page.browser.requests() if not it.startswith((panel.page.address, "blob:null/"))],
@@ -215,7 +222,7 @@ def try_questions(panel: Panel, trials: Trials) -> None:
     trials.equal("with no question of one's own it's the statement's", panel.asked(), "00006000 1")
     command = panel.page.text("who-command")
     trials.equal("the command that does the same", command,
-        "head -n 2 script.vsm | vsm-explain who - 00006000 1")
+        "head -n 2 my-first-steps.vsm | vsm-explain who - 00006000 1")
 
 
 def try_sentences(panel: Panel, trials: Trials) -> None:
@@ -273,11 +280,6 @@ MARKS = """[...document.querySelectorAll('#marks > *')].map(it => {
   const [mark, field] = [it, document.getElementById('script')].map(one => one.getBoundingClientRect());
   return [Math.round(mark.left - field.left), Math.round(mark.top - field.top), Math.round(mark.width)];
 })"""
-WIDE = """(() => {
-  const context = document.createElement('canvas').getContext('2d');
-  context.font = getComputedStyle(document.getElementById('script')).font;
-  return context.measureText('0'.repeat(100)).width / 100;
-})()"""
 
 
 def try_marks(panel: Panel, trials: Trials) -> None:

@@ -10,14 +10,17 @@ const KEYS = [
   [['Space'], 'play or stop'],
   [['T'], 'teacher’s mode: answers stay hidden until you ask for them'],
   [['Enter'], 'in the teacher’s mode: show the answer'],
+  [['/'], 'find a text in the script, or go to a line'],
   [['?'], 'this help'],
 ];
 const TEXTS = [
   'Each row of the storage is a page of 4,096 bytes; its colour and number are those of its subpool, and T ' +
     'is the owner. A strong colour is taken, a faint one free, also for cells; thin lines separate areas that ' +
     'touch. A frame surrounds what the statement was granted, and a dot marks what it changed.',
-  'Over the slider are ticks at what was refused (long), answered 4 (low) and a step (high), and curves of the ' +
-    'bytes taken (filled) and of the pages below (line) and above (dashes) the 16 MB line.',
+  'Over the slider are ticks at what was refused (long), answered 4 (low) and a step (high); the storage of the ' +
+    'whole run, a row for each page or some of them, the stronger the more of it is taken; and, on one scale, curves ' +
+    'of the bytes taken (filled), of the pages below (line) and above (dashes) the 16 MB line, and of the largest ' +
+    'free area (dots), with what each reaches. Of many statements a place has the greatest and the least value.',
   'All of it is what vsm printed: a map before and after each statement, and PEEKs of what POKEs store. Only ' +
     'which line obtained an area, and which statements are undone, is derived from the replies.',
 ];
@@ -26,7 +29,7 @@ const TEXTS = [
 const lettersSwitch = view => make(
   'label', {},
   make('input', { type: 'checkbox', checked: true, onchange: event => { view.hasLetters = event.target.checked; } }),
-  ' Keys of one character (T ? [ ]) act'
+  ' Keys of one character (T / ? [ ]) act'
 );
 
 export function helpDialog(view) {
@@ -42,13 +45,27 @@ export function helpDialog(view) {
   );
 }
 
+/** Saves the storage as a picture of a kind, or prints a handout of the statements that a text names. */
+export function savingDialog({ save, print }) {
+  const field = make('input', { 'aria-label': 'Statements', placeholder: '1-3, 8', autocomplete: 'off' });
+  const button = (text, kind) => make('button', { type: 'button', onclick: () => save(kind) }, text);
+  const form = make('form', { method: 'dialog', onsubmit: () => print(field.value) });
+  form.append(make('label', {}, 'Statements ', field), ' ', make('button', {}, 'Print'));
+  return make(
+    'dialog', { 'aria-label': 'Pictures and handouts' }, make('h2', {}, 'Pictures and handouts'),
+    make('p', {}, 'The storage as it’s shown: ', button('SVG', 'svg'), ' ', button('PNG', 'png')),
+    make('p', {}, 'Or statements by their numbers, each with its answer and its storage:'), form,
+    make('form', { method: 'dialog' }, make('button', {}, 'Close'))
+  );
+}
+
 /** Asks whether to show all answers. */
 export function askingDialog(act) {
   return make(
     'dialog', { 'aria-label': 'Show all answers?' }, make('h2', {}, 'Show all answers?'),
     make('p', {}, 'That shows the answers, remarks and comments of the whole script.'),
     make(
-      'form', { method: 'dialog' }, make('button', { autofocus: true }, 'Keep them hidden'), ' ',
+      'form', { method: 'dialog' }, make('button', {}, 'Keep them hidden'), ' ',
       make('button', { class: 'all', onclick: act }, 'Show all')
     )
   );

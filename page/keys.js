@@ -34,6 +34,7 @@ export function keysOf(view) {
     t: () => view.turnTeaching(),
     T: () => view.turnTeaching(),
     '?': () => view.help(),
+    '/': () => view.find(),
   };
   return event => {
     const { target } = event;
@@ -41,7 +42,7 @@ export function keysOf(view) {
       target === document.body || target === document.documentElement || view.container.contains(target);
     // Some keyboards need AltGr for [ and ], and it's reported as Ctrl and Alt too.
     const isPlain = event.getModifierState('AltGraph') || !(event.ctrlKey || event.altKey || event.metaKey);
-    if (!here || !isPlain || view.dialog.open || view.asking.open || isOther(target)) return;
+    if (!here || !isPlain || view.dialog.open || view.asking.open || view.saving.open || isOther(target)) return;
     if (SCROLLING.includes(event.key) && isScrolled(view.container) && target.type !== 'range') return;
     if (event.key.length === 1 && event.key !== ' ' && !view.hasLetters) return;
     if (acts[event.key] && acts[event.key](event) !== false) event.preventDefault();

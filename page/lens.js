@@ -77,7 +77,7 @@ export function lensPart(view) {
       tag(view.run, page.subpool)
     );
     put(list, itemsOf(page));
-    put(element, [head, svg, point, list, ...dumpOf(view.moment, page)]);
+    put(element, [head, svg, point, list, ...dumpOf(view, page)]);
   }
   return { element, draw };
 }

@@ -1,5 +1,6 @@
 // What vsm printed for a script with inserted maps, and the states that these maps show.
 export const PAGE = 4096;
+const COLOURS = 8;
 
 /** Why something can't be shown, as a sentence for the page. */
 export class Sentence extends Error {}
@@ -18,16 +19,22 @@ async function textOf(data) {
 }
 
 /** The places where answers begin (a map's lines begin with a blank, and belong to the answer before them), and what
-    occurs in any map: the numbers of subpools, and the assigned pages, in runs. It's one pass over the text. */
+    occurs in any map: the numbers of subpools, and the assigned pages, in runs; and of each answer with a map the bytes
+    taken, and those of the pages below and above the 16 MB line. It's one pass over the text. */
 function survey(text) {
-  const answers = [], numbers = new Set(), extents = new Set();
+  const answers = [], numbers = new Set(), extents = new Set(), totals = [];
   for (let at = 0; at < text.length; at = text.indexOf('\n', at) + 1 || text.length) {
     if (text.charCodeAt(at) !== 32) answers.push(at);
     else if (text.startsWith('SU', at + 1)) numbers.add(text.slice(at + 9, text.indexOf(' ', at + 9)));
-    else if (text.startsWith('E', at + 2)) extents.add(text.slice(at + 9, at + 26));
+    else if (text.startsWith(' E', at + 1)) extents.add(text.slice(at + 9, at + 26));
+    else if (text.startsWith('PA', at + 1)) {
+      const numberAfter = word => parseInt(text.slice(text.indexOf(word, at) + word.length, at + 120), 10);
+      totals[answers.length - 1] =
+        { taken: numberAfter('TAKEN '), low: numberAfter('LOW ') * PAGE, high: numberAfter('HIGH ') * PAGE };
+    }
   }
   const areas = [...extents].map(it => it.split(' ').map(word => parseInt(word, 16)));
-  return { answers, numbers: [...numbers].map(Number).sort((a, b) => a - b), runs: runsOf(areas) };
+  return { answers, numbers: [...numbers].map(Number).sort((a, b) => a - b), runs: runsOf(areas), totals };
 }
 
 /** Areas as ascending runs of pages, from and to; each page is in exactly one. */
@@ -101,8 +108,10 @@ function parseMap(text, at) {
 /** A run: the answered statements, and the states before and after each that has maps. */
 export class Run {
   constructor(data, text) {
-    const { answers, numbers, runs } = survey(text);
+    const { answers, numbers, runs, totals } = survey(text);
     this.text = text;
+    this.totals = totals;
+    this.largest = []; // by step, the bytes of the largest free area, as far as it's known
     this.name = data.name;
     this.options = data.options;
     this.lines = data.script.split('\n');
@@ -150,9 +159,26 @@ export class Run {
 
   /** The bytes taken at a step, and those of the pages below and above the 16 MB line. */
   totalsAt(step) {
-    const at = this.text.indexOf('\n PAGES ', this.maps[Math.min(step, this.maps.length - 1)]);
-    const words = this.text.slice(at + 2, this.text.indexOf(' FREE ', at)).split(/\s/);
-    return { taken: +words[12], low: +words[2] * PAGE, high: +words[6] * PAGE };
+    return this.totals[this.skipped + 2 * Math.min(step, this.maps.length - 1)];
+  }
+
+  /** The bytes of the largest free area at a step. */
+  largestAt(step) {
+    const { text } = this, from = this.maps[Math.min(step, this.maps.length - 1)];
+    const end = text.indexOf('\n HISTORY ', from);
+    const next = at => (text.indexOf('\n  FREE ', at) + 1 || Infinity) - 1;
+    let at = this.free?.from <= from && from <= this.free.at ? this.free.at : next(from), most = '00000000';
+    for (; at < end; at = next(at + 1)) {
+      const length = text.slice(at + 17, at + 25);
+      if (length > most) most = length;
+    }
+    this.free = { from, at }; // so that many maps without a free area are gone through once
+    return parseInt(most, 16);
+  }
+
+  /** The colour of a subpool's number, from 0: by its rank among all numbers of the run. */
+  colourOf(number) {
+    return Math.max(0, this.numbers.indexOf(number)) % COLOURS;
   }
 
   /** The bytes at a step in all rows of 16 in which a POKE of the run stores: digits by address. */
@@ -164,6 +190,11 @@ export class Run {
       else rows.delete(row);
     }
     return rows;
+  }
+
+  /** By row, the step that last changed its bytes, up to one. */
+  writersAt(step) {
+    return new Map(this.bytes.filter(it => it[0] <= step).map(([at, row]) => [row, at]));
   }
 
   /** The lines of a step's statement: from its first one, while there is a character in column 72. */

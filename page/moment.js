@@ -55,7 +55,7 @@ export function momentOf(run, step, still) {
   return {
     step, state: now.state, pages: now.pages, before: before.state, bytes: now.bytes, bytesBefore: before.bytes,
     changed: new Changes(pastOf(run).grants, now, before), undone: undoneOf(run, now),
-    again: now.again.length, kept: now.kept,
+    again: now.again.length, kept: now.kept, stand: now.stand, areas: pastOf(run).grants.areas,
     granted: step && !still ? grantedAt(run, step, now.state) : null,
   };
 }

@@ -2,12 +2,13 @@
 from __future__ import annotations
 
 import json
+import re
 from collections.abc import Callable
 from pathlib import Path
 from typing import Any
 
 from chromium import Browser
-from expected import GRANTED, PAGE, UNIT, Page, area_edges, bytes_by_kind, cell_edges, history, owners
+from expected import GRANTED, PAGE, UNIT, Page, area_edges, bytes_by_kind, cell_edges, history, owners, shown_line
 from trials import Trials
 
 HERE = Path(__file__).resolve().parent
@@ -74,8 +75,9 @@ def try_storage(trials: Trials, page: Page, step: int, drawn: dict[str, Any]) ->
     taken, free = (f"{count} byte{'s' * (count != 1)}" for count in (state.taken, state.free))
     trials.equal(f"step {step}: the totals", drawn["totals"], f"{taken} taken, {free} free")
     stand, _ = history(page.answers_to(step), state.history)
-    edges = area_edges(state, owners(stand, state))
-    trials.equal(f"step {step}: the lines between areas", by_page(strips, "edges"), edges)
+    painted = owners(stand, state)
+    edges = area_edges(state, painted, ROWS)
+    trials.equal(f"step {step}: the lines between areas", by_page(strips, "edges"), area_edges(state, painted, 1))
     cells = {number: cell_edges(state, number, 1) for number in edges}
     trials.equal(f"step {step}: the lines between cells", by_page(strips, "ofcells"), cells)
     trials.want(
@@ -94,7 +96,6 @@ def try_storage(trials: Trials, page: Page, step: int, drawn: dict[str, Any]) ->
         )
         trials.equal(f"step {step}: its lines", places(lens["edges"], WIDE), edges[chosen])
         granted = [answer for answer in stand if GRANTED.fullmatch(answer.text)]
-        painted = owners(stand, state)
         whose = [(at, painted.get(at // UNIT, len(granted))) for at, _ in drawn["by"]]
         wanted_by = [[at, page.line_of(granted[k])] for at, k in whose if k < len(granted)]
         trials.equal(f"step {step}: which lines obtained its parts", drawn["by"], wanted_by)
@@ -159,7 +160,7 @@ def try_cards(trials: Trials, browser: Browser, page: Page) -> None:
     for width, height in WINDOWS:
         browser.size(width, height)
         browser.settle()
-        lines = page.data["script"].split("\n")
+        lines = [shown_line(line.rstrip()) for line in page.data["script"].split("\n")]
         trials.equal(
             f"{width} x {height}: lines that are cut", browser.evaluate(probed(f"script({json.dumps(lines)})")), []
         )
@@ -358,6 +359,74 @@ def try_sizes(trials: Trials, browser: Browser) -> None:
     browser.size(1440, 900)
 
 
+def try_find(trials: Trials, browser: Browser, page: Page) -> None:
+    """The field goes to a line, and to the next one with a text."""
+    lines = page.data["script"].split("\n")
+    firsts = [page.line_of(it) for it in page.shown]
+    if not firsts:
+        return
+    browser.key("Home")
+    browser.evaluate("document.activeElement.blur()")
+    browser.key("/")
+    trials.want("/ leads to the field", browser.evaluate("document.activeElement.matches('.find')"))
+    word = lines[firsts[-1] - 1].split()[-1]
+    found = next(number for number, line in enumerate(lines, 1) if word.lower() in line.lower())
+    for asked, line in ((str(firsts[-1]), firsts[-1]), (word, found)):
+        browser.evaluate(f"""(it => {{ it.value = {json.dumps(asked)}; document.querySelector('button.first').click();
+            return new Promise(requestAnimationFrame).then(() => it.dispatchEvent(new Event('input'))); }})(
+            document.querySelector('.find'))""")
+        focus(browser, ".find")
+        browser.key("Enter")
+        marked = browser.evaluate("document.querySelector('.line.found .number')?.textContent")
+        trials.equal(f"finding {asked} leads to its line", marked, str(line))
+        if line in firsts:
+            trials.equal(f"and to its statement, for {asked}", step_of(browser), firsts.index(line) + 1)
+    browser.evaluate("document.activeElement.blur()")
+
+
+SAVED = """new Promise(done => {
+  const real = URL.createObjectURL;
+  URL.createObjectURL = blob => {
+    URL.createObjectURL = real;
+    blob.arrayBuffer().then(it => done([blob.type, ...new Uint8Array(it).slice(0, 4), new TextDecoder().decode(it)]));
+    return 'data:,';
+  };
+  [...document.querySelectorAll('dialog button')].find(it => it.textContent === 'KIND').click();
+})"""
+
+
+def try_pictures(trials: Trials, browser: Browser, page: Page) -> None:
+    """The storage as a picture, and statements for print."""
+    browser.key("End")
+    state, strips = page.map_at(page.steps), browser.evaluate("document.querySelectorAll('.page svg.strip').length")
+    kind, *_, svg = browser.evaluate(SAVED.replace("KIND", "SVG"))
+    wide = sum(float(it) for it in re.findall(r'<rect x="[^"]*" y="[^"]*" width="([^"]*)" height="14"', svg))
+    lines = svg.count('width="1" height="14"')
+    pages = state.low_assigned + state.high_assigned
+    trials.want("the SVG draws each assigned page",
+        kind == "image/svg+xml" and (strips != pages or svg.count(" T") >= pages), (strips, pages))
+    if pages <= 64 and not state.cell_pools:
+        trials.want("from its begin to its end", abs(wide - lines - 768 * pages) < pages + 1, (wide, pages))
+    kind, *front, _ = browser.evaluate(SAVED.replace("KIND", "PNG"))
+    trials.equal("and so does a PNG", (kind, bytes(front)), ("image/png", b"\x89PNG"))
+    browser.evaluate("""(it => {
+        window.print = () => {};
+        it.querySelector('input[placeholder]').value = '1-3';
+        it.showModal();
+        it.querySelector('form').requestSubmit();
+    })([...document.querySelectorAll('dialog')].at(-1))""")
+    told = browser.evaluate("""[...document.querySelectorAll('.handout section')].map(
+        it => [it.querySelector('p').textContent, it.querySelectorAll('svg').length])""")
+    wanted = [[it.text, 1] for it in page.shown[:3]] or [["", 1]]
+    trials.equal("a handout has statements with their pictures", told, wanted)
+    browser.media("print")
+    seen = browser.evaluate(probed("visible(['.handout', '.stage'])"))
+    trials.equal("printed, it's all there is", seen, [".handout"])
+    browser.evaluate("dispatchEvent(new Event('afterprint'))")
+    browser.media(**STILL)
+    trials.want("and is gone then", browser.evaluate("!document.querySelector('.handout')"))
+
+
 def try_address(trials: Trials, browser: Browser, page: Page, address: str) -> None:
     """`#2` opens at statement 2, and `#teacher` with all answers hidden."""
     browser.open(f"{address}#2", READY)
@@ -392,6 +461,8 @@ def try_page(trials: Trials, browser: Browser, path: Path, keys: bool = True, lo
         try_keys(trials, browser, page)
         try_play_and_help(trials, browser, page)
         try_focus(trials, browser, page)
+        try_find(trials, browser, page)
+        try_pictures(trials, browser, page)
     try_teacher(trials, browser, page)
     if looks:
         try_cards(trials, browser, page)

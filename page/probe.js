@@ -82,12 +82,12 @@ const probe = {
       const { right } = box.getBoundingClientRect();
       for (const line of box.querySelectorAll('.line')) {
         const number = +line.querySelector('.number').textContent;
-        if (line.querySelector('.text').textContent !== lines[number - 1].trimEnd()) bad.add(number);
+        if (line.querySelector('.text').textContent !== lines[number - 1]) bad.add(number);
         if (line.scrollHeight > line.clientHeight + 1) bad.add(number);
         const range = document.createRange();
         range.selectNodeContents(line);
         if ([...range.getClientRects()].some(it => it.right > right + 1)) bad.add(number);
-        const [text, reply] = ['.text', '.reply'].map(it => line.querySelector(`${it} .row:last-child`));
+        const [text, reply] = ['.text', '.reply'].map(it => [...line.querySelectorAll(`${it} .row`)].at(-1));
         if (reply && line.classList.contains('beside')) {
           const ends = [text, reply].map(it => {
             range.selectNodeContents(it);
@@ -159,6 +159,98 @@ const probe = {
       if (seen(it)) judge(it, getComputedStyle(it).borderTopColor, probe.ground(it.parentElement), 3);
     }
     return pale;
+  },
+
+  /** A colour as the screen has it: red, green, blue. */
+  screenColour(colour) {
+    const canvas = document.createElement('canvas').getContext('2d', { willReadFrequently: true });
+    canvas.fillStyle = colour;
+    canvas.fillRect(0, 0, 1, 1);
+    return [...canvas.getImageData(0, 0, 1, 1).data].slice(0, 3);
+  },
+
+  /** The strips in sight in which nothing is framed: their pages, boxes, and the colours of taken and of free. */
+  strips: () => [...document.querySelectorAll('.page svg.strip')]
+    .filter(it => probe.inSight(it) && !it.querySelector('.granted')).map(it => {
+    const { left, top, width, height } = it.getBoundingClientRect();
+    const colours = ['.taken', '.free'].map(kind => probe.screenColour(getComputedStyle(it.querySelector(kind)).fill));
+    const place = [left + scrollX, top + scrollY, width, height];
+    return [+it.closest('.page').dataset.page, place, ...colours];
+  }),
+
+  /** Whether all of an element is in sight: in the window, and in each box that cuts it. */
+  inSight(element) {
+    const { left, top, right, bottom } = element.getBoundingClientRect();
+    let [a, b, c, d] = [0, 0, innerWidth, innerHeight];
+    for (let at = element.parentElement; at; at = at.parentElement) {
+      if (getComputedStyle(at).overflow === 'visible') continue;
+      const box = at.getBoundingClientRect();
+      [a, b, c, d] = [Math.max(a, box.left), Math.max(b, box.top), Math.min(c, box.right), Math.min(d, box.bottom)];
+    }
+    return right > left && bottom > top && left >= a - 1 && top >= b - 1 && right <= c + 1 && bottom <= d + 1;
+  },
+
+  /** What of a step is in sight: the answer, the drawing of the chosen page (null if there is none), a row of it, and
+      what the statement changed, whose text this has too. */
+  sight() {
+    const of = part => {
+      const it = document.querySelector(part);
+      return it && it.checkVisibility() ? probe.inSight(it) : null;
+    };
+    return {
+      answer: of('.said strong'), lens: of('.lens svg'), row: of('.page[aria-pressed=true]'), what: of('.said .what'),
+      text: document.querySelector('.said .what')?.textContent ?? '',
+    };
+  },
+
+  /** What is still taken, by line: texts and bytes. */
+  taken: () => Object.fromEntries([...document.querySelectorAll('.by-line tr')].filter(it => it.querySelector('td'))
+    .map(it => [it.cells[0].textContent, +it.cells[1].textContent.replaceAll(',', '')])),
+
+  /** The curves: what each path reaches, as a share of the drawing's height, and the texts of what they reach. */
+  curves: () => ({
+    most: Object.fromEntries([...document.querySelectorAll('.curves path')].map(it =>
+      [it.getAttribute('class'), 1 - Math.min(...[...it.getAttribute('d').matchAll(/(?:M[\d.]+ |V)([\d.]+)/g)]
+        .map(one => +one[1]))])),
+    texts: Object.fromEntries([...document.querySelectorAll('.reach span')].map(it => [it.className, it.textContent])),
+  }),
+
+  /** The colours of the course's picture at shares of its width, each from the first row to the last; alpha is last. */
+  course(places) {
+    const canvas = document.querySelector('.course canvas'), copy = canvas.cloneNode();
+    const pen = copy.getContext('2d', { willReadFrequently: true });
+    pen.drawImage(canvas, 0, 0);
+    return places.map(it => {
+      const x = Math.min(canvas.width - 1, Math.max(0, Math.round(it * canvas.width)));
+      const { data } = pen.getImageData(x, 0, 1, canvas.height);
+      return Array.from({ length: canvas.height }, (_, k) => [...data.slice(4 * k, 4 * k + 4)]);
+    });
+  },
+
+  /** The colours of the subpools, by number, as the rows have them. */
+  palette: () => [0, 1, 2, 3, 4, 5, 6, 7].map(k => {
+    const it = document.querySelector('.run').appendChild(document.createElement('i'));
+    it.style.color = `var(--c${k})`;
+    const found = probe.screenColour(getComputedStyle(it).color);
+    it.remove();
+    return found;
+  }),
+
+  /** The lines of the script: number, rows of the text, its mark in column 72 and where that ends, and its reply. */
+  async column() {
+    const box = document.querySelector('.script'), found = new Map();
+    for (let at = 0; ; at += box.clientHeight) {
+      box.scrollTop = at;
+      box.dispatchEvent(new Event('scroll'));
+      for (const line of box.querySelectorAll('.line')) {
+        const mark = line.querySelector('.mark'), rows = [...line.querySelectorAll('.text .row')];
+        found.set(+line.querySelector('.number').textContent, [
+          rows.map(it => it.textContent), mark?.textContent ?? '', mark?.getBoundingClientRect().right ?? 0,
+          line.querySelector('.reply').textContent, rows.findIndex(it => it.classList.contains('remarks')),
+        ]);
+      }
+      if (at + box.clientHeight >= box.scrollHeight) return [...found].sort((a, b) => a[0] - b[0]);
+    }
   },
 
   /** In forced colours: how the parts of a page are filled, and whether chosen things are framed. */

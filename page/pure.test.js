@@ -4,12 +4,16 @@ import assert from 'node:assert';
 import test from 'node:test';
 import { placesIn, shell, whoAsked } from './explain-questions.js';
 import { meaningOf } from './meanings.js';
+import { bucketsOf, CourseRows } from './course.js';
 import { withoutRemarks } from './remarks.js';
 import { runsOf } from './map.js';
 import { momentOf } from './moment.js';
+import { stepsIn } from './picture.js';
 import { Grants, kindOf, standing, stepsOf } from './replies.js';
-import { wrapped } from './script.js';
+import { lineRows, wrapped } from './script.js';
+import { shownLine } from './shown.js';
 import { Pages } from './storage.js';
+import { takenBy } from './taken.js';
 
 const subpool = (extents, free) => ({ number: 1, owner: 1, sharers: [], extents, free });
 const partsAt = (pages, page) => pages.get(page).parts.map(it => [it.from, it.to, it.kind, it.k]);
@@ -143,6 +147,60 @@ test('lines wrap after blanks, and nothing is lost', () => {
   assert.deepEqual(wrapped('* one two three', 8), ['* one ', 'two ', 'three']);
   assert.deepEqual(wrapped('   LONGWORD', 5), ['   LO', 'NGWOR', 'D']);
   assert.deepEqual(wrapped('', 5), ['']);
+});
+
+test('a statement breaks before its remarks, column 72 has no row of its own, and nothing is lost', () => {
+  const line = ' STORAGE OBTAIN,LENGTH=8,SP=1   three areas of 16 bytes'.padEnd(71) + 'X', remarks = 32;
+  assert.deepEqual(lineRows(line, remarks, 72), { rows: [line], more: [], mark: '' });
+  assert.deepEqual(lineRows(line, remarks, 60), { rows: [line.slice(0, 71)], more: [], mark: 'X' });
+  const { rows, more, mark } = lineRows(line, remarks, 40);
+  assert.deepEqual([rows, mark], [[' STORAGE OBTAIN,LENGTH=8,SP=1   '], 'X']);
+  assert.equal(more[0].trimEnd(), 'three areas of 16 bytes');
+  for (let most = 12; most < 80; most++) {
+    const it = lineRows(line, remarks, most);
+    assert.equal([...it.rows, ...it.more, it.mark].join(''), line);
+    assert.ok(it.rows.every(row => row.trimEnd().length <= most - (it.mark && 2)));
+    assert.ok(it.more.every(row => row.trimEnd().length <= most - 4));
+  }
+  assert.deepEqual(lineRows(' POKE P,X\'C1C2\'', 0, 12).rows, [' POKE ', 'P,X\'C1C2\'']);
+  const numbered = ' BACK 0'.padEnd(72) + '00000010', comment = `* ${'word '.repeat(15)}`.trimEnd();
+  assert.deepEqual(lineRows(numbered, 0, 60), { rows: [numbered.slice(0, 71)], more: [], mark: ' 00000010' });
+  assert.deepEqual(lineRows(comment, 0, 60, true), { rows: wrapped(comment, 60), more: [], mark: '' });
+});
+
+test('statements to be printed', () => {
+  const told = { '1-3, 8': [1, 2, 3, 8], '9-99 2': [2, 9, 10], '': [], 'x 5-3 -1 1e9': [], '99999999-99999999': [] };
+  for (const [text, steps] of Object.entries(told)) assert.deepEqual(stepsIn(text, 10), steps);
+});
+
+test('a line as it’s shown', () => {
+  const bytes = text => String.fromCharCode(...new TextEncoder().encode(text));
+  assert.equal(shownLine(bytes('* größer')), '* größer');
+  assert.equal(shownLine('* \xe4\xff'), '* \xe4\xff');
+  assert.equal(shownLine('a\x07\x1bb'), 'a\ufffd\ufffdb');
+  const long = bytes(' MAP  ä').padEnd(71) + 'X';
+  assert.deepEqual([shownLine(long).length, shownLine(long).at(71)], [72, 'X']);
+  assert.equal(shownLine(bytes('* \u202e')), '* \ufffd');
+});
+
+test('what is still taken, by the statement that took it', () => {
+  const state = { subpools: [subpool([[0x6000, 0x2000]], [[0x6010, 8], [0x6040, 0x1fc0]])], pools: [] };
+  const areas = [{ from: 0x6000, length: 0x20 }, { from: 0x6020, length: 0x20 }, null, { from: 0x6000, length: 8 }];
+  assert.deepEqual(takenBy(state, [0, 1, 2, 3], areas).map(it => [it.who, it.bytes, it.areas]),
+    [[1, 32, 1], [0, 16, 2], [3, 8, 1]]);
+  const pools = [{ name: 'CP', extents: [[0x6000, 0x18]] }];
+  assert.deepEqual(takenBy({ ...state, pools }, [0, 1, 2, 3], areas).map(it => [it.who, it.bytes]),
+    [[1, 32], ['CP', 16], [0, 8]]);
+});
+
+test('the course has each area in its rows', () => {
+  const rows = new CourseRows([[6, 8], [0x8000, 0x8000 + 96]]), found = [];
+  assert.deepEqual([rows.size, rows.count], [3 * 4096, 33]);
+  rows.spread([0x8002000, 0x2000], (row, bytes) => found.push([row, bytes]));
+  rows.spread([0x6000, 0x1000], (row, bytes) => found.push([row, bytes]));
+  assert.deepEqual(found, [[0, 4096], [1, 4096], [32, 4096]]);
+  assert.deepEqual(rows.addressesOf(32), [0x6000, 0x7fff]);
+  assert.deepEqual(bucketsOf(10, 4), [[0, 3], [3, 6], [6, 9], [9, 11]]);
 });
 
 test('who is asked about the bytes or the area of a statement, or about all changes', () => {

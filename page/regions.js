@@ -101,6 +101,7 @@ export function regionsPart(view) {
       list.push(rowOf(page));
       next = page + 1;
     }
+    if (!shown.length) return []; // the heading says it
     if (to < most) jump(most - to, 'above these addresses', pagesIn(pages, to, to + 1)[0]);
     else gap(end - next, unassigned);
     return list;

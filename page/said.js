@@ -1,7 +1,11 @@
 // The statement, its reply, and what that means; in the teacher's mode a question in place of a hidden answer.
+import { inSlices } from './course.js';
 import { count, make } from './elements.js';
 import { meaningOf } from './meanings.js';
 import { kindOf } from './replies.js';
+import { shownLine } from './shown.js';
+import { changedLine } from './summary.js';
+import { endOfArea } from './taken.js';
 
 /** A step in one line, for screen readers. */
 export function spoken(view) {
@@ -12,6 +16,7 @@ export function spoken(view) {
   return `Statement ${view.step}. ${statement.split('\n')[0].trim()}. ${answer}`;
 }
 
+const LONG = 80; // characters of an answer that has smaller letters
 const muted = text => make('p', { class: 'muted' }, text);
 
 /** What an answer leaves, or what to do about it: folded until it's first opened. */
@@ -44,11 +49,36 @@ export function saidPart(view) {
       muted(`What does it answer? Enter shows it. The storage is that before the statement${storage}`), ...asked()
     ];
   }
+  const ends = new Map(); // of areas, by the steps that obtained them, as far as they are known
+  let stop = () => {};
+  /** When the area that a statement obtained was released: a link, once it's known. */
+  function endOf(step) {
+    const { granted } = view.moment, { run } = view, place = make('span', { class: 'end' });
+    if (!granted || view.teaching || !/ L=/.test(run.statement(step).reply)) return place;
+    if (!ends.has(step)) {
+      stop = inSlices(endOfArea(run, step, granted), found => {
+        ends.set(step, found);
+        view.draw();
+      });
+      return place;
+    }
+    const end = ends.get(step);
+    if (!end) place.textContent = ' Never released.';
+    else {
+      const { line, reply } = run.statement(end.step), isUndone = kindOf(reply) === 'step';
+      const how = isUndone ? ' Undone by ' : end.isWhole ? ' Released by ' : ' Partly released by ';
+      const link = { type: 'button', class: 'by', onclick: () => view.go(end.step) };
+      place.append(how, make('button', link, `line ${line}`), '.');
+    }
+    return place;
+  }
   function answer(text) {
     const { reply } = view.run.statement(view.step), { meaning, more } = meaningOf(reply, text);
-    return [
-      make('strong', { class: kindOf(reply) }, reply), make('p', {}, meaning), ...more ? [moreOf(view, more)] : []
-    ];
+    const line = changedLine(view);
+    line?.append(endOf(view.step));
+    const look = `${kindOf(reply)}${reply.length > LONG ? ' long' : ''}`;
+    const told = [make('strong', { class: look }, reply), line, make('p', {}, meaning)];
+    return [...told.filter(Boolean), ...more ? [moreOf(view, more)] : []];
   }
   /** If the map's history isn't what the replies add up to, the page doesn't know all of vsm's answers. */
   function warning() {
@@ -60,10 +90,11 @@ export function saidPart(view) {
     )];
   }
   function draw() {
-    const text = view.step ? view.textOfStatement(view.step) : '';
+    stop();
+    const text = view.step ? view.textOfStatement(view.step) : '', shown = text.split('\n').map(shownLine).join('\n');
     if (!view.step) element.replaceChildren(...start());
-    else element.replaceChildren(make('pre', {}, text), ...view.step > view.told ? question() : answer(text));
+    else element.replaceChildren(make('pre', {}, shown), ...view.step > view.told ? question() : answer(text));
     element.append(...warning());
   }
-  return { element, draw };
+  return { element, draw, close: () => stop() };
 }

@@ -1,9 +1,12 @@
-// The script, line by line, with the reply after each statement. Lines are wrapped, so that nothing is cut;
+// The script, line by line, with the reply after each statement's last line. Lines are wrapped, so that nothing is cut;
 // only those in sight are elements.
 import { make } from './elements.js';
+import { withoutRemarks } from './remarks.js';
 import { kindOf } from './replies.js';
+import { shownLine } from './shown.js';
 
 const BEYOND = 8, GAP = 2; // lines beyond those in sight; characters between a statement and its reply
+const COLUMN_72 = 71, INDENT = 4; // the place of column 72; the columns before remarks in a row of their own
 
 /** A text in rows of at most `most` characters, broken after a blank if there is one. */
 export function wrapped(text, most) {
@@ -16,6 +19,24 @@ export function wrapped(text, most) {
     from = end;
   }
   return rows;
+}
+
+/** A line in rows that fit: a statement's operands; its remarks, which begin at a place, or at 0 if it has none; and if
+    the line is too long for one row, what it has from column 72 on, for the right of the first row. In a comment that
+    may be a part of a word: then it isn't apart. */
+export function lineRows(line, remarks, most, isComment = false) {
+  if (line.length <= most) return { rows: [line], more: [], mark: '' };
+  const isApart = !isComment || line[COLUMN_72 - 1] === ' ', text = isApart ? line.slice(0, COLUMN_72) : line;
+  const mark = line.slice(text.length), width = most - (mark && mark.length + 1);
+  const from = remarks && remarks < text.trimEnd().length ? remarks : text.length;
+  const rowsOf = (part, wide) => {
+    const end = part.trimEnd(), rows = wrapped(end, wide);
+    rows.push(rows.pop() + part.slice(end.length)); // blanks at the end take no row
+    return rows;
+  };
+  const isWhole = text.trimEnd().length <= width, more = isWhole ? '' : text.slice(from);
+  const rows = rowsOf(isWhole ? text : text.slice(0, from), width);
+  return { rows, more: more ? rowsOf(more, most - INDENT) : [], mark };
 }
 
 export function scriptPart(view) {
@@ -38,12 +59,26 @@ export function scriptPart(view) {
     const { reply } = run.statement(step);
     return [reply, kindOf(reply)];
   }
+  /** By the last line of each statement, its step. */
+  const endOf = new Map([...run.atLine.values()].map(step => [run.linesOf(step)[1], step]));
+  /** Where a line's remarks begin; 0 if it has none, or is a comment. */
+  function remarksOf(number, text) {
+    const step = run.stepAt(number);
+    if (step === undefined) return 0;
+    const [first, last] = run.linesOf(step), lines = run.lines.slice(first - 1, last);
+    const end = shownLine(withoutRemarks(lines)[number - first]).length;
+    return end + /^ */.exec(text.slice(end))[0].length;
+  }
   /** A line in rows, and its reply in rows; a reply may be next to the line's last row. */
   function rowsOf(number, most) {
-    const [reply] = replyOf(run.atLine.get(number)), text = wrapped(view.textOfLine(number).trimEnd(), most);
-    const replies = reply ? wrapped(reply, most) : [];
-    const isBeside = replies.length === 1 && text.at(-1).length + GAP + reply.length <= most;
-    return { text, replies, isBeside, count: text.length + (isBeside ? 0 : replies.length) };
+    const [reply] = replyOf(endOf.get(number)), line = shownLine(view.textOfLine(number).trimEnd());
+    const isLong = line.length > most, isComment = isLong && run.stepAt(number) === undefined;
+    const text = lineRows(line, isLong && !isComment ? remarksOf(number, line) : 0, most, isComment);
+    const replies = reply ? wrapped(reply, most) : [], count = text.rows.length + text.more.length;
+    const last = (text.more.at(-1) ?? text.rows.at(-1)).trimEnd().length + (text.more.length && INDENT);
+    const taken = count === 1 && text.mark ? most : last;
+    const isBeside = replies.length === 1 && taken + GAP + reply.length <= most;
+    return { ...text, replies, isBeside, count: count + (isBeside ? 0 : replies.length) };
   }
   /** The tops of the lines, in pixels; computed again if the width or the shown answers have changed. */
   function lay() {
@@ -67,14 +102,27 @@ export function scriptPart(view) {
     }
     return low + 1;
   }
+  /** A row of a line; blanks at its end that don't fit aren't shown. */
+  function rowElement(text, most, kind = 'row') {
+    const over = text.length > most ? text.slice(most) : '';
+    return make('span', { class: kind }, text.slice(0, most), over && make('span', { hidden: true }, over));
+  }
+  function textElement(name, { rows, more, mark }) {
+    const { most } = layout, width = most - (mark && mark.length + 1);
+    return make(
+      name, { class: 'text' }, ...rows.map(it => rowElement(it, width)),
+      ...more.map(it => rowElement(it, most - INDENT, 'row remarks')), mark && make('span', { class: 'mark' }, mark)
+    );
+  }
   function lineOf(number, from, to) {
-    const step = run.atLine.get(number), kind = replyOf(step)[1], undone = view.moment.undone.has(step);
-    const { text, replies, isBeside } = rowsOf(number, layout.most), { tops, row } = layout;
+    const step = run.stepAt(number), kind = replyOf(endOf.get(number))[1];
+    const undone = view.moment.undone.has(run.atLine.get(number));
+    const text = rowsOf(number, layout.most), { replies, isBeside } = text, { tops, row } = layout;
     const begins = step > 0;
     const marks = [
       'line', begins && 'begins', number >= from && number <= to && 'now',
       view.step && number > to && 'later', undone && 'undone', run.lines[number - 1][0] === '*' && 'comment',
-      isBeside && 'beside'
+      isBeside && 'beside', number === found && 'found'
     ];
     return make(
       'div', {
@@ -89,7 +137,7 @@ export function scriptPart(view) {
       },
       make('span', { class: 'number' }, String(number)),
       undone ? make('span', { class: 'unseen' }, 'undone:') : null,
-      make(undone ? 'del' : 'span', { class: 'text' }, ...text.map(it => make('span', { class: 'row' }, it))),
+      textElement(undone ? 'del' : 'span', text),
       make('span', { class: `reply ${kind}` }, ...replies.map(it => make('span', { class: 'row' }, it)))
     );
   }
@@ -107,6 +155,13 @@ export function scriptPart(view) {
     if (from) box.setAttribute('aria-activedescendant', id + from);
     else box.removeAttribute('aria-activedescendant');
   }
+  let found = 0; // the line that was looked up
+  function reveal(line) {
+    found = line;
+    lay();
+    box.scrollTop = Math.max(0, layout.tops[line - 1] - box.clientHeight / 3);
+    drawLines();
+  }
   function draw() {
     lay();
     const [from, to] = view.step ? run.linesOf(view.step) : [1, 1];
@@ -116,5 +171,5 @@ export function scriptPart(view) {
       box.scrollTop = Math.max(0, top - box.clientHeight / 3);
     drawLines();
   }
-  return { element: box, draw, resize: drawLines };
+  return { element: box, draw, reveal, resize: drawLines };
 }

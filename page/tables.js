@@ -1,5 +1,5 @@
 // Subpools, names, the history and the totals, as tables.
-import { count, grouped, make, panel, tag } from './elements.js';
+import { count, grouped, make, panel, placeOf, tag } from './elements.js';
 import { PAGE } from './map.js';
 
 export const MOST_SUBPOOLS = 400; // of more, only those of one task are shown
@@ -10,9 +10,18 @@ const sizesOf = subpool =>
   subpool ? [sum(subpool.extents) / PAGE, sum(subpool.extents) - sum(subpool.free), sum(subpool.free)] : [];
 
 function subpoolRow(view, subpool, was, shared) {
-  return make('tr', {}, make('td', { class: 'text' }, tag(view.run, subpool)),
+  const place = placeOf(`subpool ${subpool.number} ${subpool.owner}`);
+  return make('tr', place, make('td', { class: 'text' }, tag(view.run, subpool)),
     ...sizesOf(subpool).map((it, k) => make('td', { class: was[k] === it ? null : 'changed' }, grouped(it))),
     shared ? make('td', { class: 'text sharers' }, subpool.sharers.map(it => `T${it}`).join(' ')) : null);
+}
+
+/** How the free bytes of a subpool are divided, if they are. */
+function freeRow({ free }, columns) {
+  if (free.length < 2) return [];
+  const most = free.reduce((found, [, length]) => Math.max(found, length), 0);
+  const text = `${count(free.length, 'free area')}, the largest ${grouped(most)}`;
+  return [make('tr', { class: 'divided muted' }, make('td', { colspan: columns }, text))];
 }
 
 /** The rows of the subpools: of very many, only those that the shown task sees and those that changed. */
@@ -22,7 +31,8 @@ function subpoolRows(view, shared) {
   const wasOf = it => sizesOf(known.get(`${it.number} ${it.owner}`));
   const isShown = it => state.subpools.length <= MOST_SUBPOOLS || it.owner === number || it.sharers.includes(number) ||
     String(wasOf(it)) !== String(sizesOf(it));
-  return state.subpools.filter(isShown).map(it => subpoolRow(view, it, wasOf(it), shared));
+  return state.subpools.filter(isShown)
+    .map(it => [subpoolRow(view, it, wasOf(it), shared), ...freeRow(it, shared ? 5 : 4)]);
 }
 
 export function subpoolsPart(view) {
@@ -35,7 +45,7 @@ export function subpoolsPart(view) {
       make('tr', {}, ...heads.map((it, k) => make('th', { scope: 'col', class: k % 4 ? null : 'text' }, it)));
     const more = subpools.length - rows.length;
     const others = more ? make('p', { class: 'muted' }, `${count(more, 'subpool')} more: choose their task.`) : null;
-    element.replaceChildren(panel('Subpools', make('table', {}, head, ...rows), others));
+    element.replaceChildren(panel('Subpools', make('table', {}, head, ...rows.flat()), others));
   }
   return { element, draw };
 }
@@ -45,11 +55,11 @@ export function namesPart(view) {
   function draw() {
     const { state, before } = view.moment, was = new Map(before.names);
     const row = ([name, word]) => make(
-      'tr', {}, make('td', { class: 'text' }, name),
+      'tr', placeOf(`name ${name}`), make('td', { class: 'text' }, name),
       make('td', { class: was.get(name) === word ? null : 'changed' }, word)
     );
     element.replaceChildren(
-      ...state.names.length ? [panel('Names', make('table', {}, ...state.names.map(row)))] : []
+      ...state.names.length ? [panel('Names', make('table', placeOf('names'), ...state.names.map(row)))] : []
     );
   }
   return { element, draw };

@@ -1,6 +1,7 @@
 // The tasks as a tree, each with the subpools that it owns and shares, and the registers of one of them.
-import { count, make, panel, tag } from './elements.js';
-import { MOST_SUBPOOLS } from './tables.js';
+import { count, make, panel, placeOf, tag } from './elements.js';
+
+const MOST_TAGS = 12;
 
 /** The subpools that each task owns and shares, by its number. */
 function seenBy({ subpools }) {
@@ -30,14 +31,13 @@ function isChanged({ before }, task, { now, earlier }) {
 /** Tasks that the statement ended, which are no longer in the tree. */
 function endedOf({ state, before }) {
   const ended = before.tasks.filter(was => !state.tasks.some(it => it.number === was.number));
-  return ended.length
-    ? make('p', { class: 'ended changed' }, `• ${ended.map(it => `task ${it.number}`).join(', ')} ended`)
-    : null;
+  const text = `• ${ended.map(it => `task ${it.number}`).join(', ')} ended`;
+  return ended.length ? make('p', { class: 'ended changed', ...placeOf('ended') }, text) : null;
 }
 
-/** The subpools of a task; of very many only their number, except for the shown task. */
-function tagsOf(view, task, { owned, shared }) {
-  if (view.moment.state.subpools.length > MOST_SUBPOOLS && task.number !== view.task.number)
+/** The subpools of a task; of many only their number, which the table below has. */
+function tagsOf(view, { owned, shared }) {
+  if (owned.length + shared.length > MOST_TAGS)
     return [make('span', { class: 'muted' }, `${count(owned.length, 'subpool')}, ${shared.length} shared`)];
   return [...owned.map(it => tag(view.run, it, { own: true })),
     ...shared.map(it => tag(view.run, it, { shared: true }))];
@@ -46,7 +46,10 @@ function tagsOf(view, task, { owned, shared }) {
 function taskOf(view, task, seen) {
   const changed = isChanged(view.moment, task, seen);
   return make(
-    'div', { class: ['task', task.current && 'current', changed && 'changed'].filter(Boolean).join(' ') },
+    'div', {
+      class: ['task', task.current && 'current', changed && 'changed'].filter(Boolean).join(' '),
+      ...placeOf(`task ${task.number}`)
+    },
     changed ? make('span', { class: 'requests' }, '•') : null,
     make(
       'button', {
@@ -59,16 +62,28 @@ function taskOf(view, task, seen) {
       `Task ${task.number}`
     ),
     task.current ? make('span', { class: 'requests' }, 'makes the requests') : null,
-    ...tagsOf(view, task, seen.now(task.number))
+    ...tagsOf(view, seen.now(task.number))
   );
 }
 
 export function tasksPart(view) {
   const element = make('div', {});
+  let shown = null;
+  /** Scrolls the tree to a task that begins to make the requests, if it's out of sight. */
+  function reveal(tree, was) {
+    const task = tree.querySelector('.current');
+    tree.scrollTop = was;
+    shown = tree;
+    if (!task || tree.scrollHeight <= tree.clientHeight) return;
+    const box = tree.getBoundingClientRect(), { top, bottom } = task.getBoundingClientRect();
+    if (top < box.top || bottom > box.bottom) tree.scrollTop += top - box.top - tree.clientHeight / 3;
+  }
   function draw() {
     const seen = { now: seenBy(view.moment.state), earlier: seenBy(view.moment.before) };
     const tree = make('div', { class: 'tree' }, branchOf(view, 0, seen));
+    const top = shown?.scrollTop ?? 0;
     element.replaceChildren(panel('Tasks and their subpools', tree, endedOf(view.moment)));
+    reveal(tree, top);
   }
   const focus = number => element.querySelector(`[data-task="${number}"]`)?.focus();
   return { element, draw, focus };
@@ -79,7 +94,8 @@ export function registersPart(view) {
   function draw() {
     const { task } = view;
     const was = view.moment.before.tasks.find(it => it.number === task.number)?.registers ?? [];
-    const wordOf = (word, number) => make('td', { class: was[number] === word ? null : 'changed' }, word);
+    const wordOf = (word, number) =>
+      make('td', { class: was[number] === word ? null : 'changed', ...placeOf(`R${number}`) }, word);
     const cells = number =>
       [make('th', { scope: 'row' }, `R${number}`), wordOf(task.registers[number], number)];
     const rows = Array.from({ length: 8 }, (_, k) => make('tr', {}, ...cells(k), ...cells(k + 8)));

@@ -1,5 +1,8 @@
 // The head of the page: the run, the present statement, and how to move: ticks, slider and buttons.
-import { grouped, icon, make } from './elements.js';
+import { bucketsOf, coursePart } from './course.js';
+import { count, grouped, icon, make } from './elements.js';
+import { findPart } from './find.js';
+import { PAGE } from './map.js';
 import { kindOf } from './replies.js';
 
 const MOST_TICKS = 600, MOST_POINTS = 600;
@@ -40,28 +43,61 @@ function ticksOf(run, told) {
   return svg;
 }
 
-/** Curves over the slider, as far as answers are shown: bytes taken (filled), and the bytes of pages below and above
-    the 16 MB line. */
+const HEIGHT = .94; // of the curves' greatest value, as a share of the drawing
+
+/** A line in steps, each half a step before and after its statement: the greatest value of each bucket, and if they
+    differ a spike to the least. */
+function stepped(buckets, steps, whole) {
+  const heightOf = value => +(1 - HEIGHT * value / whole).toFixed(5);
+  return buckets.map(({ from, to, most, least }, k) => {
+    const [begin, end] = [from, to].map(it => Math.max(0, Math.min(steps, it - .5))), mid = (begin + end) / 2;
+    const spike = most === least ? '' : `H${mid}V${heightOf(least)}V${heightOf(most)}`;
+    return `${k ? `V${heightOf(most)}` : `M${begin} ${heightOf(most)}`}${spike}H${to > steps ? steps : end}`;
+  }).join('');
+}
+
+/** Of each bucket of the steps up to one, the greatest and the least value. */
+function extremes(told, valueAt) {
+  return bucketsOf(told, MOST_POINTS).map(([from, to]) => {
+    let most = -Infinity, least = Infinity;
+    for (let step = from; step < to; step++) {
+      const value = valueAt(step);
+      most = Math.max(most, value);
+      least = Math.min(least, value);
+    }
+    return { from, to, most, least };
+  });
+}
+
+const CURVES = ['taken', 'low', 'high', 'largest'];
+
+/** Curves over the slider, as far as answers are shown, all on one scale, in bytes: those taken (filled), those of the
+    pages below and above the 16 MB line, and, once it's known, the largest free area; and what each reaches. */
 function curvesOf(run, told) {
   const svg = make('svg', {
     class: 'ticks curves', preserveAspectRatio: 'none', viewBox: `0 0 ${Math.max(1, run.steps)} 1`,
       'aria-hidden': 'true'
   });
-  const each = Math.max(1, Math.ceil(told / MOST_POINTS)), steps = [];
-  for (let step = 0; step < told; step += each) steps.push(step);
-  const points = [...steps, told].map(it => [it, run.totalsAt(it)]);
-  const most = kinds => Math.max(1, ...points.flatMap(([, it]) => kinds.map(kind => it[kind])));
-  const ofBytes = most(['taken']), ofPages = most(['low', 'high']);
-  const line = kind => {
-    const whole = kind === 'taken' ? ofBytes : ofPages;
-    return points.map(([step, it], k) => `${k ? 'L' : 'M'}${step} ${1 - .94 * it[kind] / whole}`).join('');
-  };
-  svg.append(
-    make('title', {}, 'Bytes taken (filled); pages below the 16 MB line (line) and above it (dashes)'),
-    make('path', { class: 'taken', d: `${line('taken')}V1H0Z` }), make('path', { class: 'low', d: line('low') }),
-    make('path', { class: 'high', d: line('high') })
-  );
-  return svg;
+  const kinds = CURVES.slice(0, run.largest.length > run.steps ? 4 : 3);
+  const curves = new Map(kinds.map(kind =>
+    [kind, extremes(told, step => kind === 'largest' ? run.largest[step] : run.totalsAt(step)[kind])]));
+  const reached = Object.fromEntries(kinds.map(kind => [kind, Math.max(...curves.get(kind).map(it => it.most))]));
+  const whole = Math.max(1, ...Object.values(reached));
+  for (const kind of kinds) {
+    const line = stepped(curves.get(kind), run.steps, whole);
+    svg.append(make('path', { class: kind, d: kind === 'taken' ? `${line}V1H0Z` : line }));
+  }
+  return { svg, reached };
+}
+
+/** What the curves reach, which is also their legend. */
+function reachOf({ taken, low, high, largest }) {
+  const told = [['taken', `${count(taken, 'byte')} taken`], ['low', `${count(low / PAGE, 'page')} below`]];
+  if (high) told.push(['high', `${count(high / PAGE, 'page')} above`]);
+  if (largest !== undefined) told.push(['largest', `${grouped(largest)} free in one`]);
+  const title = 'The most that each curve reaches: bytes taken (filled), pages below (line) and above the 16 MB line ' +
+    '(dashes), bytes of the largest free area (dots)';
+  return make('div', { class: 'reach', title }, ...told.map(([kind, text]) => make('span', { class: kind }, text)));
 }
 
 const button = (name, label, act, inner = icon(ICONS[name], name === 'play')) =>
@@ -91,6 +127,8 @@ export function transportPart(view) {
     'Teacher’s mode'
   );
   let ticks = make('svg', { class: 'ticks' }), curves = make('svg', { class: 'ticks curves' });
+  let reach = make('div', { class: 'reach' });
+  const course = coursePart(view, drawCurves), find = findPart(view);
   const element = make(
     'header', {},
     make(
@@ -102,10 +140,18 @@ export function transportPart(view) {
         button('on', 'One statement on (right arrow)', () => view.go(view.step + 1)),
         button('last', 'To the end (End)', () => view.go(run.steps))
       ),
-      teacher, button('help', 'Help (?)', view.help, '?')
+      find.element, teacher, button('save', 'Pictures and handouts', () => view.saving.showModal(), 'Save…'),
+      button('help', 'Help (?)', view.help, '?')
     ),
-    make('div', { class: 'time' }, curves, ticks, slider)
+    make('div', { class: 'time' }, reach, curves, course.element, ticks, slider)
   );
+
+  function drawCurves() {
+    const { svg, reached } = curvesOf(run, view.told), told = reachOf(reached);
+    curves.replaceWith(svg);
+    reach.replaceWith(told);
+    [curves, reach] = [svg, told];
+  }
 
   function draw() {
     const statement = view.step && run.statement(view.step), told = view.told;
@@ -121,14 +167,13 @@ export function transportPart(view) {
     play.setAttribute('aria-pressed', String(view.playing));
     play.replaceChildren(icon(view.playing ? ICONS.stop : ICONS.play, true));
     teacher.setAttribute('aria-checked', String(view.teaching));
+    course.draw();
     if (ticks.dataset.told === String(told)) return;
     const fresh = ticksOf(run, told);
     fresh.dataset.told = told;
     ticks.replaceWith(fresh);
     ticks = fresh;
-    const others = curvesOf(run, told);
-    curves.replaceWith(others);
-    curves = others;
+    drawCurves();
   }
-  return { element, draw };
+  return { element, draw, close: course.close, find: find.focus };
 }

@@ -1,15 +1,17 @@
 // A run, statement by statement. Other pages need only showRun.
 import { make } from './elements.js';
-import { askingDialog, helpDialog } from './help.js';
+import { askingDialog, helpDialog, savingDialog } from './help.js';
 import { keysOf } from './keys.js';
 import { lensPart } from './lens.js';
 import { PAGE, Run, Sentence } from './map.js';
 import { momentOf } from './moment.js';
+import { handoutOf, savePicture, stepsIn } from './picture.js';
 import { poolsPart } from './pools.js';
 import { legend, regionsPart } from './regions.js';
 import { saidPart, spoken } from './said.js';
 import { scriptPart } from './script.js';
 import { namesPart, subpoolsPart, totalsPart } from './tables.js';
+import { takenPart } from './taken.js';
 import { registersPart, tasksPart } from './tasks.js';
 import { withoutRemarks } from './remarks.js';
 import { transportPart } from './transport.js';
@@ -48,6 +50,7 @@ class View {
     for (const act of ['play', 'ask', 'help']) this[act] = this[act].bind(this);
     this.dialog = helpDialog(this);
     this.asking = askingDialog(() => this.teach());
+    this.saving = savingDialog({ save: kind => savePicture(this, kind), print: text => this.print(text) });
     this.live = make('div', { class: 'unseen', 'aria-live': 'polite' });
     this.regions = regionsPart(this);
     this.tasks = tasksPart(this);
@@ -59,7 +62,7 @@ class View {
   /** Puts the parts in place: the head, and below it the script, the storage, and the rest. */
   build() {
     const head = transportPart(this), said = saidPart(this), lens = lensPart(this);
-    const tables = [registersPart, subpoolsPart, poolsPart, namesPart, totalsPart].map(it => it(this));
+    const tables = [registersPart, subpoolsPart, takenPart, poolsPart, namesPart, totalsPart].map(it => it(this));
     const side = [this.tasks, ...tables];
     const within = [said.element, legend(), this.regions.element, lens.element];
     const storage = make('div', { class: 'storage' }, ...within);
@@ -69,9 +72,10 @@ class View {
     const columns = make('div', { class: 'columns' }, this.script.element, storage, rest);
     const foot = this.run.program ? make('footer', { class: 'muted' }, this.run.program) : null;
     const stage = make('div', { class: 'stage' }, head.element, columns, foot);
+    this.find = head.find;
     this.parts = [head, this.script, said, this.regions, lens, ...side];
     this.container.classList.add('run');
-    this.container.replaceChildren(stage, this.live, this.dialog, this.asking);
+    this.container.replaceChildren(stage, this.live, this.dialog, this.asking, this.saving);
   }
 
   /** A step's statement as it's shown: without remarks while its answer is hidden. */
@@ -103,6 +107,7 @@ class View {
   close() {
     this.ending.abort();
     this.resizing.disconnect();
+    for (const it of this.parts) it.close?.();
     clearInterval(this.clock);
     clearTimeout(this.noting);
     cancelAnimationFrame(this.drawing);
@@ -113,6 +118,14 @@ class View {
     this.step = Math.max(0, Math.min(this.run.steps, to));
     this.picked = null;
     this.drawing ??= requestAnimationFrame(() => this.draw());
+  }
+
+  /** To a statement, and a page there. */
+  goTo(step, page) {
+    this.go(step);
+    cancelAnimationFrame(this.drawing);
+    this.draw();
+    this.choose(page);
   }
 
   draw() {
@@ -164,6 +177,27 @@ class View {
     this.tasks.focus(task);
   }
 
+  /** To a line of the script, and to its statement if it has one. */
+  toLine(line) {
+    const step = this.run.stepAt(line);
+    if (step > 0) this.go(step);
+    this.script.reveal(line);
+    this.options.revealed?.(line);
+  }
+
+  /** Leads to a place of the page by its name: a register of a task, a name, a subpool, a cell pool, a task. */
+  show(name, task) {
+    if (task !== undefined && task !== this.task.number) {
+      this.picked = task;
+      this.draw();
+    }
+    const place = this.container.querySelector(`[data-at="${CSS.escape(name)}"]`);
+    if (!place) return;
+    place.tabIndex = -1;
+    place.scrollIntoView({ block: 'nearest' });
+    place.focus({ preventScroll: true });
+  }
+
   get playing() {
     return this.clock !== null;
   }
@@ -175,6 +209,20 @@ class View {
       ? null
       : setInterval(() => this.step < this.run.steps ? this.go(this.step + 1) : this.play(), PLAY);
     this.draw();
+  }
+
+  /** Prints statements with their storage, as far as answers are shown. */
+  print(text) {
+    const asked = stepsIn(text, this.told), steps = asked.length ? asked : [Math.min(this.step, this.told)];
+    const handout = handoutOf(this, steps, step => momentOf(this.run, step));
+    document.querySelector('.handout')?.remove();
+    this.container.append(handout);
+    this.container.classList.add('handing');
+    addEventListener('afterprint', () => {
+      handout.remove();
+      this.container.classList.remove('handing');
+    }, { once: true });
+    window.print();
   }
 
   help() {
@@ -231,7 +279,7 @@ class View {
     the first map), perhaps `question` (the lesson's), `bytes` (see Run) and `program` (its identity), and what vsm
     printed for the script with inserted maps: `text`, or `output`, gzip'd and in base64. Options: `address` keeps the
     statement in the page's address; `teacher` begins in the teacher's mode; `moved` is called with the view whenever
-    it's drawn. */
+    it's drawn, and `revealed` with a line that was looked up. */
 export async function showRun(container, data, options = {}) {
   try {
     const lack = lackOf();

@@ -4,11 +4,13 @@ from __future__ import annotations
 import base64
 import gzip
 import hashlib
+import json
 import random
 import re
 import subprocess
 import sys
 import tempfile
+from collections.abc import Callable
 from importlib import machinery, util
 from pathlib import Path
 from types import ModuleType
@@ -16,8 +18,9 @@ from types import ModuleType
 import colours
 from bench import option_words
 from chromium import Browser
-from expected import Page
-from on_page import READY, try_drawings, try_page
+from expected import Page, shown_line
+from on_page import READY, STILL, probed, try_drawings, try_page
+from sight import try_sight
 from trials import Programs, Trials
 from vsmtools.lines import split_lines
 
@@ -51,6 +54,16 @@ AGAIN = b"""\
  CPOOL GET,CPID=CB
  BACK 7
  FORWARD 2
+"""
+# The areas of the lines 1 to 4 end in four ways.
+ENDS = b"""\
+ STORAGE OBTAIN,LENGTH=16,SP=1,ADDR=A
+ STORAGE OBTAIN,LENGTH=16,SP=1
+ STORAGE OBTAIN,LENGTH=16,SP=2,ADDR=D
+ STORAGE OBTAIN,LENGTH=16,SP=1
+ BACK 1
+ STORAGE RELEASE,LENGTH=8,ADDR=D,SP=2
+ STORAGE RELEASE,LENGTH=16,ADDR=A,SP=1
 """
 BY_A_GET = b"""\
  CPOOL BUILD,PCELLCT=1,SCELLCT=1,CSIZE=16,CPID=CP,SP=1
@@ -95,10 +108,83 @@ def try_odd(trials: Trials, browser: Browser, program: str, folder: Path) -> Non
         trials.equal("the title", browser.evaluate("document.title"), f"{name}.vsm · vsm")
         lines = [line.decode("latin-1") for line in split_lines(script)]
         shown = browser.evaluate("[...document.querySelectorAll('.line .text')].map(it => it.textContent)")
-        trials.equal("the script's text", shown[: len(lines)], [line.rstrip() for line in lines])
+        trials.equal("the script's text", shown[: len(lines)], [shown_line(line.rstrip()) for line in lines])
     path = TOP / "examples" / "cell-pools.vsm"
     part = made(program, path, folder / "a part.html", "--first", "8", "--last", "20")
     try_page(trials, browser, part, keys=False, looks=False)
+
+
+def full_pages() -> bytes:
+    """Pages that are wholly taken, by areas from the smallest to a page's."""
+    sizes = ((4096, 1, 2), (8, 512, 1), (16, 256, 3), (32, 128, 4), (64, 64, 5))
+    return b"".join(b" STORAGE OBTAIN,LENGTH=%d,SP=%d\n" % (length, number) * count for length, count, number in sizes)
+
+
+def peak() -> bytes:
+    """A long run with one high and narrow peak, which every third step doesn't meet."""
+    pair = b" STORAGE OBTAIN,LENGTH=8,SP=1,ADDR=P\n STORAGE RELEASE,LENGTH=8,ADDR=P,SP=1\n"
+    high = b" STORAGE OBTAIN,LENGTH=40960,SP=2,ADDR=BIG\n STORAGE RELEASE,LENGTH=40960,ADDR=BIG,SP=2\n"
+    return pair * 302 + high + pair * 300
+
+
+def continued() -> bytes:
+    """Statements over several lines, with remarks, in a script that is higher than any window."""
+    rows = ("STORAGE OBTAIN,", "LENGTH=64,             a remark that is here", "SP=3,", "ADDR=TABLE")
+    lines = [f" {rows[0]}", *(f"{'':15}{it}" for it in rows[1:])]
+    lines = [*(it.ljust(71) + "X" for it in lines[:-1]), lines[-1]]
+    return ("\n".join(lines) + "\n").encode() * 20
+
+
+def deep() -> bytes:
+    """Tasks below tasks, of which the last makes the requests."""
+    return b"".join(b" ATTACH EP=D%d\n RUN %d\n STORAGE OBTAIN,LENGTH=64,SP=1\n" % (k, k) for k in range(2, 40))
+
+
+IN_SIGHT: dict[str, Callable[[], bytes]] = {
+    "full pages": full_pages, "a peak": peak, "continued": continued, "deep": deep
+}
+
+
+def try_in_sight(trials: Trials, browser: Browser, program: str, folder: Path) -> None:
+    """What is in sight of scripts that no lesson is like."""
+    for name, script in IN_SIGHT.items():
+        trials.subject = name
+        path = folder / f"{name}.vsm"
+        path.write_bytes(script())
+        page = made(program, path, folder / f"{name}.html", "--low", "1024", "--history", "65536")
+        browser.media(**STILL)
+        browser.open(page.resolve().as_uri(), READY)
+        browser.settle()
+        try_sight(trials, browser, Page.of(page))
+        trials.equal("no message of the console", browser.messages(), [])
+
+
+def try_taken(trials: Trials, browser: Browser, script: Path, explain: str) -> None:
+    """At the end of a lesson: what is still taken, by line, is what vsm-explain reports; and where it says that an area
+    was released, the map has less of it."""
+    words = [explain, "report", "--areas", "--json", *option_words(script), str(script)]
+    told = subprocess.run(words, stdin=subprocess.DEVNULL, capture_output=True, timeout=MADE_SECONDS).stdout
+    wanted: dict[str, int] = {}
+    for row in map(json.loads, told.splitlines()):
+        if row.get("kind") == "area":
+            name = f"cell pool {row['pool']}" if "pool" in row else f"line {row['line']}"
+            wanted[name] = wanted.get(name, 0) + row["bytes"]
+    browser.evaluate(probed(f"at([{2 ** 20}])"))
+    browser.settle()
+    trials.equal("what is still taken, by line", browser.evaluate(probed("taken()")), wanted)
+
+
+def try_ends(trials: Trials, browser: Browser, page: Path) -> None:
+    """What the card of an obtain says of its end."""
+    ends = ("Released by line 7.", "Never released.", "Partly released by line 6.", "Undone by line 5.")
+    for step, text in enumerate(ends, 1):
+        browser.open(f"{page.resolve().as_uri()}#{step}", READY)
+        end = "document.querySelector('.said .end')?.textContent"
+        for _ in range(100):
+            if browser.evaluate(end):
+                break
+            browser.settle()
+        trials.equal(f"the end of the area of line {step}", browser.evaluate(end), f" {text}")
 
 
 def damaged(text: str) -> dict[str, str]:
@@ -210,13 +296,20 @@ def try_all(trials: Trials, browser: Browser, programs: Programs) -> None:
         folder = Path(name)
         scripts = sorted((TOP / "examples").glob("*.vsm"))
         pages = [made(program, script, folder / f"{script.stem}.html", *option_words(script)) for script in scripts]
-        for page in pages:
+        for page, script in zip(pages, scripts):
             try_page(trials, browser, page)
+            try_taken(trials, browser, script, programs.explain)
+            try_sight(trials, browser, Page.of(page))
+        script = folder / "ends.vsm"
+        script.write_bytes(ENDS)
+        trials.subject = script.name
+        try_ends(trials, browser, made(program, script, folder / "ends.html"))
         made_by, told = hashlib.sha256(Path(program).read_bytes()).hexdigest(), Page.of(pages[0]).data["program"]
         is_proved = subprocess.run([TOP / "prove", "--check", program]).returncode == 0 and "unproved" not in program
         trials.want("the foot says by its sum whether the program is proved",
                     made_by in told and told.startswith("Made by the proved program") == is_proved, told)
         try_odd(trials, browser, program, folder)
+        try_in_sight(trials, browser, program, folder)
         try_damaged(trials, browser, pages[0], folder)
         try_lacks(trials, browser, pages[0])
         try_long(trials, browser, program, folder)

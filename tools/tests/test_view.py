@@ -244,10 +244,11 @@ def test_modules_are_joined_once_and_in_order() -> None:
     assert not re.search(r"^(import|export) ", script, re.MULTILINE)
 
 
-def test_what_needs_no_browser(tmp_path: Path) -> None:
-    """page/pure.test.js in node: replies, meanings, and the parts of pages."""
-    script = tmp_path / "pure.test.mjs"
-    script.write_text(build.joined_script("pure.test.js"), encoding="utf-8")
+@pytest.mark.parametrize("name", sorted(it.name for it in build.HERE.glob("*.test.js")))
+def test_what_needs_no_browser(tmp_path: Path, name: str) -> None:
+    """In node: replies, meanings, the parts of pages, and what keeps one's own scripts."""
+    script = tmp_path / "trials.mjs"
+    script.write_text(build.joined_script(name), encoding="utf-8")
     done = subprocess.run(["node", "--test", str(script)], capture_output=True, text=True, timeout=60)
     assert done.returncode == 0, done.stdout
 
