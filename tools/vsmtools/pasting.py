@@ -6,13 +6,14 @@ register or field holds is followed along all branches; the script has the macro
 from __future__ import annotations
 
 import re
-from dataclasses import dataclass, field
+from dataclasses import dataclass, field, replace
 from typing import Optional, Sequence
 
 from .assembler import BRANCHES, SYMBOL, Statement, Symbols, Unknown, mark_assembled, read_statements, split_operands
 from .contents import LINKAGE, OWN_MACROS as MACROS, Content, Contents, State, Ways, join, lost
 from .lines import fold
 from .lists import SINGLE, Lists, keyed, list_name, single
+from .variables import Variables
 
 OWN = {"RUN", "ENDTASK", "POKE", "PEEK", "MAP", "BACK", "FORWARD"}
 NUMBERS = {"LENGTH", "LV", "SP", "PCELLCT", "SCELLCT", "CSIZE", "GSPV", "SHSPV"}
@@ -106,17 +107,20 @@ class Paste:
     """One source on its way to a script."""
 
     def __init__(self, lines: list[str], equates: dict[str, int], subpools: dict[int, int],
-                 copies: Sequence[tuple[str, list[str]]] = (), given: Sequence[Given] = ()) -> None:
+                 copies: Sequence[tuple[str, list[str]]] = (), given: Sequence[Given] = (),
+                 variables: Optional[dict[str, str]] = None) -> None:
         self.lines, self.given_subpools = lines, subpools
         self.all_given, self.lists = list(given), Lists()
         self.told: list[tuple[int, int, str]] = []      # of the source, before any macro
         self.notes = self.told
         self.of_registers: set[tuple[int, int, str]] = set()
         self.lost_lines = 0                     # macros that a continuation hides
-        self.own_macros: set[str] = set()
+        self.own_macros: dict[str, list[Statement]] = {}      # each its prototype and what is in it
         self.statements = self.read()
         self.code = [it for it in self.statements if not it.is_comment and it.operation != ".MACRO"]
-        mark_assembled(self.code, lines)
+        shared = [name.lstrip("&").upper() for body in self.own_macros.values() for it in body
+                  if it.operation.startswith("GBL") for name in it.parts]
+        mark_assembled(self.code, lines, Variables(variables or {}, shared))
         self.symbols = Symbols(equates)
         for name, copy in copies:
             self.copy(name, copy)
@@ -158,7 +162,7 @@ class Paste:
     def read(self) -> list[Statement]:
         """The statements; the lines of macro definitions are marked by the operation '.MACRO'."""
         found = read_statements(self.lines)
-        depth, is_prototype = 0, False
+        depth, body = 0, None
         for it in found:
             for number in range(it.first + 1, it.last + 1):
                 if self.lines[number][:15].strip():
@@ -167,12 +171,14 @@ class Paste:
                     hidden = re.match(r"\S*\s+(\w+)", self.lines[number])
                     self.lost_lines += bool(hidden and hidden[1].upper() in MACROS)
             if it.operation == "MACRO":
-                self.note(it.first + 1, 1, "a macro definition isn't taken, nor are calls of its macro worked out")
+                self.note(it.first + 1, 1, "a macro definition isn't taken: its calls may change what its instructions do")
                 depth += 1
+                body = [] if depth == 1 else body
+            elif depth and body == [] and not it.is_comment:
+                self.own_macros[it.operation] = body = [replace(it)]
+            elif depth and body and not it.is_comment:
+                body.append(replace(it))
             if depth and not it.is_comment:
-                if is_prototype:
-                    self.own_macros.add(it.operation)
-                is_prototype = it.operation == "MACRO"
                 depth -= it.operation == "MEND"
                 it.operation = ".MACRO"
         return found
@@ -187,7 +193,7 @@ class Paste:
                 self.note(1, 1, "--copy %s, line %d: %s isn't taken from there" % (name, it.first + 1, it.operation))
             elif not depth and it.operation != "MEND":
                 found.append(it)
-        mark_assembled(found, lines)
+        mark_assembled(found, lines, Variables({}))
         for it, why in self.symbols.read(found):
             self.note(1, 1, "--copy %s, line %d: %s" % (name, it.first + 1, why))
         self.symbols.leave_section()
@@ -235,7 +241,7 @@ class Paste:
         elif it.operation in OWN:
             self.own(it)
         else:
-            if it.operation in CONDITIONAL:
+            if it.operation in CONDITIONAL and not it.is_carried_out:
                 self.note(it.first + 1, 1, "%s isn't carried out" % it.operation)
             elif it.operation == "COPY":
                 self.note(it.first + 1, 1, "COPY %s isn't carried out: --copy FILE takes its definitions" % it.operands)
