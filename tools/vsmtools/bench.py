@@ -78,9 +78,9 @@ def compiled(launcher: str, words: Sequence[str] = ()) -> str:
     return launcher
 
 
-def find_program(named: Optional[str] = None) -> str:
-    """The path of vsm: the one that is named, else the built one, else a repository's ./vsm, one with the
-    installed tools, or one on the PATH."""
+def find_program(named: Optional[str] = None, may_compile: bool = True) -> str:
+    """The path of vsm: the one that is named, else the built one, else a repository's ./vsm, or what that has compiled
+    if it may not compile now, one with the installed tools, or one on the PATH."""
     if named:
         found = named if os.path.dirname(named) else shutil.which(named) or named
         if not is_program(found):
@@ -90,7 +90,7 @@ def find_program(named: Optional[str] = None) -> str:
     # Installed tools are in lib/nilbozad or share/nilbozad/tools, and vsm in bin; or pip installed both.
     beside = [*(os.path.join(TOP, up, "bin", "vsm") for up in ("..", "../..")),
               os.path.join(sysconfig.get_path("scripts"), "vsm")]
-    for place in (BUILT, launcher, *beside, shutil.which("vsm") or ""):
+    for place in (BUILT, launcher if may_compile else BUILT + "-unproved", *beside, shutil.which("vsm") or ""):
         if is_program(place):
             return compiled(place) if place == launcher else os.path.abspath(place)
     raise Fault("no program vsm is found: --vsm names one", status=WORDS)

@@ -48,6 +48,8 @@ FIRST_PAIR = set("M MR D DR ML MLR DL DLR MLG MLGR DLG DLGR DSG DSGR DSGF DSGFR 
 PAIRS = set("MVCL MVCLE MVCLU CLCL CLCLE CLCLU".split())
 KNOWN = FIRST | set(STORES) | NO_CHANGE | CALLS | CALLS_BY_REGISTER | FIRST_PAIR | PAIRS | MULTIPLE
 LINKAGE = (0, 1, 14, 15)
+# Macros that only read the registers which they name.
+READERS = set("OPEN CLOSE GET PUT PUTX READ WRITE CHECK WTO WAIT POST ENQ DEQ SNAP SNAPX ESTAE ESTAEX SETRP DELETE".split())
 OWN_MACROS = {"STORAGE", "GETMAIN", "FREEMAIN", "CPOOL", "ATTACH", "ATTACHX", "DETACH"}    # that become statements
 MOST_FIELDS = 256      # that are known at a time, so that no state is large
 MOST_PASSES = 6        # over the statements of a macro, before nothing is known after it
@@ -58,8 +60,8 @@ MOST_SKIPPED = 64      # bytes that a branch to *+N goes over, before nothing is
 class Content:
     """A word: a number, or the area, cell, cell pool or task that a macro gave, and the line where it got there; or why
     it's lost."""
-    kind: str                          # number, area, pool, task, length, label, list, lost
-    what: Union[int, str]              # of an area its macro's first line, from 0
+    kind: str                          # number, area, inside, pool, task, length, label, list, lost
+    what: Union[int, str, tuple]       # of an area its macro's first line, from 0; with a distance, if inside
     line: int
 
 
@@ -74,6 +76,18 @@ def lost(why: str, line: int = 0) -> State:
 
 def stored(line: int) -> Content:
     return Content("lost", "line %d stores there" % line, line)
+
+
+def moved(old: Optional[Content], distance: int, line: int) -> Optional[Content]:
+    """A number or an address with a distance added."""
+    if old is not None and old.kind == "number":
+        return Content("number", int(old.what) + distance & 0xFFFFFFFF, line)      # type: ignore[arg-type]
+    if old is None or distance == 0:
+        return old
+    if old.kind not in ("area", "inside"):
+        return None
+    area, before = old.what if isinstance(old.what, tuple) else (old.what, 0)
+    return Content("inside" if before + distance else "area", (area, before + distance) if before + distance else area, old.line)
 
 
 def join(one: State, other: State, why: Content) -> State:
@@ -151,6 +165,14 @@ class Ways:
             for name in re.findall(SYMBOL, text):
                 if name in self.labels:
                     self.entries.setdefault(self.labels[name], "line %d has its address" % (it.first + 1))
+
+    def is_code(self, name: str) -> bool:
+        """Whether a name is that of an instruction or macro, in which nothing stores."""
+        k = self.labels.get(name.upper(), len(self.code))
+        while k < len(self.code) and (self.code[k].operation in WITHOUT_CODE or self.code[k].operation in ("DS", "DC")
+                                      and self.code[k].operands.startswith("0")):
+            k += 1
+        return k < len(self.code) and self.code[k].operation not in ("DS", "DC", "LTORG")
 
     def change(self, it: Statement, names: list[str]) -> None:
         for name in names:
@@ -549,6 +571,8 @@ class Contents:
             return
         if it.operation in ("TRT", "TRTR"):
             named = [1, 2]
+        elif it.operation in READERS:
+            named = []
         elif not re.match(r"SVC$|PC$", it.operation):
             named += [(register + 1) % 16 for register in named] + [
                 register for text in re.findall(r"(?<!MF)(?<!SF)=\(([^(),]+)\)", it.operands.upper())
@@ -556,7 +580,8 @@ class Contents:
                 if (register := self.register(text)) is not None]
         self.lose([*named, *(() if it.operation in ("TRT", "TRTR") else LINKAGE)], line)
         for name in re.findall(SYMBOL, re.sub("'[^']*'", "", it.operands)):
-            if self.ways.key(name) != "" and (name.upper() in self.symbols.known or name.upper() in self.state):
+            if self.ways.key(name) != "" and not self.ways.is_code(name) and (
+                    name.upper() in self.symbols.known or name.upper() in self.state):
                 self.forget_stored(name, 0, False, line)
 
     def call_by_register(self, it: Statement) -> None:
@@ -629,20 +654,21 @@ class Contents:
         """The number of a literal such as =F'100' or =A(SIZE), or of a constant that nothing changes."""
         if not text.startswith("="):
             return self.ways.constant(text, length)
-        _, kind, own, _, whole, data = self.symbols.constant(text[1:])
-        if whole != own or len(data) != own or own != length:
+        count, kind, own, _, whole, data = self.symbols.constant(text[1:])
+        if count != 1 or whole != length or len(data) != length:
             raise Unknown("%s isn't one number" % text)
-        return int.from_bytes(data, "big", signed=kind in "FHAY")
+        return int.from_bytes(data, "big", signed=kind in "FHAY" and own == length)
 
     def counted(self, operation: str, register: int, operands: list[str], line: int) -> Optional[Content]:
         """A sum or product of a number that's known."""
         old = self.known(register)
-        if old is None or old.kind != "number" or operation not in ADDS and operation not in MULTIPLIES:
+        if old is None or operation not in ADDS and (operation not in MULTIPLIES or old.kind != "number"):
             return None
         text = operands[0]
         other = self.symbols.number(text) if operation.endswith("I") else self.word(text, 2 if operation.endswith("H") else 4)
-        result = int(old.what) * other if operation in MULTIPLIES else int(old.what) + ADDS[operation] * other
-        return Content("number", result & 0xFFFFFFFF, line)
+        if operation in MULTIPLIES:
+            return Content("number", int(old.what) * other & 0xFFFFFFFF, line)     # type: ignore[arg-type]
+        return moved(old, ADDS[operation] * other, line)
 
     def address(self, text: str, line: int) -> Optional[Content]:
         """LA: a number, a place in the code, or a displacement from what a register holds."""
@@ -656,7 +682,4 @@ class Contents:
         base = self.register(next(part for part in found.groups()[1:] if part))
         if base == 0:
             return Content("number", displacement, line)
-        old = None if base is None else self.known(base)
-        if old is not None and old.kind == "number":
-            return Content("number", int(old.what) + displacement & 0xFFFFFFFF, line)
-        return old if displacement == 0 else None
+        return moved(self.known(base) if base is not None else None, displacement, line)
