@@ -8,7 +8,7 @@ from pathlib import Path
 from typing import Callable
 
 import pytest
-from test_paste import SOURCES, as_statement, macros_in, told
+from test_paste import SOURCES, as_statement, told
 
 from vsmtools import bench
 from vsmtools.pasting import Paste

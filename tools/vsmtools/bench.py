@@ -18,7 +18,7 @@ import vsm_bench
 from vsm_bench import Answer, answers
 
 from .command import WORDS, Fault, reason
-from .lines import is_continued, statements, text_of
+from .lines import is_continued, is_passed_over, statements, text_of
 
 TOOLS = os.path.dirname(os.path.dirname(os.path.realpath(__file__)))
 TOP = os.path.dirname(TOOLS)
@@ -177,6 +177,8 @@ def run(program: str, options: Sequence[str], script: bytes, seconds: float = SE
 def check_is_one(lines: Sequence[str]) -> None:
     """Refuses lines that aren't exactly one whole statement, which a session would wait for, or answer too late."""
     texts = [line.encode("utf-8", "surrogateescape") for line in lines]
+    if len(texts) == 1 and b"\n" not in texts[0] and not is_passed_over(texts[0]) and not is_continued(texts[0]):
+        return
     found = statements(texts)
     if any(b"\n" in text for text in texts):
         raise Fault("a session takes one statement at a time, each line of it by itself")

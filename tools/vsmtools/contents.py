@@ -406,7 +406,7 @@ class Contents:
     def take(self, k: int) -> None:
         """One instruction, or a macro of no meaning here."""
         it = self.ways.code[k]
-        line, operation, parts = it.first + 1, it.operation, it.parts
+        operation, parts = it.operation, it.parts
         if operation in WITHOUT_CODE or operation in ("DS", "DC"):
             self.take_using(it)
             return

@@ -5,15 +5,27 @@ import re
 from dataclasses import replace
 from typing import Optional, Sequence, Union
 
-from .assembler import SYMBOL, Statement, Unknown, bounded, raw_operands, split_operands
+from .assembler import SYMBOL, Statement, Unknown, bounded, raw_operands
 
 VARIABLE = re.compile(r"&(%s)(?![\w$#@(])\.?" % SYMBOL)
-TOKEN = re.compile(r"\s*('(?:[^']|'')*'(?!\()|\d+|[A-Z]+(?![\w'])|[-+*/()])", re.I)
-COMPARES = {"EQ": lambda a, b: a == b, "NE": lambda a, b: a != b, "LT": lambda a, b: a < b, "GT": lambda a, b: a > b,
-            "LE": lambda a, b: a <= b, "GE": lambda a, b: a >= b}
+TOKEN = re.compile(r"\s*('(?:[^'&]|''|&&)*'(?!\()|\d+|[A-Z]+(?![\w'])|[-+*/()])", re.I)
+PYTHON = {"EQ": "==", "NE": "!=", "LT": "<", "GT": ">", "LE": "<=", "GE": ">=", "AND": "and", "OR": "or", "NOT": "not", "/": "//"}
+SIGNS = {*PYTHON.values(), *"+-*()"}
+LOGICAL = {*PYTHON.values()} - {"//"}
+MOST_WORDS = 200       # of an expression
 MOST_TEXT = 1024       # characters of a value
 MOST_CALLS = 8         # of macros within each other
-Value = Union[int, str]
+
+
+class Text(str):
+    """A text of an expression, which can only be compared with one, and only for being the same."""
+    __hash__ = str.__hash__
+    __add__ = __mul__ = __rmul__ = __mod__ = __lt__ = __gt__ = __le__ = __ge__ = None    # type: ignore[assignment]
+
+    def __eq__(self, other: object) -> bool:
+        if not isinstance(other, Text):
+            raise TypeError
+        return str(self) == str(other)
 
 
 def filled(text: str, values: dict[str, str]) -> str:
@@ -27,7 +39,6 @@ class Variables:
     def __init__(self, given: dict[str, str], shared: Sequence[str] = ()) -> None:
         self.given, self.known = given, dict(given)
         self.shared = set(shared)      # those that macros may set
-        self.tokens: list[str] = []
 
     def take(self, it: Statement, lines: list[str]) -> None:
         """A statement that is assembled, or perhaps: a value, or values in its operands."""
@@ -55,89 +66,26 @@ class Variables:
                 raise Unknown("whether it's assembled isn't known")
             self.known[name] = value
             it.is_carried_out = True
-        except (Unknown, RecursionError):
+        except Unknown:
             self.known.pop(name, None)
 
-    def value(self, text: str) -> Value:
-        """The value of an expression, up to the blank after it."""
-        self.tokens, at = [], 0
-        text = filled(text, self.known).strip()
-        while (found := TOKEN.match(text, at)) and not (self.tokens and text[at].isspace() and not self.depth()):
-            self.tokens.append(found[1] if found[1].startswith("'") else found[1].upper())
-            at = found.end()
-        if text[at:at + 1].strip() or len(self.tokens) > 200:
-            raise Unknown("'%s' isn't read" % text[at:at + 20])
-        self.tokens.reverse()
-        value = self.either()
-        if self.tokens:
+    def value(self, text: str) -> Union[int, str]:
+        """The value of an expression, up to the blank after it. In Python's words it has only numbers, texts and signs."""
+        words, at, text = [], 0, filled(text, self.known).strip()
+        while (found := TOKEN.match(text, at)) and not (words and text[at].isspace() and words.count("(") == words.count(")")):
+            word, at = found[1].upper(), found.end()
+            words.append("Text(%r)" % found[1][1:-1].replace("''", "'") if word[0] == "'" else
+                         str(int(word)) if word.isdigit() else PYTHON.get(word, word))
+        shape = "".join(word if word in "()" else "o" if word in SIGNS else "n" for word in words)
+        is_known = all(word in SIGNS or word[-1] == ")" or word.isdigit() and len(word) < 11 for word in words)
+        if text[at:at + 1].strip() or not is_known or not 0 < len(words) < MOST_WORDS or re.search(r"[n)][n(]|\(\)", shape) \
+                or {"-", "//"} <= set(words):
             raise Unknown("'%s' isn't read" % text)
-        return value
-
-    def depth(self) -> int:
-        return self.tokens.count("(") - self.tokens.count(")")
-
-    def next_is(self, *words: str) -> str:
-        return self.tokens.pop() if self.tokens and self.tokens[-1] in words else ""
-
-    def either(self) -> Value:
-        value = self.both()
-        while self.next_is("OR"):
-            other = self.both()
-            value = int(bool(value) or bool(other))
-        return value
-
-    def both(self) -> Value:
-        value = self.compared()
-        while self.next_is("AND"):
-            other = self.compared()
-            value = int(bool(value) and bool(other))
-        return value
-
-    def compared(self) -> Value:
-        if self.next_is("NOT"):
-            return int(not self.compared())
-        value = self.sum()
-        word = self.next_is(*COMPARES)
-        if not word:
-            return value
-        other = self.sum()
-        if isinstance(value, str) != isinstance(other, str) or isinstance(value, str) and word not in ("EQ", "NE"):
-            raise Unknown("%s of texts isn't read" % word)
-        return int(COMPARES[word](value, other))
-
-    def sum(self) -> Value:
-        value = self.product()
-        while sign := self.next_is("+", "-"):
-            value = bounded(number(value) + (1 if sign == "+" else -1) * number(self.product()))
-        return value
-
-    def product(self) -> Value:
-        value = self.term()
-        while sign := self.next_is("*", "/"):
-            a, b = number(value), number(self.term())
-            quotient = abs(a) // abs(b) if b else 0
-            value = bounded(a * b if sign == "*" else quotient if (a < 0) == (b < 0) else -quotient)
-        return value
-
-    def term(self) -> Value:
-        token = self.tokens.pop() if self.tokens else ""
-        if token == "(":
-            value = self.either()
-            if self.next_is(")"):
-                return value
-        elif token in ("+", "-"):
-            return number(self.term()) * (1 if token == "+" else -1)
-        elif token.isdigit() and len(token) < 11:
-            return bounded(int(token))
-        elif token.startswith("'") and "&" not in token.replace("&&", ""):
-            return token[1:-1].replace("''", "'")
-        raise Unknown("it isn't read")
-
-
-def number(value: Value) -> int:
-    if isinstance(value, str):
-        raise Unknown("a text is no number")
-    return value
+        try:
+            value = eval(" ".join(words), {"__builtins__": {}, "Text": Text})
+        except (ArithmeticError, SyntaxError, TypeError, RecursionError, MemoryError):
+            raise Unknown("'%s' isn't read" % text) from None
+        return str(value) if isinstance(value, str) else bounded(int(bool(value) if LOGICAL & set(words) else value))
 
 
 def expanded(it: Statement, macros: dict[str, list[Statement]], depth: int = 0) -> Optional[list[Statement]]:
