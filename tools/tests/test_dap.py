@@ -528,7 +528,7 @@ def test_wrong_values_in_all_requests(vsm: str, tmp_path: Path) -> None:
 
 
 def test_the_library_is_asked_if_no_program_is_named(vsm: str, tmp_path: Path, monkeypatch: pytest.MonkeyPatch) -> None:
-    """The client is told the same. Here the place of a bench of the library is taken by a program."""
+    """The client gets the same messages. A program takes the place of a bench of the library here."""
     path, asked = written(tmp_path, generated(5)), []
 
     def opened(options: list[str]) -> bench.Partner:

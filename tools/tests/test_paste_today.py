@@ -18,7 +18,7 @@ TODAY = sorted((SOURCES / "today").glob("*.asm"))
 
 
 def wanted(path: Path) -> tuple[list[str], list[str], dict[int, str]]:
-    """Of a wanted script the options for vsm-paste, those for vsm, and the statement that each macro's line should have;
+    """Of an expected script the options for vsm-paste, those for vsm, and the statement that each macro's line should have;
     '' if the source doesn't say enough for one."""
     words: dict[str, list[str]] = {"*": [], "*!": []}
     statements: dict[int, str] = {}
@@ -51,7 +51,7 @@ def of_script(script: list[str]) -> dict[int, str]:
 
 @pytest.mark.parametrize("path", TODAY, ids=lambda path: path.stem)
 def test_a_source_of_today(run: Callable, vsm: str, path: Path) -> None:
-    """Each statement is what the wanted script has there, by its answer and by the map at the end."""
+    """Each statement is what the expected script has there, by its answer and by the map at the end."""
     words, options, statements = wanted(path)
     done = run(TOOL, *words, path)
     script = done.stdout.decode().splitlines()
@@ -80,7 +80,7 @@ def test_eight_macros_of_ten_are_taken(run: Callable) -> None:
 
 OBTAIN, FREE = " STORAGE OBTAIN,LENGTH=(3)", " FREEMAIN RU,LV=64,A=(4)"
 GET = " GETMAIN RU,LV=64\n ST 1,P\n"
-# A source, its statements at some lines ('' for one that isn't taken), and a part of what is told.
+# A source, its statements at some lines ('' for one that isn't taken), and a part of a note.
 TRAPS = {
     # Structured macros are ways.
     "IF": (" LA 3,4096\n IF (CLI,FLAG,EQ,C'L')\n LA 3,8192\n ENDIF\n" + OBTAIN, {5: ""}, "what register 3 holds"),

@@ -49,12 +49,12 @@ class Run:
         return answers(self.output)
 
 
-def add_words(parser: argparse.ArgumentParser) -> None:
+def add_words(parser: argparse.ArgumentParser, otherwise: str = "else ./vsm, which may compile first, or vsm on the PATH") -> None:
     """Adds --vsm (--program is the same) and the four options of vsm to a tool's options; vsm itself judges their
     values."""
     group = parser.add_argument_group("the bench")
     group.add_argument("--vsm", "--program", dest="vsm", metavar="PROGRAM",
-                       help="the program vsm (default: the built one here, else vsm on the PATH)")
+                       help="the program vsm (default: the built one here, %s)" % otherwise)
     for option, what in zip(BENCH_OPTIONS, ("K", "K", "24|31", "N")):
         group.add_argument(option, metavar=what, help="as vsm has it")
 

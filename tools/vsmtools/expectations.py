@@ -176,7 +176,7 @@ def told(program: str, script: Script, seconds: float) -> list[Answer]:
 
 
 def heard(program: str, script: Script, seconds: float) -> tuple[list[Answer], Optional[Fault]]:
-    """The answers of a program to a script, and what is wrong with the run besides them. A fault if there are none."""
+    """The answers of a program to a script, and what is wrong with the run otherwise. A fault if there are none."""
     name = os.path.basename(program)
     try:
         done = run_anyhow(program, script.options, script.data, seconds)

@@ -28,7 +28,7 @@ class Block:
 
 @dataclass
 class Way:
-    """Of one macro: where it may lead besides the next statement, and whether to that too; where what comes from the
+    """Of one macro: where it may lead other than to the next statement, and whether to that too; where what comes from the
     statement before it leads, if not to it; and what it carries out."""
     to: set[int] = field(default_factory=set)
     is_on: bool = True
