@@ -268,11 +268,9 @@ def as_statement(line: str) -> str:
     return "" if line.startswith("*") else " ".join(line[line.index(" "):].split("  ")[0].split())
 
 
-@pytest.mark.parametrize("trap", TRAPS)
-def test_traps(vsm: str, trap: str) -> None:
+def check_trap(vsm: str, source: str, expected: dict[int, str], why: str) -> None:
     """What the source doesn't say isn't in the script, and the reason is listed; and the script never releases what the
     source doesn't."""
-    source, expected, why = TRAPS[trap]
     it = Paste([line[:72] for line in source.split("\n")], {}, {})
     script = it.paste()
     assert {line: as_statement(script[line - 1]) for line in expected} == expected, it.notes
@@ -280,6 +278,11 @@ def test_traps(vsm: str, trap: str) -> None:
     answers = bench.run(vsm, [], "".join(line + "\n" for line in script).encode()).answers
     assert [answer.line - 1 for answer in answers] == sorted(it.written)
     assert not any(answer.text.startswith(("FAULT", "ABEND")) for answer in answers), answers
+
+
+@pytest.mark.parametrize("trap", TRAPS)
+def test_traps(vsm: str, trap: str) -> None:
+    check_trap(vsm, *TRAPS[trap])
 
 
 def test_what_comes_from_elsewhere_is_told(run: Callable) -> None:

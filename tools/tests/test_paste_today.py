@@ -8,10 +8,9 @@ from pathlib import Path
 from typing import Callable
 
 import pytest
-from test_paste import SOURCES, as_statement, told
+from test_paste import SOURCES, as_statement, check_trap, told
 
 from vsmtools import bench
-from vsmtools.pasting import Paste
 
 TOOL = "vsm-paste"
 TODAY = sorted((SOURCES / "today").glob("*.asm"))
@@ -169,15 +168,7 @@ TRAPS = {
 
 @pytest.mark.parametrize("trap", TRAPS)
 def test_traps_of_today(vsm: str, trap: str) -> None:
-    """As test_traps: what isn't known isn't in the script, and nothing in it is faulty or abends."""
-    source, expected, why = TRAPS[trap]
-    it = Paste([line[:72] for line in source.split("\n")], {}, {})
-    script = it.paste()
-    assert {line: as_statement(script[line - 1]) for line in expected} == expected, it.notes
-    assert any(why in note[2] for note in it.notes) or not why, it.notes
-    answers = bench.run(vsm, [], "".join(line + "\n" for line in script).encode()).answers
-    assert [answer.line - 1 for answer in answers] == sorted(it.written)
-    assert not any(answer.text.startswith(("FAULT", "ABEND")) for answer in answers), answers
+    check_trap(vsm, *TRAPS[trap])
 
 
 def tell(run: Callable, source: str, *words: str) -> tuple[list[str], str, int]:
