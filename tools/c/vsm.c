@@ -129,9 +129,11 @@ SWITCHES int64_t vsm_host_read(int file, char *to, uint64_t most) {
   (void)file;
   while (!bench->in_left && !bench->is_ending) swapcontext(&bench->program, &bench->caller);
   if (most > bench->in_left) most = bench->in_left;
-  if (most) memcpy(to, bench->in, most);
-  bench->in += most;
-  bench->in_left -= most;
+  if (most) {
+    memcpy(to, bench->in, most);
+    bench->in += most;
+    bench->in_left -= most;
+  }
   return (int64_t)most;
 }
 

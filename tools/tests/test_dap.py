@@ -7,15 +7,16 @@ import random
 import signal
 import time
 from pathlib import Path
-from typing import Any, Iterator
+from typing import Any, Iterator, Optional
 
 import pytest
+import vsm_bench
 from conftest import TOP
 from editors import BAD, LIES, Debugged, Message, damaged_value, framed, tree
 from load_scripts import small_script
 from protocols import check_dap
 
-from vsmtools import bench
+from vsmtools import bench, debugging, rpc
 from vsmtools.debugging import Adapter
 from vsmtools.lines import is_continued, options_for
 from vsmtools.maps import Map, parse_map
@@ -524,6 +525,32 @@ def test_wrong_values_in_all_requests(vsm: str, tmp_path: Path) -> None:
             print("seed", seed, name, arguments := damaged_value(chance, given))
             client.response(client.post(name, arguments))
         assert client.close() == 0
+
+
+def test_the_library_is_asked_if_no_program_is_named(vsm: str, tmp_path: Path, monkeypatch: pytest.MonkeyPatch) -> None:
+    """The client gets the same messages. A program takes the place of a bench of the library here."""
+    path, asked = written(tmp_path, generated(5)), []
+
+    def opened(options: list[str]) -> bench.Partner:
+        asked.append(options)
+        return bench.Partner(vsm, options)
+
+    def told(named: Optional[str]) -> list[Message]:
+        found: list[Message] = []
+        stream = rpc.Stream(-1, -1)
+        monkeypatch.setattr(stream, "write", found.append)
+        adapter = debugging.Adapter(stream, named)
+        for name, arguments in (("initialize", {}), ("launch", {"program": str(path)}), ("configurationDone", {})):
+            adapter.handle({"type": "request", "seq": 1, "command": name, "arguments": arguments})
+        while adapter.going:
+            adapter.go_on()
+        adapter.need().walk.close()
+        return found
+
+    monkeypatch.setattr(vsm_bench, "opened", opened)
+    monkeypatch.setattr(debugging, "find_program", lambda named=None: named or vsm)
+    by_program = told(vsm)
+    assert not asked and told(None) == by_program and len(by_program) > 20 and len(asked) == 1
 
 
 def test_half_a_message_and_a_byte_at_a_time(vsm: str) -> None:

@@ -17,7 +17,7 @@ from editors import BAD, LIES, Edited, Message, damaged_value, framed
 from test_damaged import SCRIPTS, damaged
 from test_dap import Expected, generated
 
-from vsmtools import bench, language, listing, manuals
+from vsmtools import bench, documents, language, listing, manuals
 from vsmtools.command import Fault
 from vsmtools.documents import Document
 from vsmtools.lines import options_for
@@ -355,6 +355,25 @@ def test_a_text_that_changes_is_read_as_a_new_one() -> None:
                     new.text, new.ends, new.raw, new.begins, new.extents)
 
 
+def test_a_change_reads_few_lines(monkeypatch: pytest.MonkeyPatch) -> None:
+    """Lines below a change are read again only up to a statement that begins as before."""
+    count = [0]
+    document = Document(URI, 1, LONG * 50_000, "utf-16")
+
+    def counted(text: str) -> bytes:
+        count[0] += 1
+        return text.encode()
+
+    monkeypatch.setattr(documents, "data_of", counted)
+    for line in (3, 50_000, 99_990):
+        for text in ("x", "\n STORAGE", " " * 70 + "X"):
+            document.apply({"range": span(line, 1, line, 1), "text": text})
+            document.read()
+    assert count[0] < 100
+    whole = Document(URI, 1, "".join(map("".join, zip(document.text, document.ends))), "utf-16")
+    assert (document.raw, document.begins, document.extents) == (whole.raw, whole.begins, whole.extents)
+
+
 def position(text: str, at: int) -> Message:
     lines = text[:at].replace("\r\n", "\n").replace("\r", "\n").split("\n")
     return {"line": len(lines) - 1, "character": len(lines[-1].encode("utf-16-le")) // 2}
@@ -488,6 +507,17 @@ def test_wrong_requests_have_the_protocols_errors(client: Edited) -> None:
         client.raw(bytes([byte]))
     client.response(client.send("shutdown"))
     assert client.error("textDocument/hover", where) == Code.REQUEST
+
+
+def test_a_hover_that_waits_is_answered_at_the_shutdown(vsm: str, explain: str) -> None:
+    client = Edited(vsm, explain)
+    client.begin()
+    client.notify("textDocument/didOpen", {"textDocument": {"uri": URI, "languageId": "vsm", "version": 1, "text": LONG * 50_000}})
+    number = client.send("textDocument/hover", {"textDocument": {"uri": URI}, "position": {"line": 99_999, "character": 3}})
+    shut = client.send("shutdown")
+    assert client.response(number)["error"]["code"] == Code.CANCELLED and "error" not in client.response(shut)
+    client.notify("exit", None)
+    assert client.child.wait(60) == 0
 
 
 def test_wrong_values_in_all_messages(vsm: str, explain: str) -> None:

@@ -155,7 +155,6 @@ def test_what_is_worked_out(run: Callable, vsm: str, source: str, expected: str)
     ("L GETMAIN RU,LV=8,BNDRY=&B,MF=L\n GETMAIN RU,MF=(E,L)\n", 2, "its list has a variable symbol"),
     ("L GETMAIN RU,LV=8,MF=L\n", 1, "it's a list form, which does nothing by itself"),
     (" GETMAIN VRU,LA=L,SP=1\n", 1, "names a list"),
-    (" ATTACH EP=A,MF=(E,L)\n", 1, "names a list"),
     (" DETACH (5)\n", 1, "what register 5 holds"),
     (" ATTACH EP=A,SF=L\n", 1, "it's a list form"), (" ATTACH EP=A,SF=(E,L)\n", 1, "names a list"),
     (" FREEMAIN RU,LV=8,A=BUF\n", 1, "isn't known to hold an address"),
@@ -234,8 +233,8 @@ TRAPS = {
     "an arm that ends": (" GETMAIN RC,LV=64\n LTR 15,15\n BZ X\n ABEND 1\nX LR 5,1\n FREEMAIN RU,LV=64,A=(5)",
                          {6: "FREEMAIN RU,LV=64,A=AREA1"}, ""),
     # No room for a name: what isn't written gave nothing.
-    "no room for a name": (" GETMAIN RU,LV=8\n" + " GETMAIN RU,LV=16,RELATED=(".ljust(70, "R") + ")\n ST 1,P\n GETMAIN RU,LV=8\n L 4,P\n"
-                           " FREEMAIN RU,LV=16,A=(4)", {6: ""}, "line 2 has no room for a name"),
+    "no room for a name": (" GETMAIN RC,LV=16,RELATED=(".ljust(70, "R") + ")\n FREEMAIN RU,LV=16,A=(1)", {2: ""},
+                           "line 1 has no room for a name"),
     "no room for the statement": (" GETMAIN RU,LV=8\n" + " GETMAIN RU,LV=A,RELATED=(".ljust(70, "R") + ")\n FREEMAIN RU,LV=8,A=(1)\nA EQU 800",
                                   {2: "", 3: ""}, "it would need more lines"),
     # Conditional assembly.
@@ -269,11 +268,9 @@ def as_statement(line: str) -> str:
     return "" if line.startswith("*") else " ".join(line[line.index(" "):].split("  ")[0].split())
 
 
-@pytest.mark.parametrize("trap", TRAPS)
-def test_traps(vsm: str, trap: str) -> None:
+def check_trap(vsm: str, source: str, expected: dict[int, str], why: str) -> None:
     """What the source doesn't say isn't in the script, and the reason is listed; and the script never releases what the
     source doesn't."""
-    source, expected, why = TRAPS[trap]
     it = Paste([line[:72] for line in source.split("\n")], {}, {})
     script = it.paste()
     assert {line: as_statement(script[line - 1]) for line in expected} == expected, it.notes
@@ -281,6 +278,11 @@ def test_traps(vsm: str, trap: str) -> None:
     answers = bench.run(vsm, [], "".join(line + "\n" for line in script).encode()).answers
     assert [answer.line - 1 for answer in answers] == sorted(it.written)
     assert not any(answer.text.startswith(("FAULT", "ABEND")) for answer in answers), answers
+
+
+@pytest.mark.parametrize("trap", TRAPS)
+def test_traps(vsm: str, trap: str) -> None:
+    check_trap(vsm, *TRAPS[trap])
 
 
 def test_what_comes_from_elsewhere_is_told(run: Callable) -> None:

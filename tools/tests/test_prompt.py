@@ -286,6 +286,17 @@ def test_back_until_changes(run: Callable, vsm: str) -> None:
     assert "it's .back until P changes" in told[0] and "no address" in told[1] and "Q isn't defined" in told[2]
 
 
+def test_back_until_a_name_gets_its_value(run: Callable, vsm: str) -> None:
+    """It stops there, not where the page was assigned; and says before where that is."""
+    text = "storage obtain,length=8\nstorage obtain,length=8,addr=p\nstorage obtain,length=8,sp=1,addr=(5)\n"
+    for place, line, kept, values in (("p", 2, 1, "P isn't defined -> P=00006008"), ("(5)", 3, 2, "(5)=00000000 -> (5)=00007000"),
+                                      ("(R5),8", 3, 2, "(R5)=00000000 -> (R5)=00007000")):
+        shown, told = talk(run, vsm, text + ".back until %s changes\n" % place)
+        assert not told and [it for it in shown[3:] if it] == [
+            "  back to before line %d, over %d change%s" % (line, 3 - kept, "" if kept == 2 else "s"), "0000004 KEPT=%d" % kept,
+            "  undone last: %d %s   %s" % (line, text.split("\n")[line - 1], values)], shown
+
+
 def test_a_file_to_a_line_and_on(run: Callable, vsm: str) -> None:
     wanted = ["%07d %s" % (it.line, it.text) for it in bench.run(vsm, [], FIRST.read_bytes()).answers]
     shown, told = talk(run, vsm, ".step\n.step 2\n.until RC=0 A=\n.run\n", "--stop", 3, FIRST)

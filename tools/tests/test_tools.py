@@ -211,3 +211,17 @@ def test_what_an_answer_has(vsm: str) -> None:
         (4, None, None, None, None, None), (None,) * 6]
     shown = got[-1].map
     assert shown and shown.tasks[0].number == 1 and got[0].map is None
+
+
+@pytest.mark.parametrize("words", [["bash", ".ci/run"], ["tests/cited"], ["tests/lint"]])
+def test_help_of_the_gate(words: list[str]) -> None:
+    """It's printed at once, and another argument is refused."""
+    done = subprocess.run([*words, "--help"], cwd=TOP, capture_output=True, timeout=60)
+    assert (done.returncode, done.stderr) == (0, b"") and b"Usage: " + words[-1].encode() in done.stdout
+    done = subprocess.run([*words, "other"], cwd=TOP, capture_output=True, timeout=60)
+    assert (done.returncode, done.stdout, done.stderr.count(b"\n")) == (16, b"", 1)
+
+
+def test_an_example_works_as_it_is_typed(run: Callable) -> None:
+    """vsm runs the script also if a macro isn't taken, which is status 4."""
+    assert b"> script ; vsm script" in run("vsm-paste", "--help").stdout

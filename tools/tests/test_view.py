@@ -119,8 +119,11 @@ def test_a_part(program: Path) -> None:
 
 
 def test_a_part_behind_all(program: Path) -> None:
-    data = made(program, b" A\n", "--first", 9)
-    assert (data["skipped"], [line[8:] for line in output_of(data)]) == (1, ["FAULT OPERATION", "MAP"])
+    """A part in which no statement begins is refused, as one that ends before it begins."""
+    for words, span in ((("--first", "9"), "9 to 1048576"), (("--last", "1"), "1 to 1")):
+        status, line = fault(program, *words, "-", given=b"* A\n B\n")[:2]
+        assert status == 16 and "no statement begins from line %s; the last one does on line 2" % span in line
+    assert made(program, b"* A\n")["skipped"] == 0
 
 
 def test_options_go_to_vsm(program: Path) -> None:

@@ -90,7 +90,7 @@ def test_what_differs_is_told_with_file_and_line(tool: Tool, put: Put) -> None:
     done = tool("wrong.vsm")
     assert done.status == 1
     assert done.lines == ["wrong.vsm:5: line 2 gets another answer (- expected, + answered)",
-                          "-RC=0 A=00006008 L=00000008", "+RC=0 A=00006000 L=00000008", "0 passed, 1 failed"]
+                          "-RC=0 A=00006008 L=00000008", "+RC=0 A=00006000 L=00000008", "answers: 0 of 1", "0 passed, 1 failed"]
 
 
 @pytest.mark.parametrize("text", [b"RC=0", b"RC=0 A=00006000 L=0000000", b"RC=0 A=00006000 L=00000008 ..",
@@ -193,7 +193,7 @@ def test_an_exercise_without_its_answers(tool: Tool, put: Put) -> None:
     assert done.lines == ["all/exercise.vsm:4: line 3 gets another answer",
                           "all/exercise.vsm:6: the answer to line 5 is to be filled in",
                           "all/exercise.vsm:9: line 7 gets another answer", "all/exercise.vsm: 1 of 4",
-                          "all/right.vsm: 1 of 1", "1 passed, 1 failed"]
+                          "all/right.vsm: 1 of 1", "answers: 2 of 5", "1 passed, 1 failed"]
     assert "RC=0" not in (put("x").parent / "report.xml").read_text()
     for word in ("--write", "--hide"):
         assert tool("--no-answers", word, "all/right.vsm").status == 16
@@ -202,7 +202,8 @@ def test_an_exercise_without_its_answers(tool: Tool, put: Put) -> None:
 def test_a_fifo_in_a_folder_stops_nothing(tool: Tool, put: Put) -> None:
     os.mkfifo(put("all/a.vsm", OBTAIN, RIGHT).parent / "f.vsm")
     done = tool("all")
-    assert done.status == 8 and done.lines == ["all/f.vsm: it's no regular file", "1 passed, 1 failed"]
+    assert done.status == 8 and done.lines == ["all/f.vsm: it's no regular file", "answers: 1 of 1",
+                                                                                 "1 passed, 1 failed"]
 
 
 def test_write_and_hide_go_round(tool: Tool, put: Put) -> None:
@@ -300,7 +301,8 @@ def test_wrong_scripts(tool: Tool, put: Put, data: bytes, told: str) -> None:
     for words in ([], ["--write"]):
         done = tool(*words, "wrong.vsm")
         assert done.lines[0].replace("vsm-", "vsm").startswith("wrong.vsm:" + told), done.output
-        assert (done.status, done.lines[1:], done.errors) == (1, ["0 passed, 1 failed"], "")
+        summed = ["answers: 0 of 1"] if RIGHT in data and "refuses" in told and not words else []
+        assert (done.status, done.lines[1:], done.errors) == (1, [*summed, "0 passed, 1 failed"], "")
     assert script.read_bytes() == data
 
 
@@ -358,18 +360,38 @@ def test_a_program_that_does_wrong(tool: Tool, put: Put, fake: Fake, text: str, 
     put("right.vsm", OBTAIN, RIGHT)
     for words in ([], ["--write"]):
         done = tool("--seconds", 1, *words, "right.vsm", program=fake(text))
-        assert done.lines[0].startswith("right.vsm: " + told)
+        assert sum(line.startswith("right.vsm: " + told) for line in done.lines) == 1
         assert (done.status, done.lines[-1], done.errors) == (1, "0 passed, 1 failed", "")
+
+
+def test_a_bench_in_the_making(tool: Tool, put: Put, fake: Fake) -> None:
+    """What its answers differ in is shown though its status is wrong, with the rules that fail and a sum."""
+    put("suite/rules", b"# rules\n7 | STATEMENTS: BACK | steps/back steps/other | bench | It steps back. | yes\n"
+                       b"- | STATEMENTS: BACK | - | says nothing | See below.\n8 | STATEMENTS: MAP | map/map | bench | It shows.\n")
+    put("suite/map/map.vsm", OBTAIN, RIGHT)
+    put("suite/steps/back.vsm", OBTAIN, RIGHT, b" BACK 2\n*> REFUSED KEPT=1\n BACK 1\n*> KEPT=0\n")
+    answers = "RC=0 A=00006000 L=00000008"
+    half = fake("[ $(wc -l) = 2 ] && echo 0000001 %s && exit; echo 0000001 %s; echo 0000003 REFUSED KEPT=1; echo 0000005 KEPT=1"
+                % (answers, answers))
+    done = tool("suite", program=half)
+    assert done.status == 1 and done.lines == [
+        "suite/steps/back.vsm:6: line 5 gets another answer (- expected, + answered)", "-KEPT=0", "+KEPT=1",
+        "suite/steps/back.vsm: fake ended with status 0, and 4 goes with these answers",
+        "suite/rules:2: rule 7, STATEMENTS: BACK: It steps back. | yes", "answers: 3 of 4", "1 passed, 1 failed"]
+    assert tool("--no-answers", "suite", program=half).lines[-4:-1] == [
+        "suite/steps/back.vsm: fake ended with status 0, and 4 goes with these answers",
+        "suite/rules:2: rule 7, STATEMENTS: BACK: It steps back. | yes", "answers: 3 of 4"]
 
 
 def test_a_program_that_ends_early(tool: Tool, put: Put, fake: Fake) -> None:
     put("right.vsm", OBTAIN, RIGHT, b" BACK 0\n*> KEPT=1\n")
     done = tool("right.vsm", program=fake("echo 0000001 RC=0 A=00006000 L=00000008"))
-    assert done.lines == ["right.vsm:4: line 3 isn't answered", "-KEPT=1", "0 passed, 1 failed"]
+    assert done.lines == ["right.vsm:4: line 3 isn't answered", "-KEPT=1", "answers: 1 of 2", "0 passed, 1 failed"]
     given = put("bare.vsm", OBTAIN, RIGHT, b" BACK 0\n")
     for words in ([], ["--write"]):
         done = tool(*words, "bare.vsm", program=fake("echo 0000001 RC=0 A=00006000 L=00000008"))
-        assert (done.status, done.lines) == (1, ["bare.vsm:3: line 3 isn't answered", "0 passed, 1 failed"])
+        told = ["answers: 1 of 1"] if not words else []
+        assert (done.status, done.lines) == (1, ["bare.vsm:3: line 3 isn't answered", *told, "0 passed, 1 failed"])
     assert given.read_bytes() == OBTAIN + RIGHT + b" BACK 0\n"
 
 

@@ -12,6 +12,8 @@ lists         list forms of macros, for vsm-paste
 loading       the script that makes the region of a map, for vsm-load
 maps          the lines of a MAP as data
 pasting       macros of a source as statements, for vsm-paste
+structured    structured macros of a source as branches, for vsm-paste
+variables     variable symbols of conditional assembly, for vsm-paste
 prompting     a session at a prompt: its lines, its changes and its commands
 words         the words of a script, for completion
 

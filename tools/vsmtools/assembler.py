@@ -10,14 +10,17 @@ import re
 from collections import Counter
 from dataclasses import dataclass, field
 from functools import cached_property
-from typing import NoReturn, Optional, Sequence
+from typing import TYPE_CHECKING, NoReturn, Optional, Sequence
+
+if TYPE_CHECKING:
+    from .variables import Variables
 
 SYMBOL = r"[A-Za-z$#@_][\w$#@]*"
 SECTIONS = {"DSECT", "CSECT", "RSECT", "START", "COM"}
 # Statements that leave the place in their section as it is.
 WITHOUT_CODE = SECTIONS | set("EQU USING DROP TITLE EJECT SPACE PRINT AMODE RMODE ENTRY EXTRN WXTRN PUSH POP END ALIAS "
                               "XATTR OPSYN ACONTROL ADATA REPRO PUNCH MNOTE LCLA LCLB LCLC GBLA GBLB GBLC SETA SETB SETC "
-                              "AIF AGO ANOP YREGS SYSSTATE LOCTR".split())
+                              "AIF AGO ANOP MEXIT MEND ACTR YREGS SYSSTATE LOCTR".split())
 LENGTHS = {"A": 4, "Y": 2, "S": 2, "V": 4, "Q": 4, "J": 4, "R": 4, "F": 4, "H": 2, "E": 4, "D": 8, "L": 16,
            "AD": 8, "FD": 8, "VD": 8, "JD": 8, "RD": 8, "EB": 4, "DB": 8, "LB": 16, "EH": 4, "DH": 8,
            "LH": 16, "ED": 4, "DD": 8, "LD": 16}
@@ -52,6 +55,8 @@ class Statement:
     is_comment: bool = False
     is_skipped: bool = False      # by AGO: it isn't assembled
     doubt: int = 0                # the line of the AIF or AGO that decides whether it's assembled
+    is_carried_out: bool = False  # a statement of conditional assembly whose value or condition is known
+    is_filled: bool = False       # its operands have the values of variable symbols
     misplaced: str = ""           # why its last operand may continue on the next line
 
     @cached_property
@@ -126,15 +131,47 @@ def misplaced(it: Statement, lines: list[str]) -> str:
     return "its operands end with a comma, and no line continues them"
 
 
+def raw_operands(it: Statement, lines: list[str]) -> str:
+    """What follows the operation, with its blanks."""
+    parts = [line[15 if number else 0:71] for number, line in enumerate(lines[it.first:it.last + 1])]
+    return re.sub(r"^\S*\s+\S+", "", "".join(part.ljust(56) for part in parts))
+
+
 def targets(it: Statement, lines: list[str], labels: dict[str, int]) -> list[int]:
     """The place to which an AIF or AGO may lead: the end of the source if it has no such name."""
-    text = " ".join(line[:71] for line in lines[it.first:it.last + 1]).upper().partition(it.operation)[2]
-    named = re.findall(r"[\s),](\.[A-Z$#@_][\w$#@]*)", text)
+    named = re.findall(r"[\s),](\.[A-Z$#@_][\w$#@]*)", raw_operands(it, lines).upper())
     return [labels[name] for name in named if name in labels] or [END]
 
 
-def mark_assembled(statements: Sequence[Statement], lines: list[str]) -> None:
-    """Marks what AGO skips, and what is between an AIF or AGO and its target: it may be assembled or not."""
+def conditions(it: Statement, lines: list[str]) -> list[str]:
+    """The conditions of an AIF, each in its parentheses; none if they aren't read."""
+    text, found = raw_operands(it, lines).strip(), []
+    while text.startswith("("):
+        depth, quoted = 0, False
+        for at, char in enumerate(text):
+            quoted ^= char == "'" and (quoted or is_quote(text, at))
+            depth += 0 if quoted else (char == "(") - (char == ")")
+            if depth == 0 and not quoted:
+                break
+        found.append(text[:at + 1])
+        text = re.sub(r"^\s*\.[\w$#@]+,?\s*", "", text[at + 1:])
+    return found
+
+
+def decided(it: Statement, lines: list[str], ends: list[int], variables: Variables) -> Optional[int]:
+    """Where an AIF leads: 0 if to the next statement; None if that isn't known."""
+    found = conditions(it, lines) if it.operation.startswith("AIF") and not it.doubt else []
+    try:
+        if len(found) == len(ends) and found:
+            return next((end for text, end in zip(found, ends) if variables.value(text)), 0)
+    except (Unknown, RecursionError):
+        pass
+    return None
+
+
+def mark_assembled(statements: Sequence[Statement], lines: list[str], variables: Variables) -> None:
+    """Marks what AGO skips, or AIF if its condition is known; and what is between an AIF or AGO and its target else: it
+    may be assembled or not. Takes the values of variable symbols."""
     labels = {it.name: k for k, it in enumerate(statements) if it.name.startswith(".")}
     edges = {k: targets(it, lines, labels) for k, it in enumerate(statements) if it.operation in BRANCHES}
     back = {to: k for k, ends in edges.items() for to in ends if to <= k}
@@ -147,7 +184,13 @@ def mark_assembled(statements: Sequence[Statement], lines: list[str]) -> None:
         if it.is_skipped:
             continue
         it.doubt = statements[doubt[1]].first + 1 if k < doubt[0] else 0
-        if k in edges:
+        if k not in edges:
+            variables.take(it, lines)
+        elif (to := decided(it, lines, edges[k], variables)) is not None and (to == 0 or to > k):
+            it.is_carried_out = True
+            reached.update({to} if to else ())
+            skip = (to, k)
+        else:
             reached.update(edges[k])
             last = (max(edges[k]), k)
             if it.operation.startswith("AGO") and not it.operands.startswith("(") and last[0] > k:
@@ -223,6 +266,8 @@ class Symbols:
         self.sections: dict[str, Section] = {}
         self.section = ""
         self.dummies: set[str] = set()         # sections by DSECT
+        self.counters: dict[str, str] = {}     # the sections of location counters by LOCTR
+        self.scattered: set[str] = set()       # sections with these: their parts aren't in turn
         self.sizes: dict[Place, int] = {}      # of parts of sections that are ended
         self.depth = 0                         # of expressions at work
         self.registers_taken = False
@@ -281,7 +326,7 @@ class Symbols:
         if it.is_comment:
             return
         if it.operation in SECTIONS:
-            self.section = it.name
+            self.section = self.counters[it.name] = it.name
             if it.operation == "DSECT":
                 self.dummies.add(it.name)
             self.define(it.name, Symbol(Value(0, Counter({(it.name, 0): 1})), length=1))
@@ -291,6 +336,10 @@ class Symbols:
             self.data(it)
         elif it.operation == "ORG":
             self.origin(it)
+        elif it.operation == "LOCTR":
+            self.section = self.counters.setdefault(it.name, self.section)
+            self.scattered.add(self.section)
+            self.begin_part(8)
         elif it.operation not in WITHOUT_CODE:
             self.define(it.name, Symbol(self.here(), why="the length of an instruction isn't known"))
             self.begin_part(2)
@@ -302,7 +351,7 @@ class Symbols:
 
     def origin(self, it: Statement) -> None:
         section = self.here_section()
-        if not it.operands:
+        if not "".join(it.parts[:1]):
             section.offset = section.highest
             return
         value = self.evaluate(it.parts[0], self.here())

@@ -18,7 +18,7 @@ import vsm_bench
 from vsm_bench import Answer, answers
 
 from .command import WORDS, Fault, reason
-from .lines import is_continued, statements, text_of
+from .lines import is_continued, is_passed_over, statements, text_of
 
 TOOLS = os.path.dirname(os.path.dirname(os.path.realpath(__file__)))
 TOP = os.path.dirname(TOOLS)
@@ -49,12 +49,12 @@ class Run:
         return answers(self.output)
 
 
-def add_words(parser: argparse.ArgumentParser) -> None:
+def add_words(parser: argparse.ArgumentParser, otherwise: str = "else ./vsm, which may compile first, or vsm on the PATH") -> None:
     """Adds --vsm (--program is the same) and the four options of vsm to a tool's options; vsm itself judges their
     values."""
     group = parser.add_argument_group("the bench")
     group.add_argument("--vsm", "--program", dest="vsm", metavar="PROGRAM",
-                       help="the program vsm (default: the built one here, else vsm on the PATH)")
+                       help="the program vsm (default: the built one here, %s)" % otherwise)
     for option, what in zip(BENCH_OPTIONS, ("K", "K", "24|31", "N")):
         group.add_argument(option, metavar=what, help="as vsm has it")
 
@@ -78,9 +78,9 @@ def compiled(launcher: str, words: Sequence[str] = ()) -> str:
     return launcher
 
 
-def find_program(named: Optional[str] = None) -> str:
-    """The path of vsm: the one that is named, else the built one, else a repository's ./vsm, one with the
-    installed tools, or one on the PATH."""
+def find_program(named: Optional[str] = None, may_compile: bool = True) -> str:
+    """The path of vsm: the one that is named, else the built one, else a repository's ./vsm, or what that has compiled
+    if it may not compile now, one with the installed tools, or one on the PATH."""
     if named:
         found = named if os.path.dirname(named) else shutil.which(named) or named
         if not is_program(found):
@@ -90,7 +90,7 @@ def find_program(named: Optional[str] = None) -> str:
     # Installed tools are in lib/nilbozad or share/nilbozad/tools, and vsm in bin; or pip installed both.
     beside = [*(os.path.join(TOP, up, "bin", "vsm") for up in ("..", "../..")),
               os.path.join(sysconfig.get_path("scripts"), "vsm")]
-    for place in (BUILT, launcher, *beside, shutil.which("vsm") or ""):
+    for place in (BUILT, launcher if may_compile else BUILT + "-unproved", *beside, shutil.which("vsm") or ""):
         if is_program(place):
             return compiled(place) if place == launcher else os.path.abspath(place)
     raise Fault("no program vsm is found: --vsm names one", status=WORDS)
@@ -177,6 +177,8 @@ def run(program: str, options: Sequence[str], script: bytes, seconds: float = SE
 def check_is_one(lines: Sequence[str]) -> None:
     """Refuses lines that aren't exactly one whole statement, which a session would wait for, or answer too late."""
     texts = [line.encode("utf-8", "surrogateescape") for line in lines]
+    if len(texts) == 1 and b"\n" not in texts[0] and not is_passed_over(texts[0]) and not is_continued(texts[0]):
+        return
     found = statements(texts)
     if any(b"\n" in text for text in texts):
         raise Fault("a session takes one statement at a time, each line of it by itself")

@@ -10,6 +10,8 @@ from dataclasses import dataclass
 from typing import Iterable, Optional, Sequence, Union
 
 from .assembler import SECTIONS, SYMBOL, WITHOUT_CODE, Statement, Symbols, Unknown
+from .structured import STRUCTURED, Way, counters, instructions, ways
+from .variables import expanded
 
 CONDITION = "N?[EHLZOPM]"
 TO_PLACE = re.compile(r"(?:B|J|BR|JL|BRL)(?:%s)|BC|BRCL?|JL?C|BX(?:H|LE)G?|[BJ]R?X(?:H|LE)G?|BRXLG|(?:BR|J|B)CTG?|BRCTH"
@@ -46,8 +48,11 @@ FIRST_PAIR = set("M MR D DR ML MLR DL DLR MLG MLGR DLG DLGR DSG DSGR DSGF DSGFR 
 PAIRS = set("MVCL MVCLE MVCLU CLCL CLCLE CLCLU".split())
 KNOWN = FIRST | set(STORES) | NO_CHANGE | CALLS | CALLS_BY_REGISTER | FIRST_PAIR | PAIRS | MULTIPLE
 LINKAGE = (0, 1, 14, 15)
+# Macros that only read the registers which they name.
+READERS = set("OPEN CLOSE GET PUT PUTX READ WRITE CHECK WTO WAIT POST ENQ DEQ SNAP SNAPX ESTAE ESTAEX SETRP DELETE".split())
 OWN_MACROS = {"STORAGE", "GETMAIN", "FREEMAIN", "CPOOL", "ATTACH", "ATTACHX", "DETACH"}    # that become statements
 MOST_FIELDS = 256      # that are known at a time, so that no state is large
+MOST_PASSES = 6        # over the statements of a macro, before nothing is known after it
 MOST_SKIPPED = 64      # bytes that a branch to *+N goes over, before nothing is known
 
 
@@ -55,8 +60,8 @@ MOST_SKIPPED = 64      # bytes that a branch to *+N goes over, before nothing is
 class Content:
     """A word: a number, or the area, cell, cell pool or task that a macro gave, and the line where it got there; or why
     it's lost."""
-    kind: str                          # number, area, pool, task, length, label, list, lost
-    what: Union[int, str]              # of an area its macro's first line, from 0
+    kind: str                          # number, area, inside, pool, task, length, label, list, lost
+    what: Union[int, str, tuple]       # of an area its macro's first line, from 0; with a distance, if inside
     line: int
 
 
@@ -71,6 +76,18 @@ def lost(why: str, line: int = 0) -> State:
 
 def stored(line: int) -> Content:
     return Content("lost", "line %d stores there" % line, line)
+
+
+def moved(old: Optional[Content], distance: int, line: int) -> Optional[Content]:
+    """A number or an address with a distance added."""
+    if old is not None and old.kind == "number":
+        return Content("number", int(old.what) + distance & 0xFFFFFFFF, line)      # type: ignore[arg-type]
+    if old is None or distance == 0:
+        return old
+    if old.kind not in ("area", "inside"):
+        return None
+    area, before = old.what if isinstance(old.what, tuple) else (old.what, 0)
+    return Content("inside" if before + distance else "area", (area, before + distance) if before + distance else area, old.line)
 
 
 def join(one: State, other: State, why: Content) -> State:
@@ -94,14 +111,16 @@ def is_known(operation: str) -> bool:
 class Ways:
     """A source's statements in turn, the places to which its branches lead, and what may be changed anywhere."""
 
-    def __init__(self, symbols: Symbols, code: Sequence[Statement], macros: Iterable[str]) -> None:
-        self.symbols, self.code, self.macros = symbols, code, set(macros)
+    def __init__(self, symbols: Symbols, code: Sequence[Statement], macros: dict[str, list[Statement]]) -> None:
+        self.symbols, self.code, self.macros = symbols, code, macros
+        self.calls = {k: expanded(it, macros) for k, it in enumerate(code) if it.operation in macros and not it.is_skipped}
         self.labels: dict[str, int] = {}
         self.entries: dict[int, str] = {}      # statements to which other code may lead
         self.changeable: dict[str, int] = {}   # names whose bytes may not stay as DC has them, by which line
         self.wide: list[str] = []              # where stores reach more than a symbol
         self.keys: dict[str, Key] = {}
         self.stars: dict[str, int] = {}        # names such as EQU *+4
+        self.structured = None if STRUCTURED & set(macros) else ways(code)
         for k, it in enumerate(code):
             if it.name and not it.name.startswith(".") and is_label(it) and not it.is_skipped:
                 if self.labels.setdefault(it.name, k) != k:
@@ -112,14 +131,23 @@ class Ways:
         for k, it in enumerate(code):
             if it.is_skipped:
                 continue
-            self.mention(it)
+            for one in (it, *(self.calls.get(k) or ())):
+                self.mention(one)
             if it.operation in SECTIONS and it.operation != "DSECT":
                 if seen and it.name not in seen:
                     self.entries[k] = "another section begins in line %d" % (it.first + 1)
                 seen.add(it.name)
+        # Fields that are assembled with the address of a label.
+        self.adcons = {it.name for it in code if it.operation == "DC" and any(
+            name.upper() in self.labels for part in it.parts if re.match(r"\(?\w*\)?[AVSY]D?(L\d)?\(", part, re.I)
+            for name in re.findall(SYMBOL, part.partition("(")[2]))}
 
     def mention(self, it: Statement) -> None:
         """Takes note of the names whose addresses a statement takes, or whose bytes it changes."""
+        if it.operation in STRUCTURED and self.structured is not None:
+            for test in instructions(it):
+                self.mention(test)
+            return
         text = re.sub(r"(?<![\w$#@])[A-Z]'|'(?:[^']|'')*'", " ", it.operands.upper())
         if it.operation in STORES:
             at, length = STORES[it.operation]
@@ -137,6 +165,14 @@ class Ways:
             for name in re.findall(SYMBOL, text):
                 if name in self.labels:
                     self.entries.setdefault(self.labels[name], "line %d has its address" % (it.first + 1))
+
+    def is_code(self, name: str) -> bool:
+        """Whether a name is that of an instruction or macro, in which nothing stores."""
+        k = self.labels.get(name.upper(), len(self.code))
+        while k < len(self.code) and (self.code[k].operation in WITHOUT_CODE or self.code[k].operation in ("DS", "DC")
+                                      and self.code[k].operands.startswith("0")):
+            k += 1
+        return k < len(self.code) and self.code[k].operation not in ("DS", "DC", "LTORG")
 
     def change(self, it: Statement, names: list[str]) -> None:
         for name in names:
@@ -197,7 +233,8 @@ class Contents:
         self.is_reached = True
         self.coming: dict[int, State] = {}
         self.back: dict[int, State] = {}
-        self.bases: dict[int, str] = {}        # registers that a USING names, with its section
+        self.bases: dict[int, set[str]] = {}   # registers that a USING names, with its sections
+        self.same: dict[str, set[str]] = {}    # sections that a dependent USING puts over others
         self.label: tuple[int, str] = (0, "")  # the last line with a name to which no branch of the source leads
 
     # Ways.
@@ -206,6 +243,10 @@ class Contents:
         """What is known at a statement after all ways to it meet."""
         it = self.ways.code[k]
         line, name = it.first + 1, it.name or "line %d" % (it.first + 1)
+        way = (self.ways.structured or {}).get(k)
+        if way and way.above is not None and self.is_reached:
+            self.bring(k, way.above)
+            self.is_reached = False
         states = [self.state] if self.is_reached else []
         states += [state for state in (self.coming.pop(k, None), self.assumed.get(k)) if state is not None]
         if k in self.ways.entries:
@@ -222,12 +263,15 @@ class Contents:
             self.label = (line, it.name)
 
     def leave(self, k: int, text: str) -> None:
-        """Brings the state to the place where a branch leads."""
-        why = Content("lost", "ways with other values meet in the branch of line %d"
-                      % (self.ways.code[k].first + 1), self.ways.code[k].first + 1)
+        """Brings the state to the places where a branch leads."""
         for to in self.ways.targets(k, text):
-            states = self.coming if to > k else self.back
-            states[to] = join(states[to], self.state, why) if to in states else dict(self.state)
+            self.bring(k, to)
+
+    def bring(self, k: int, to: int) -> None:
+        line = self.ways.code[k].first + 1
+        why = Content("lost", "ways with other values meet in the branch of line %d" % line, line)
+        states = self.coming if to > k else self.back
+        states[to] = join(states[to], self.state, why) if to in states else dict(self.state)
 
     # Registers and fields.
 
@@ -249,7 +293,8 @@ class Contents:
     def set(self, register: int, content: Optional[Content], line: int) -> None:
         if register in self.bases and content != self.get(register):
             # Other storage has the same names now.
-            self.forget_section(self.bases[register], "line %d changes its base register" % line, line)
+            for section in self.bases[register]:
+                self.forget_section(section, "line %d changes its base register" % line, line)
         self.state[register] = content or Content("lost", "line %d changes it" % line, line)
 
     def lose(self, registers: Iterable[int], line: int) -> None:
@@ -289,10 +334,12 @@ class Contents:
                                 and (not 0 < length <= 4 or other.startswith(name))]
         else:
             section, part, offset = key[:3]        # type: ignore[index]
+            for other in self.same.get(section, ()):
+                self.forget_section(other, "line %d stores there" % line, line)
             end = offset + length
             is_beyond = length == 0 or offset < 0 or end > self.symbols.sizes.get((section, part), 1 << 31)
             found = [other for other in self.state if isinstance(other, tuple) and other[0] == section and (
-                is_beyond and (other[1] > part or offset < 0 or length == 0)
+                is_beyond and (other[1] > part or offset < 0 or length == 0 or section in self.symbols.scattered)
                 or other[1] == part and offset < other[2] + 4 and other[2] < end)]
         if key and (isinstance(key, str) or length == 4):
             found.append(key)
@@ -338,9 +385,10 @@ class Contents:
         if content is None and base not in self.bases:
             fields = [key for key in self.state if key != ALL and not isinstance(key, int)]
             self.state.update(dict.fromkeys(fields, stored(line)))
-        for register, section in self.bases.items():
+        for register, sections in self.bases.items():
             if register == base or content is not None and self.known(register) == content:
-                self.forget_range((section, 0, offset), length, line)
+                for section in sections:
+                    self.forget_range((section, 0, offset), length, line)
 
     # Lists of parameters.
 
@@ -358,33 +406,95 @@ class Contents:
     def take(self, k: int) -> None:
         """One instruction, or a macro of no meaning here."""
         it = self.ways.code[k]
-        line, operation, parts = it.first + 1, it.operation, it.parts
+        operation, parts = it.operation, it.parts
         if operation in WITHOUT_CODE or operation in ("DS", "DC"):
             self.take_using(it)
             return
-        if operation in STORES and STORES[operation][0] < len(parts):
-            self.take_store(operation, parts, line)
-        if operation in ("EX", "EXRL"):
-            self.execute(parts, line)
-        elif operation in CALLS or operation in CALLS_BY_REGISTER:
+        if operation in self.ways.macros:
+            self.take_own(k, it)
+        elif operation in STRUCTURED:
+            self.take_structured(k, (self.ways.structured or {}).get(k), it)
+        elif operation in CALLS:
             self.call(k, it)
-        elif not is_known(operation):
-            self.take_macro(it)
-        elif parts:
-            self.take_registers(operation, parts, line)
+        else:
+            self.take_one(it)
         if TO_PLACE.fullmatch(operation) and parts:
             self.leave(k, parts[-1])
         if operation in NO_WAY_ON or operation in ("BC", "BCR", "BRC", "JC") and parts[:1] in (["15"], ["B'1111'"]):
             self.is_reached = False
 
+    def take_one(self, it: Statement) -> None:
+        """An instruction that calls nothing, or a macro."""
+        line, operation, parts = it.first + 1, it.operation, it.parts
+        if operation in STORES and STORES[operation][0] < len(parts):
+            self.take_store(operation, parts, line)
+        if operation in ("EX", "EXRL"):
+            self.execute(parts, line)
+        elif operation in CALLS_BY_REGISTER:
+            self.call_by_register(it)
+        elif operation in CALLS:
+            self.state = lost("line %d calls code that may change it" % line, line)
+        elif not is_known(operation):
+            self.take_macro(it)
+        elif parts:
+            self.take_registers(operation, parts, line)
+
+    def take_perhaps(self, it: Statement) -> None:
+        """A statement that may be carried out or not."""
+        before, line = dict(self.state), it.first + 1
+        self.take_one(it)
+        self.state = join(self.state, before, Content("lost", "line %d may change it" % line, line))
+
+    def take_structured(self, k: int, way: Optional[Way], it: Statement) -> None:
+        line = it.first + 1
+        if way is None:
+            self.state = lost("what %s in line %d leads to isn't known: a block isn't closed, or conditional assembly "
+                              "is in it" % (it.operation, line), line)
+            return
+        for test in way.tests:
+            self.take_perhaps(test)
+        self.lose([register for register in map(self.register, way.counters) if register is not None], line)
+        for to in way.to:
+            self.bring(k, to)
+        self.is_reached = way.is_on
+
+    def take_own(self, k: int, it: Statement) -> None:
+        """A call of a macro that the source defines: its statements in any order, each of which may be left out."""
+        body = self.ways.calls.get(k)
+        for _ in range(MOST_PASSES if body is not None else 0):
+            before = dict(self.state)
+            for one in body or ():
+                self.take_part(k, one)
+            if self.state == before:
+                return
+        self.state = lost("line %d calls the macro %s" % (it.first + 1, it.operation), it.first + 1)
+
+    def take_part(self, k: int, it: Statement) -> None:
+        if it.operation in WITHOUT_CODE or it.operation in ("DS", "DC"):
+            self.take_using(it)
+        elif it.operation in STRUCTURED:
+            self.take_structured(k, Way(tests=instructions(it), counters=counters(it)), it)
+        else:
+            self.take_perhaps(it)
+            if TO_PLACE.fullmatch(it.operation) and it.parts:
+                self.leave(k, it.parts[-1])
+
     def take_using(self, it: Statement) -> None:
-        if it.operation == "USING" and it.parts:
-            section = self.ways.key(it.parts[0])
-            for text in it.parts[1:]:
-                base = self.register(text)
-                if base is not None and isinstance(section, tuple) and section[0] in self.symbols.dummies:
-                    self.bases[base] = section[0]
-                    self.forget_section(section[0], "line %d gives it a base" % (it.first + 1), it.first + 1)
+        if it.operation != "USING" or not it.parts:
+            return
+        section = self.ways.key(re.sub(r"^\((.*),.*\)$", r"\1", it.parts[0]))
+        if not isinstance(section, tuple) or section[0] not in self.symbols.dummies:
+            return
+        for text in it.parts[1:]:
+            base = self.register(text)
+            outer = self.ways.key(re.sub(r"^%s\." % SYMBOL, "", text)) if base is None else ""
+            if isinstance(outer, tuple):
+                self.same.setdefault(section[0], set()).add(outer[0])
+                self.same.setdefault(outer[0], set()).add(section[0])
+            found = [base] if base is not None else [other for other, known in self.bases.items() if outer[:1] and outer[0] in known]
+            for register in found or range(16):
+                self.bases.setdefault(register, set()).add(section[0])
+            self.forget_section(section[0], "line %d gives it a base" % (it.first + 1), it.first + 1)
 
     def take_store(self, operation: str, parts: list[str], line: int) -> None:
         at, length = STORES[operation]
@@ -454,11 +564,15 @@ class Contents:
     def take_macro(self, it: Statement) -> None:
         """A macro, or an instruction that isn't known: it may change the registers and fields that it names."""
         line, named = it.first + 1, [register for register in map(self.register, it.parts) if register is not None]
-        if it.operation in self.ways.macros:
-            self.state = lost("line %d calls the macro %s" % (line, it.operation), line)
+        called = it.parts[0] if it.operation == "CALL" and it.parts else ""
+        register = self.register(called[1:-1]) if called.startswith("(") else None
+        if called.upper() in self.ways.labels or register is not None and self.get(register).kind == "label":
+            self.state = lost("line %d calls %s, which may change it" % (line, called), line)
             return
         if it.operation in ("TRT", "TRTR"):
             named = [1, 2]
+        elif it.operation in READERS:
+            named = []
         elif not re.match(r"SVC$|PC$", it.operation):
             named += [(register + 1) % 16 for register in named] + [
                 register for text in re.findall(r"(?<!MF)(?<!SF)=\(([^(),]+)\)", it.operands.upper())
@@ -466,23 +580,26 @@ class Contents:
                 if (register := self.register(text)) is not None]
         self.lose([*named, *(() if it.operation in ("TRT", "TRTR") else LINKAGE)], line)
         for name in re.findall(SYMBOL, re.sub("'[^']*'", "", it.operands)):
-            if self.ways.key(name) != "" and (name.upper() in self.symbols.known or name.upper() in self.state):
+            if self.ways.key(name) != "" and not self.ways.is_code(name) and (
+                    name.upper() in self.symbols.known or name.upper() in self.state):
                 self.forget_stored(name, 0, False, line)
 
+    def call_by_register(self, it: Statement) -> None:
+        """A call of another program by registers 14 and 15, which keeps 2 to 13, or of code of this one."""
+        line, parts = it.first + 1, it.parts
+        first, other = (self.register(parts[0]) if parts else None), self.register(parts[-1] if parts else "")
+        if other == 0 and first is not None:
+            self.set(first, None, line)
+        elif (first, other) == (14, 15) and self.get(15).kind != "label":
+            self.lose(LINKAGE, line)
+        else:
+            self.state = lost("line %d calls code that may change it" % line, line)
+
     def call(self, k: int, it: Statement) -> None:
-        """A call: of another program by registers 14 and 15, which keeps 2 to 13, or of code of this one."""
+        """A call of code of this source."""
         line, parts = it.first + 1, it.parts
         to = parts[-1] if parts else ""
         first = self.register(parts[0]) if parts else None
-        if it.operation in CALLS_BY_REGISTER:
-            other = self.register(to)
-            if other == 0 and first is not None:
-                self.set(first, None, line)
-            elif (first, other) == (14, 15) and self.get(15).kind != "label":
-                self.lose(LINKAGE, line)
-            else:
-                self.state = lost("line %d calls code that may change it" % line, line)
-            return
         if first is not None:
             self.set(first, None, line)
         self.leave(k, to)
@@ -525,8 +642,8 @@ class Contents:
         if operation in LOADS:
             if operation == "ICM" and operands.pop(0) not in ("15", "B'1111'", "X'F'"):
                 return None
-            label = re.fullmatch(r"=[AV]\((%s)\)" % SYMBOL, operands[0])
-            if label and label[1].upper() in self.ways.labels:
+            label = re.match(r"(?:=[AV]\()?(%s)" % SYMBOL, operands[0])
+            if label and label[1].upper() in (self.ways.labels if operands[0][0] == "=" else self.ways.adcons):
                 return Content("label", label[1], line)
             is_half, is_long = operation in ("LH", "LHY"), operation in ("LG", "LTG")
             stored = None if is_half else self.in_field(operands[0] + ("+4" if is_long else ""))
@@ -537,20 +654,21 @@ class Contents:
         """The number of a literal such as =F'100' or =A(SIZE), or of a constant that nothing changes."""
         if not text.startswith("="):
             return self.ways.constant(text, length)
-        _, kind, own, _, whole, data = self.symbols.constant(text[1:])
-        if whole != own or len(data) != own or own != length:
+        count, kind, own, _, whole, data = self.symbols.constant(text[1:])
+        if count != 1 or whole != length or len(data) != length:
             raise Unknown("%s isn't one number" % text)
-        return int.from_bytes(data, "big", signed=kind in "FHAY")
+        return int.from_bytes(data, "big", signed=kind in "FHAY" and own == length)
 
     def counted(self, operation: str, register: int, operands: list[str], line: int) -> Optional[Content]:
         """A sum or product of a number that's known."""
         old = self.known(register)
-        if old is None or old.kind != "number" or operation not in ADDS and operation not in MULTIPLIES:
+        if old is None or operation not in ADDS and (operation not in MULTIPLIES or old.kind != "number"):
             return None
         text = operands[0]
         other = self.symbols.number(text) if operation.endswith("I") else self.word(text, 2 if operation.endswith("H") else 4)
-        result = int(old.what) * other if operation in MULTIPLIES else int(old.what) + ADDS[operation] * other
-        return Content("number", result & 0xFFFFFFFF, line)
+        if operation in MULTIPLIES:
+            return Content("number", int(old.what) * other & 0xFFFFFFFF, line)     # type: ignore[arg-type]
+        return moved(old, ADDS[operation] * other, line)
 
     def address(self, text: str, line: int) -> Optional[Content]:
         """LA: a number, a place in the code, or a displacement from what a register holds."""
@@ -564,7 +682,4 @@ class Contents:
         base = self.register(next(part for part in found.groups()[1:] if part))
         if base == 0:
             return Content("number", displacement, line)
-        old = None if base is None else self.known(base)
-        if old is not None and old.kind == "number":
-            return Content("number", int(old.what) + displacement & 0xFFFFFFFF, line)
-        return old if displacement == 0 else None
+        return moved(self.known(base) if base is not None else None, displacement, line)

@@ -33,7 +33,8 @@ class Adapter:
     """Answers the requests of one client."""
 
     def __init__(self, stream: rpc.Stream, vsm: Optional[str]) -> None:
-        self.stream, self.vsm = stream, vsm
+        self.stream, self.named = stream, vsm           # the program that is named,
+        self.vsm: Optional[str] = None                  # and the one that is taken
         self.sequence = 0
         self.answered: Optional[rpc.Message] = None     # the request that was answered last
         self.client: Optional[Arguments] = None         # what initialize says of it
@@ -156,7 +157,8 @@ class Adapter:
         if not isinstance(path, str) or not path:
             raise Fault("launch needs 'program', the script's path")
         self.program = os.path.abspath(os.path.join(arguments.get("cwd") or "", path))
-        self.vsm = find_program(arguments.get("vsm") or self.vsm)
+        self.named = arguments.get("vsm") or self.named
+        self.vsm = find_program(self.named)
         self.load(arguments)
         self.launch_request = request
         self.event("initialized")
@@ -169,7 +171,9 @@ class Adapter:
             if option not in options and launched.get(option[2:]) is not None:
                 options += [option, str(launched[option[2:]])]
         vsm = self.vsm or ""
-        course = Course(Walk(Script(self.program, data), lambda: Session(vsm, options, SECONDS)))
+        # The library is asked, if it's built; but a program that is named, itself.
+        partner = vsm if self.named else None
+        course = Course(Walk(Script(self.program, data), lambda: Session(partner, options, SECONDS)))
         if self.course:
             course.breaks, course.filters = self.course.breaks, self.course.filters
             self.course.walk.close()

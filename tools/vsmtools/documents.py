@@ -6,7 +6,7 @@ import re
 from typing import Any, Optional
 from urllib.parse import unquote, urlsplit
 
-from .lines import Extent, statements
+from .lines import Extent, statements_from
 from .listing import Listed, Listing
 from .reading import Part, Place, Statement, read
 
@@ -50,7 +50,9 @@ class Document:
         self.world: tuple[int, Any] = (-1, None)    # what exists after that many answers, by vsmtools.tracking
         self.limit = 1024                       # of the history
         self.parsed: dict[tuple[bytes, ...], Statement] = {}
-        self.unread = 0                         # the first line that has changed since the text was read
+        self.unread = 0                         # the first line that has changed since the text was read,
+        self.same = 0                           # and how many of the protocol's lines after all changes haven't
+        self.count = 0                          # of the protocol's lines when it was read
         self.raw: list[bytes] = []
         self.extents: list[Extent] = []
         self.begins: list[int] = []
@@ -67,6 +69,7 @@ class Document:
         where, first = given.get("range"), 0
         if where is None:
             self.text, self.ends = cut_lines(given["text"])
+            self.same = 0
         else:
             (first, x), (last, y) = self.bounded(where["start"]), self.bounded(where["end"])
             if (last, y) < (first, x):
@@ -78,6 +81,7 @@ class Document:
             text, ends = cut_lines(head + given["text"] + tail)
             if self.ends[last]:
                 del text[-1], ends[-1]
+            self.same = min(self.same, len(self.text) - 1 - last)
             self.text[first:last + 1], self.ends[first:last + 1] = text, ends
         line = bisect.bisect_right(self.begins, first)
         self.valid, self.unread = min(self.valid, line), min(self.unread, line)
@@ -98,11 +102,29 @@ class Document:
     # The script's lines.
 
     def read(self) -> None:
-        """Takes the lines of the script, from the first one that has changed, and its statements."""
+        """Takes the lines of the script that have changed, and its statements from there up to one that begins as before."""
         if self.unread > len(self.raw):
             return
         kept = self.extents[:bisect.bisect_left(self.extents, self.unread, key=lambda it: it.last)]
         above = kept[-1].last if kept else 0
+        before, extents = len(self.raw), self.extents
+        below = 0 if "\r" in self.ends or len(self.begins) != len(self.raw) or before != self.count else self.same
+        if below:
+            self.raw[above:before - below] = map(data_of, self.text[above:len(self.text) - below])
+            self.begins = list(range(len(self.text))) if len(self.text) != before else self.begins
+        else:
+            self.read_lines(above)
+        moved, again, made = len(self.raw) - before, len(self.raw) - below, tuple.__new__
+        for it in statements_from(self.raw, above):
+            old = bisect.bisect_left(extents, it.first - moved, key=lambda one: one.first)
+            if below and it.first > again and old < len(extents) and extents[old].first == it.first - moved:
+                kept += [made(Extent, (first + moved, last + moved)) for first, last in extents[old:]] if moved else extents[old:]
+                break
+            kept.append(it)
+        self.extents, self.unread, self.same, self.count = kept, len(self.raw) + 1, len(self.text), len(self.text)
+
+    def read_lines(self, above: int) -> None:
+        """Takes the lines after these."""
         first, before = self.begins[above] if above < len(self.begins) else 0, "\n"
         del self.raw[above:], self.begins[above:]
         for k in range(first, len(self.text)):
@@ -112,9 +134,6 @@ class Document:
                 self.raw.append(data_of(self.text[k]))
                 self.begins.append(k)
             before = self.ends[k]
-        below = statements(self.raw[above:])
-        self.extents = kept + [Extent(it.first + above, it.last + above) for it in below]
-        self.unread = len(self.raw) + 1
 
     def statement(self, extent: Extent) -> Statement:
         """A statement's parts; each text is read once."""

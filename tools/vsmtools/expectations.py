@@ -61,10 +61,11 @@ class Script:
 
 @dataclass(frozen=True)
 class Difference:
-    """What differs, with the line of the script that it's about, and the lines of a diff."""
+    """What differs, with the line of the script that it's about, the lines of a diff, and the statement's first line."""
     line: int
     text: str
     diff: tuple[str, ...] = ()
+    statement: int = 0
 
 
 def check_is_text(name: str, data: bytes) -> None:
@@ -168,6 +169,14 @@ def place_ahead(script: Script, ahead: Sequence[ExpectedLine]) -> None:
 
 def told(program: str, script: Script, seconds: float) -> list[Answer]:
     """The answers of a program to a script. Whatever is no whole run of answers is a fault of the script."""
+    given, fault = heard(program, script, seconds)
+    if fault:
+        raise fault
+    return given
+
+
+def heard(program: str, script: Script, seconds: float) -> tuple[list[Answer], Optional[Fault]]:
+    """The answers of a program to a script, and what is wrong with the run otherwise. A fault if there are none."""
     name = os.path.basename(program)
     try:
         done = run_anyhow(program, script.options, script.data, seconds)
@@ -179,38 +188,40 @@ def told(program: str, script: Script, seconds: float) -> list[Answer]:
     if done.status == 16 and script.options_line:
         options = " ".join(script.options)
         raise script.wrong("%s refuses '%s': %s" % (name, options, said), script.options_line, 4)
-    if done.status < 0:
-        raise script.wrong("%s was ended by signal %d" % (name, -done.status))
-    if done.status not in (0, 4):
-        said = said or "nothing on standard error"
-        raise script.wrong("%s ended with status %d: %s" % (name, done.status, said))
     try:
         given = answers(done.output)
     except Fault as fault:
         raise script.wrong("line %d that %s printed: %s" % (fault.line or 0, name, fault.text)) from None
-    check_run(name, script, done, given)
-    return given
+    why = wrong_end(name, done, said) or wrong_run(name, script, done, given)
+    if why and not given:
+        raise script.wrong(why)
+    return given, script.wrong(why) if why else None
 
 
-def check_run(name: str, script: Script, done: Run, given: Sequence[Answer]) -> None:
+def wrong_end(name: str, done: Run, said: str) -> str:
+    if done.status < 0:
+        return "%s was ended by signal %d" % (name, -done.status)
+    if done.status not in (0, 4):
+        return "%s ended with status %d: %s" % (name, done.status, said or "nothing on standard error")
+    return ""
+
+
+def wrong_run(name: str, script: Script, done: Run, given: Sequence[Answer]) -> str:
     """Numbers ascend, each a statement's first line; status and standard error are those of the answers."""
     begins = {it.extent.first for it in script.tested}
     before = 0
     for answer in given:
         if answer.line not in begins:
-            raise script.wrong("%s answered line %d, '%s', where no statement begins"
-                               % (name, answer.line, answer.text))
+            return "%s answered line %d, '%s', where no statement begins" % (name, answer.line, answer.text)
         if answer.line <= before:
-            raise script.wrong("%s answered line %d after line %d" % (name, answer.line, before))
+            return "%s answered line %d after line %d" % (name, answer.line, before)
         before = answer.line
     if done.output and not done.output.endswith(b"\n"):
-        raise script.wrong("the last line that %s printed has no end" % name)
+        return "the last line that %s printed has no end" % name
     wanted = 4 if any(answer.is_refused for answer in given) else 0
     if done.status != wanted:
-        raise script.wrong("%s ended with status %d, and %d goes with these answers"
-                           % (name, done.status, wanted))
-    if done.errors:
-        raise script.wrong("%s wrote on standard error: %s" % (name, done.errors.splitlines()[0]))
+        return "%s ended with status %d, and %d goes with these answers" % (name, done.status, wanted)
+    return "%s wrote on standard error: %s" % (name, done.errors.splitlines()[0]) if done.errors else ""
 
 
 def texts(answer: Optional[Answer]) -> list[str]:
@@ -231,7 +242,7 @@ def compare(script: Script, given: Iterable[Answer]) -> list[Difference]:
 def unanswered(tested: Tested) -> Difference:
     line = tested.expected[0].line if tested.expected else tested.extent.first
     return Difference(line, "line %d isn't answered" % tested.extent.first,
-                      tuple("-" + it.text for it in tested.expected))
+                      tuple("-" + it.text for it in tested.expected), tested.extent.first)
 
 
 def differs(tested: Tested, got: list[str]) -> Optional[Difference]:
@@ -240,7 +251,7 @@ def differs(tested: Tested, got: list[str]) -> Optional[Difference]:
     statement = tested.extent.first
     if tested.is_blank:
         line = next(it.line for it in tested.expected if it.text == BLANK)
-        return Difference(line, "the answer to line %d is to be filled in" % statement)
+        return Difference(line, "the answer to line %d is to be filled in" % statement, (), statement)
     if not got:
         return unanswered(tested)
     if not wanted or wanted == got:
@@ -248,7 +259,7 @@ def differs(tested: Tested, got: list[str]) -> Optional[Difference]:
     unlike = (at for at, (one, other) in enumerate(zip(wanted, got)) if one != other)
     line = tested.expected[min(next(unlike, len(got)), len(wanted) - 1)].line
     return Difference(line, "line %d gets another answer (- expected, + answered)" % statement,
-                      tuple(diff_lines(wanted, got)))
+                      tuple(diff_lines(wanted, got)), statement)
 
 
 def diff_lines(wanted: list[str], got: list[str]) -> Iterator[str]:

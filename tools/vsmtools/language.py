@@ -180,7 +180,8 @@ class Server:
                 it.due = time.monotonic()
 
     def shut_down(self, _params: Message) -> None:
-        self.runs.end_all()
+        for number in self.runs.end_all():
+            self.fail(number, Code.CANCELLED, "the server is shut down")
         self.is_shut = True
 
     # Documents.

@@ -42,16 +42,18 @@ def is_passed_over(line: bytes) -> bool:
 
 def statements(lines: Sequence[bytes]) -> list[Extent]:
     """The statements of a script in turn. Each is answered under the number of its first line."""
-    found: list[Extent] = []
-    at = 0
+    return list(statements_from(lines, 0))
+
+
+def statements_from(lines: Sequence[bytes], at: int) -> Iterator[Extent]:
+    """The statements after some lines, at whose end none is open."""
     while at < len(lines):
         first = at
         if not is_passed_over(lines[at]):
             while is_continued(lines[at]) and at + 1 < len(lines):
                 at += 1
-            found.append(Extent(first + 1, at + 1))
+            yield Extent(first + 1, at + 1)
         at += 1
-    return found
 
 
 def options_for(name: str, script: bytes, given: Sequence[str] = ()) -> list[str]:

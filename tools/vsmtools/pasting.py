@@ -6,20 +6,23 @@ register or field holds is followed along all branches; the script has the macro
 from __future__ import annotations
 
 import re
-from dataclasses import dataclass, field
-from typing import Optional, Sequence
+from dataclasses import dataclass, field, replace
+from typing import Callable, Optional, Sequence
+
+from vsm_bench import Answer
 
 from .assembler import BRANCHES, SYMBOL, Statement, Symbols, Unknown, mark_assembled, read_statements, split_operands
 from .contents import LINKAGE, OWN_MACROS as MACROS, Content, Contents, State, Ways, join, lost
-from .lines import fold
+from .lines import MOST_LINES, fold
 from .lists import SINGLE, Lists, keyed, list_name, single
+from .variables import Variables
 
 OWN = {"RUN", "ENDTASK", "POKE", "PEEK", "MAP", "BACK", "FORWARD"}
 NUMBERS = {"LENGTH", "LV", "SP", "PCELLCT", "SCELLCT", "CSIZE", "GSPV", "SHSPV"}
 NO_MEANING = {"KEY", "CALLRKY", "TCBADDR", "OWNER", "EXECUTABLE", "CHECKZERO", "STARTBDY", "CONTBDY",
               "RTCD", "BRANCH", "TCB", "ECB", "ETXR", "EPLOC", "DE", "DCB", "PARAM", "VL", "LPMOD", "DPMOD",
               "ESTAI", "STAI", "TASKLIB", "STAE", "SVAREA", "DISP", "SM", "JSCB", "JSTCB", "TID", "ALCOPY", "PURGE",
-              "ASYNCH", "TERM", "ERRET", "NSHSPV", "NSHSPL", "RSAPF", "MULTIHDR"}
+              "ASYNCH", "TERM", "ERRET", "NSHSPV", "NSHSPL", "RSAPF", "MULTIHDR", "SDWALOC31", "USE2GTO32G"}
 ROUNDS = 4             # along later branches, before nothing is known where one leads
 AS_THEY_STAND = {"EP", "COND", "BNDRY", "SZERO", "RELATED", "LINKAGE", "REGS"}
 # The keyword of what gets the address.
@@ -28,6 +31,7 @@ GIVING = {("STORAGE", "OBTAIN"): "ADDR", ("CPOOL", "GET"): "CELL",
 LIST_FORMS = {"FREEMAIN": {"V", "VC", "VU"}, "CPOOL": {"LIST"}}
 LOCATIONS = re.compile(r"(BELOW|24|ANY|31|RES)|\((BELOW|24|ANY|31|RES)(,(BELOW|ANY|24|31|64))?\)")
 NAME = re.compile(r"[A-Z$#@_][A-Z0-9$#@_]{0,62}")
+MOST_RUNS = 6          # of a script, before an address in it isn't known
 CONDITIONAL = {"EXITM", "SETA", "SETB", "SETC", *BRANCHES}
 
 
@@ -36,6 +40,7 @@ class Macro:
     """A macro that is taken: its operands in turn, and what gets the address that it obtains."""
     statement: Statement
     operation: str
+    room: int                     # how many lines it may have: those up to the next macro
     form: str = ""
     operands: list[str] = field(default_factory=list)
     place: str = ""               # what ADDR, A or CELL names: a name, or a register in parentheses
@@ -61,13 +66,14 @@ class Macro:
         return "COND=YES" in self.operands or bool({"RC", "VRC", "EC", "C", "COND"} & set(self.operands[:2]))
 
     def folded(self, more: int = 0) -> Optional[list[str]]:
-        """Its lines, at most as many as the source has for it; None if it, or it with this much more, needs more."""
-        return fold(self.text() + "_" * more, self.statement.last - self.statement.first + 1)
+        """Its lines, over those of the source up to the next macro; None if it, or it with this much more, needs more."""
+        return fold(self.text() + "_" * more, self.statement.last - self.statement.first + 1) or \
+            fold(self.text() + "_" * more, min(self.room, MOST_LINES))
 
     def lines(self) -> list[str]:
         """Its lines with the remarks that have room."""
         lines = self.folded() or []
-        if lines and self.remarks and len(lines[-1]) < 50:
+        if lines and self.remarks and (self.operands or self.place) and len(lines[-1]) < 50:
             lines[-1] = (lines[-1].ljust(40) + " " + "; ".join(self.remarks))[:71]
         return lines
 
@@ -106,17 +112,20 @@ class Paste:
     """One source on its way to a script."""
 
     def __init__(self, lines: list[str], equates: dict[str, int], subpools: dict[int, int],
-                 copies: Sequence[tuple[str, list[str]]] = (), given: Sequence[Given] = ()) -> None:
+                 copies: Sequence[tuple[str, list[str]]] = (), given: Sequence[Given] = (),
+                 variables: Optional[dict[str, str]] = None) -> None:
         self.lines, self.given_subpools = lines, subpools
         self.all_given, self.lists = list(given), Lists()
         self.told: list[tuple[int, int, str]] = []      # of the source, before any macro
         self.notes = self.told
         self.of_registers: set[tuple[int, int, str]] = set()
         self.lost_lines = 0                     # macros that a continuation hides
-        self.own_macros: set[str] = set()
+        self.own_macros: dict[str, list[Statement]] = {}      # each its prototype and what is in it
         self.statements = self.read()
         self.code = [it for it in self.statements if not it.is_comment and it.operation != ".MACRO"]
-        mark_assembled(self.code, lines)
+        shared = [name.lstrip("&").upper() for body in self.own_macros.values() for it in body
+                  if it.operation.startswith("GBL") for name in it.parts]
+        mark_assembled(self.code, lines, Variables(variables or {}, shared))
         self.symbols = Symbols(equates)
         for name, copy in copies:
             self.copy(name, copy)
@@ -129,6 +138,16 @@ class Paste:
         self.literal = {int(text) for line in lines for text in re.findall(r"SPV?=(\d{1,3})(?!\d)", line[:71])}
         self.literal |= {symbol.value.number for symbol in self.symbols.known.values() if symbol.value is not None
                          and not symbol.value.places}      # one of them may be a subpool
+        self.faulty: dict[int, str] = {}        # macros by their first lines, with the fault that vsm finds in each
+        self.addresses: dict[int, int] = {}     # and what vsm answered, of those into whose areas an address leads
+        self.next_macro: dict[int, int] = {}
+        after = len(lines)
+        for it in reversed(self.code):
+            if it.operation in MACROS or it.operation in OWN:
+                self.next_macro[it.first] = after
+                after = it.first
+        self.residence = self.read_residence()
+        self.is_new = False                     # that a round found a subpool's number in a register
         self.begin({})
 
     def begin(self, assumed: dict[int, State]) -> None:
@@ -141,6 +160,7 @@ class Paste:
         for name in self.lists.known:
             self.contents.state[self.contents.list_key(name)] = Content("list", 0, 0)
         self.macros: dict[int, Macro] = {}      # by their first lines, from 0
+        self.asked: set[int] = set()            # macros into whose areas an address leads
         self.since = 0                          # the line from which on macros' addresses are known
         self.held: dict[int, int] = {}          # which macro's address vsm's registers have
         self.names: dict[str, int] = {}         # and names
@@ -158,7 +178,7 @@ class Paste:
     def read(self) -> list[Statement]:
         """The statements; the lines of macro definitions are marked by the operation '.MACRO'."""
         found = read_statements(self.lines)
-        depth, is_prototype = 0, False
+        depth, body = 0, None
         for it in found:
             for number in range(it.first + 1, it.last + 1):
                 if self.lines[number][:15].strip():
@@ -167,12 +187,14 @@ class Paste:
                     hidden = re.match(r"\S*\s+(\w+)", self.lines[number])
                     self.lost_lines += bool(hidden and hidden[1].upper() in MACROS)
             if it.operation == "MACRO":
-                self.note(it.first + 1, 1, "a macro definition isn't taken, nor are calls of its macro worked out")
+                self.note(it.first + 1, 1, "a macro definition isn't taken: its calls may change what its instructions do")
                 depth += 1
+                body = [] if depth == 1 else body
+            elif depth and body == [] and not it.is_comment:
+                self.own_macros[it.operation] = body = [replace(it)]
+            elif depth and body and not it.is_comment:
+                body.append(replace(it))
             if depth and not it.is_comment:
-                if is_prototype:
-                    self.own_macros.add(it.operation)
-                is_prototype = it.operation == "MACRO"
                 depth -= it.operation == "MEND"
                 it.operation = ".MACRO"
         return found
@@ -187,18 +209,46 @@ class Paste:
                 self.note(1, 1, "--copy %s, line %d: %s isn't taken from there" % (name, it.first + 1, it.operation))
             elif not depth and it.operation != "MEND":
                 found.append(it)
-        mark_assembled(found, lines)
+        mark_assembled(found, lines, Variables({}))
         for it, why in self.symbols.read(found):
             self.note(1, 1, "--copy %s, line %d: %s" % (name, it.first + 1, why))
         self.symbols.leave_section()
+
+    def read_residence(self) -> Optional[Statement]:
+        """The RMODE that says that the program is above the line."""
+        found = [it for it in self.code if it.operation == "RMODE" and not it.is_skipped]
+        above = [it for it in found if it.operands.upper() in ("31", "ANY", "64")]
+        for it in above:
+            self.told.append((it.first + 1, 1, "RMODE %s: run vsm with --residence 31" % it.operands.upper()
+                              + ("; another RMODE says 24" if len(above) < len(found) else "")))
+        return above[0] if above and len(above) == len(found) else None
+
+    def settled(self, ask: Callable[[list[str]], list[Answer]]) -> list[str]:
+        """The script as vsm reads it: a statement that it finds faulty isn't taken, and an address into an area is a number
+        by what it answers there."""
+        script = self.paste()
+        for _ in range(MOST_RUNS):
+            answers = {it.line - 1: it for it in ask(script)}
+            faults = {first: it.text for first, it in answers.items() if it.text.startswith("FAULT") and first in self.macros}
+            addresses = {first: address for first in self.asked if first in answers
+                         and (address := answers[first].address) is not None}
+            if not faults and all(self.addresses.get(first) == addresses.get(first) for first in self.asked):
+                return script
+            self.faulty.update(faults)
+            self.addresses = addresses
+            self.begin({})
+            script = self.paste()
+        self.addresses = {}
+        self.begin({})
+        return self.paste()
 
     def paste(self) -> list[str]:
         """The lines of the script, as many as the source has. What a later branch brings to a statement is what the
         previous round found; once that stays the same it's right, and if it doesn't nothing is known there."""
         for rounds in range(ROUNDS + 1):
-            assumed, changed = self.contents.assumed, len(self.lists.changed)
+            assumed, changed, self.is_new = self.contents.assumed, len(self.lists.changed), False
             self.round()
-            if rounds == ROUNDS or self.contents.back == assumed and len(self.lists.changed) == changed:
+            if rounds == ROUNDS or self.contents.back == assumed and len(self.lists.changed) == changed and not self.is_new:
                 break
             assumed = self.contents.back
             if rounds == ROUNDS - 1:
@@ -235,7 +285,7 @@ class Paste:
         elif it.operation in OWN:
             self.own(it)
         else:
-            if it.operation in CONDITIONAL:
+            if it.operation in CONDITIONAL and not it.is_carried_out:
                 self.note(it.first + 1, 1, "%s isn't carried out" % it.operation)
             elif it.operation == "COPY":
                 self.note(it.first + 1, 1, "COPY %s isn't carried out: --copy FILE takes its definitions" % it.operands)
@@ -282,12 +332,14 @@ class Paste:
             self.held, self.names, self.are_tasks_known = {}, {}, False
 
     def whole(self) -> list[str]:
-        found: list[str] = []
+        found = [as_comment(line) for line in self.lines]
+        if self.residence and self.residence.first < min(self.written, default=len(found)):
+            found[self.residence.first] = "*! --residence 31"
         for it in self.statements:
             lines = self.written.get(it.first, [])
             if lines and it.operation in MACROS and NAME.fullmatch(it.name) and len(it.name + lines[0]) <= 71:
                 lines = [it.name + lines[0], *lines[1:]]
-            found += lines + [as_comment(line) for line in self.lines[it.first + len(lines):it.last + 1]]
+            found[it.first:it.first + len(lines)] = lines
         return found
 
     def store(self, it: Statement) -> None:
@@ -307,17 +359,30 @@ class Paste:
                 raise Unknown("whether it's assembled isn't known, by line %d" % it.doubt)
             if it.misplaced:
                 raise Unknown(it.misplaced)
+            if it.first in self.faulty:
+                raise Unknown("its statement would be answered %s" % self.faulty[it.first])
             found = self.taken(it)
         except Unknown as why:
             self.left += 1
             line, column = it.place((why.column or 1) - 1)
             self.note(line, column, "%s isn't taken: %s" % (it.operation, why))
-            self.contents.take_macro(it)
+            self.left_out(it)
             return
         self.macros[it.first] = found
         for text in found.notes:
             self.note(found.line, 1, text)
         self.behind(found, it.first)
+
+    def left_out(self, it: Statement) -> None:
+        """What a macro that isn't taken changes: what it gives, and a list, but nothing that it only reads."""
+        form = it.parts[0].upper() if it.parts else ""
+        gives = {"STORAGE": {"ADDR"}, "GETMAIN": {"A"}, "CPOOL": {"CELL", "CPID"} if form == "BUILD" else {"CELL"}}
+        is_giving = form not in ("RELEASE", "FREE", "DELETE")
+        changed = {"MF", "SF", "REGS", *(gives.get(it.operation, set()) if is_giving else set())}
+        parts = [text for text in it.parts if keyed(text)[0] in changed or "&" in text]
+        self.contents.take_macro(replace(it, operands=",".join(parts)))
+        if "REGS=USE" in it.operands.upper():
+            self.contents.lose((2, 3, 4), it.first + 1)
 
     def behind(self, it: Macro, number: int) -> None:
         """What registers and names hold after a macro that is taken."""
@@ -369,7 +434,7 @@ class Paste:
 
     def taken(self, it: Statement) -> Macro:
         """A macro with its operands as a script has them; a fault says why it isn't taken."""
-        found = Macro(it, single(it.operation))
+        found = Macro(it, single(it.operation), self.next_macro[it.first] - it.first)
         if "&" in re.sub(r"'[^']*'", "", it.operands):
             raise Unknown("it has a variable symbol", it.operands.index("&") + 1)
         operands = self.lists.merged(it, self.contents)
@@ -378,6 +443,8 @@ class Paste:
             operands = self.of_one(found, operands)
         if found.form in LIST_FORMS.get(it.operation, ()):
             raise Unknown("form %s has its operands in a list" % found.form)
+        if it.is_filled:
+            self.note(it.first + 1, 1, "with the values of variable symbols: %s" % it.operands, True)
         for at, text in operands:
             if "&" in re.sub(r"'[^']*'", "", text):
                 raise Unknown("its list has a variable symbol", at + 1)
@@ -388,11 +455,20 @@ class Paste:
         found.keyword = GIVING.get((found.operation, found.form), found.keyword)
         if found.operation == "DETACH" and not any(text.isdigit() for text in found.operands[:1]):
             raise Unknown("it names no task")
-        if found.operation == "GETMAIN" and found.form == "R" and "LV=(0)" in found.operands:
-            raise Unknown("form R takes no length from register 0")
+        if found.form == "R":
+            self.check_register_form(found)
         if found.folded(8 if found.place else 0) is None:
-            raise Unknown("it would need more lines than the source has for it")
+            raise Unknown("it would need more lines than the source has up to the next macro")
         return found
+
+    def check_register_form(self, it: Macro) -> None:
+        """Form R: a length that a variable request got isn't one of it; a release of length 0 is that of a subpool."""
+        if "LV=(0)" in it.operands:
+            raise Unknown("form R takes no length from register 0")
+        if sum(text.startswith("SP=") for text in it.operands) > 1:
+            raise Unknown("register 0 has a subpool, and SP= is written too")
+        is_whole = it.operation == "FREEMAIN" and not any(text.startswith("A=") for text in it.operands)
+        it.operands = [text for text in it.operands if text != "LV=0" or not is_whole]
 
     def of_one(self, it: Macro, operands: list[tuple[int, str]]) -> list[tuple[int, str]]:
         """A form with a list of lengths as the one with that length, if the list has one."""
@@ -448,12 +524,12 @@ class Paste:
         key, value = head[1].upper(), head[2]
         if key == "LA" and it.operation == "GETMAIN":
             raise Unknown("form %s has no LA=, which names a list: VC, VU, LC and LU have it" % it.form)
-        if key in ("MF", "LA", "SF", "INADDR"):
-            raise Unknown("%s= names a list or place in the program's storage" % key)
-        if key in NO_MEANING or key == "BNDRY" and it.operation == "CPOOL":
+        if key in NO_MEANING or (key, it.operation) in (("BNDRY", "CPOOL"), ("MF", "ATTACH")):
             it.remarks.append("%s dropped" % key)
             self.note(it.line, 1, "%s=%s has no meaning here and is dropped" % (key, value))
             return
+        if key in ("MF", "LA", "SF", "INADDR"):
+            raise Unknown("%s= names a list or place in the program's storage" % key)
         taken = self.value(it, key, value)
         if taken is not None:
             it.operands.append("%s=%s" % (key[:-1] + "V" if key in ("GSPL", "SHSPL") else key, taken))
@@ -462,6 +538,10 @@ class Paste:
         """What an operand has in the script; None if it isn't written."""
         if key in AS_THEY_STAND or key == "LOC" and LOCATIONS.fullmatch(text.upper()):
             return text.upper()
+        frames = re.fullmatch(r"\((BELOW|24|ANY|31|RES),(PAGEFRAMESIZE\w+)\)", text.upper()) if key == "LOC" else None
+        if frames:
+            self.note(it.line, 1, "%s has no meaning here and is dropped" % frames[2])
+            return frames[1]
         if key == "LOC":
             raise Unknown("LOC=%s isn't read" % text.upper())
         known = {**dict.fromkeys(NUMBERS, self.length), "CPID": self.pool, "HDR": self.header, "GSPL": self.subpool_list,
@@ -513,13 +593,19 @@ class Paste:
                           True)
                 return "(0)"
             if content.kind != "number":
-                raise Unknown("register %d holds an address or a name of line %d" % (register, content.line))
+                raise Unknown("register %d holds %s of line %d" % (register, "the length that was got, no longer in register 0,"
+                                                                   if content.kind == "length" else "an address or a name",
+                                                                   content.line))
             number = int(content.what)
             label, name = self.contents.label
             between = "; a branch to %s in line %d may change it" % (name, label) if content.line <= label else ""
             self.note(it.line, 1, "%s=%s is taken as %d, of line %d%s" % (key, text, number, content.line, between), True)
         if not 0 <= number <= 0xFFFFFFFF:
             raise Unknown("%d is no number of a word" % number)
+        if (it.form, key, register) == ("R", "LV", 0) and number >> 24:
+            it.operands.append("SP=%d" % self.subpool(it, number >> 24))
+            self.note(it.line, 1, "the first byte of register 0 is the subpool, %d" % (number >> 24), True)
+            number &= 0xFFFFFF
         return str(self.subpool(it, number) if key in ("SP", "GSPV", "SHSPV") else number)
 
     def subpool(self, it: Macro, number: int) -> int:
@@ -527,6 +613,11 @@ class Paste:
         if number in self.subpools:
             chosen = self.subpools[number]
         elif number <= 127:
+            if number not in self.literal:
+                self.literal.add(number)
+                self.is_new = True
+            if number in self.chosen and number not in self.given_subpools.values():
+                raise Unknown("subpool %d stands for another one: --sp gives that another number" % number)
             return number
         else:
             free = [k for k in range(127, 0, -1) if k not in self.chosen and k not in self.literal]
@@ -616,12 +707,14 @@ class Paste:
             return str(self.symbols.number(text))
         if content.kind == "number":
             raise Unknown("%s holds the number %s, of line %d, and no address" % (text, content.what, content.line))
+        if content.kind == "inside":
+            return self.inside(it, text, content)
         if content.kind != "area":
             raise Unknown("%s holds no area, but what line %d gave" % (text, content.line))
         number = int(content.what)
         macro = self.macros[number]
         is_name_wanted = it.operation == "FREEMAIN" and it.form in ("E", "EC", "EU")
-        holding = [register for register, other in self.held.items() if other == number]
+        holding = [register for register, other in self.held.items() if other == number and register]
         wanted = self.in_parentheses(text)
         if holding and not is_name_wanted:
             found = "(%d)" % (wanted if wanted in holding else holding[0])
@@ -629,6 +722,19 @@ class Paste:
             found = self.name_of(macro, number)
         if found not in (text.upper(), "(%s)" % wanted):
             self.note(it.line, 1, "%s is taken as %s, which has the address of line %d" % (text, found, macro.line), True)
+        return found
+
+    def inside(self, it: Macro, text: str, content: Content) -> str:
+        """The number of an address in the middle of an area."""
+        number, distance = content.what       # type: ignore[misc]
+        macro = self.macros[number]
+        self.asked.add(number)
+        if number not in self.addresses:
+            raise Unknown("%s is %d bytes into the area of line %d, whose address no run of the script gave"
+                          % (text, distance, macro.line))
+        found = "X'%08X'" % (self.addresses[number] + distance & 0xFFFFFFFF)
+        self.note(it.line, 1, "%s is taken as %s, %d bytes into the area of line %d, as vsm answers" % (
+            text, found, distance, macro.line), True)
         return found
 
     def name_of(self, macro: Macro, number: int) -> str:

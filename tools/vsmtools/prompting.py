@@ -303,20 +303,22 @@ class Prompt:
         if len(words) != 3 or words[0].lower() != "until" or words[2].lower() != "changes":
             raise Fault("it's .back until P changes, or P,N of N bytes; BACK N steps back by N changes")
         place = self.place(words[1])
-        kept = len(self.bench.kept)
-        now = self.bench.peek(place)
+        kept, name = len(self.bench.kept), words[1].upper().partition(",")[0]
+        now, word = self.bench.peek(place), self.word(name)
         if now.startswith("FAULT"):
             raise Fault("'%s' is no address with a number of bytes from 1 to 256: %s" % (words[1], now))
         try:
             for steps in range(1, kept + 1):
                 begin = self.bench.kept[-1]
                 self.bench.step("BACK 1")
-                was = self.bench.peek(place)
-                if was != now:
+                was, before = self.bench.peek(place), self.word(name)
+                if was != now or before != word:
+                    self.show("  back to before line %d, over %d change%s" % (begin + 1, steps, "" if steps == 1 else "s"))
                     self.bench.log.append(" BACK %d" % steps)
                     self.show("%07d KEPT=%d" % (len(self.bench.log), len(self.bench.kept)))
-                    self.show("  undone last: %s   %s -> %s" % (self.bench.text(begin).strip(), *(
-                        "unassigned" if it.startswith("ABEND") else it for it in (was, now))))
+                    values = [name + (" isn't defined" if it is None else "=%08X" % it) for it in (before, word)] \
+                        if before != word else ["unassigned" if it.startswith("ABEND") else it for it in (was, now)]
+                    self.show("  undone last: %s   %s -> %s" % (self.bench.text(begin).strip(), *values))
                     return
         except KeyboardInterrupt:
             self.bench.step("FORWARD %d" % (kept - len(self.bench.kept)))
@@ -324,16 +326,23 @@ class Prompt:
         self.bench.step("FORWARD %d" % kept)
         self.show("  none of the %d changes that are kept changes it" % kept)
 
-    def place(self, text: str) -> str:
-        """An address that stays the same while names and registers change, with a number of bytes."""
-        name, _, count = text.upper().partition(",")
+    def word(self, name: str) -> Optional[int]:
+        """What a name or register holds; None if it's none that holds anything."""
+        if not re.fullmatch(r"[A-Z$#@_][\w$#@]*|\(R?\d+\)", name):
+            return None
         shown = self.bench.map()
         words = {it.name: it.word for it in shown.names}
         for task in shown.tasks:
             if task.is_current:
-                words.update(("(%d)" % k, word) for k, word in enumerate(task.registers))
-        if name in words:
-            name = "X'%X'" % words[name]
+                words.update(("(%s%d)" % (r, k), word) for k, word in enumerate(task.registers) for r in ("", "R"))
+        return words.get(name)
+
+    def place(self, text: str) -> str:
+        """An address that stays the same while names and registers change, with a number of bytes."""
+        name, _, count = text.upper().partition(",")
+        word = self.word(name)
+        if word is not None:
+            name = "X'%X'" % word
         elif re.fullmatch(r"[A-Z$#@_][\w$#@]*", name):
             raise Fault("%s isn't defined" % name)
         return "%s,%s" % (name, count or "4")

@@ -13,6 +13,7 @@ from typing import Any, NoReturn, Optional, Sequence
 from .command import Fault
 
 Message = dict[str, Any]
+ENCODER = json.JSONEncoder(ensure_ascii=False, separators=(",", ":"))
 MOST_HEADER = 8192
 MOST_BODY = 512 << 20    # a script of 268,435,456 bytes, and what JSON adds to it
 HEADER_END = re.compile(rb"\r?\n\r?\n")
@@ -144,7 +145,7 @@ class Stream:
     def write(self, message: Message) -> None:
         """Sends a message; a fault if the client has gone."""
         # A script's bytes that are no UTF-8 become question marks: clients take half characters for errors.
-        body = json.dumps(message, ensure_ascii=False, separators=(",", ":")).encode("utf-8", "replace")
+        body = ENCODER.encode(message).encode("utf-8", "replace")
         data = memoryview(b"Content-Length: %d\r\n\r\n" % len(body) + body)
         try:
             while data:

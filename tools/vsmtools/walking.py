@@ -164,6 +164,8 @@ class Walk:
     @property
     def place(self) -> int:
         """The number of the statement that comes next."""
+        if self.steps and self.steps[-1].statement is not None:
+            return self.steps[-1].statement + 1
         return next((it.statement + 1 for it in reversed(self.steps) if it.statement is not None), 0)
 
     @property

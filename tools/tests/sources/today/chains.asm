@@ -1,0 +1,96 @@
+CHAINS   TITLE 'CHAINS - keeps orders and their items on chains'
+CHAINS   CSECT
+CHAINS   AMODE 31
+CHAINS   RMODE ANY
+         YREGS
+         SAVE  (14,12)
+         LARL  R12,CHNSTAT
+         USING CHNSTAT,R12
+         STORAGE OBTAIN,LENGTH=ANCLEN,ADDR=(R11)
+         USING ANCHOR,R11
+         ST    R13,ANCSAVE+4
+         LA    R13,ANCSAVE
+         XC    ANCFIRST,ANCFIRST
+         LHI   R2,ORDLEN
+         STORAGE OBTAIN,LENGTH=(R2),SP=40,ADDR=(R8)
+OLD      USING ORDER,R8
+         USING ITEM,OLD.ORDITEM        dependent
+         ST    R8,ANCFIRST
+         XC    OLD.ORDNEXT,OLD.ORDNEXT
+         MVC   ITEMNAME,=CL16'FIRST'
+         STORAGE OBTAIN,LENGTH=(R2),SP=40,ADDR=(R9)
+NEW      USING ORDER,R9
+         MVC   NEW.ORDNEXT,ANCFIRST
+         ST    R9,ANCFIRST
+         ST    R9,ANCLAST
+         STORAGE OBTAIN,LENGTH=EXTLEN,SP=41
+         ST    R1,NEW.ORDEXT
+         LR    R5,R1
+         MVC   0(EXTLEN,R5),CHNEXT
+         L     R4,NEW.ORDEXT
+         STORAGE RELEASE,LENGTH=EXTLEN,SP=41,ADDR=(R4)
+         DROP  NEW
+         STORAGE OBTAIN,LENGTH=64*ITEMLEN,SP=42,ADDR=(R6)
+         LA    R7,32*ITEMLEN(,R6)      the second half isn't needed
+         STORAGE RELEASE,LENGTH=32*ITEMLEN,SP=42,ADDR=(R7)
+         ST    R6,ANCITEMS
+         IF    (LT,R3,ANCCOUNT,NP)
+           LHI   R3,1
+         ENDIF
+         L     R8,ANCFIRST
+         DO    WHILE=(LTR,R8,R8,NZ)
+           L     R10,OLD.ORDNEXT
+           STORAGE RELEASE,LENGTH=ORDLEN,SP=40,ADDR=(R8)
+           LR    R8,R10
+         ENDDO
+         STRTSRCH WHILE=(CHI,R3,GT,0)
+           BCTR  R3,0
+           LR    R4,R3
+           MHI   R4,ITEMLEN
+           A     R4,ANCITEMS
+           USING ITEM,R4
+         EXITIF (CLC,ITEMNAME,EQ,=CL16'WANTED')
+           STORAGE OBTAIN,LENGTH=ITEMLEN,SP=43,ADDR=(R5)
+           MVC   0(ITEMLEN,R5),0(R4)
+         ORELSE
+         ENDLOOP
+           SR    R5,R5
+         ENDSRCH
+         DROP  R4
+         IF    (LTR,R5,R5,NZ)
+           STORAGE RELEASE,LENGTH=ITEMLEN,SP=43,ADDR=(R5)
+         ENDIF
+         L     R6,ANCITEMS
+         STORAGE RELEASE,LENGTH=32*ITEMLEN,SP=42,ADDR=(R6)
+         STORAGE RELEASE,SP=40
+         L     R13,ANCSAVE+4
+         LR    R2,R11
+         STORAGE RELEASE,LENGTH=ANCLEN,ADDR=(R2)
+         RETURN (14,12),RC=0
+CHNSTAT  DS    0D
+CHNEXT   DC    CL24'EXTENSION'
+EXTLEN   EQU   L'CHNEXT
+         LTORG
+ANCHOR   DSECT
+ANCSAVE  DS    18F
+ANCFIRST DS    A
+ANCLAST  DS    A
+ANCITEMS DS    A
+ANCCOUNT DS    F
+         DS    0D
+ANCLEN   EQU   *-ANCHOR
+ORDER    DSECT
+ORDNEXT  DS    A
+ORDEXT   DS    A
+ORDNAME  DS    CL16
+         DS    0D
+ORDITEM  DS    XL(ITEMLEN)
+         ORG   ORDITEM+ITEMLEN
+ORDLEN   EQU   *-ORDER
+ITEM     DSECT
+ITEMNAME DS    CL16
+ITEMQTY  DS    F
+ITEMPRC  DS    PL6
+         DS    0D
+ITEMLEN  EQU   *-ITEM
+         END   CHAINS
