@@ -5,6 +5,7 @@ import re
 import subprocess
 from collections.abc import Sequence
 from pathlib import Path
+from typing import Any
 
 from driving import Failure
 
@@ -18,11 +19,14 @@ def check_output(status: int, output: bytes) -> None:
         raise Failure("status %d, %r" % (status, refused[:1]))
 
 
-def run(words: Sequence[str], seconds: int, room: Path) -> tuple[subprocess.CompletedProcess[bytes], int]:
-    """A run of a program in a folder, for at most these seconds, and its instructions."""
+# One instruction that copies or clears a large room counts once for each byte: with this the C library takes others.
+BY_WORDS = {"GLIBC_TUNABLES": ":".join(f"glibc.cpu.x86_rep_{it}_threshold=1000000000" for it in ("movsb", "stosb"))}
+
+
+def run(words: Sequence[str], seconds: int, **how: Any) -> tuple[subprocess.CompletedProcess[bytes], int]:
+    """A run of a program for at most these seconds, and its instructions."""
     valgrind = ["valgrind", "--tool=callgrind", f"--callgrind-out-file={os.devnull}"]
-    done = subprocess.run([*valgrind, *words], cwd=room, stdin=subprocess.DEVNULL, capture_output=True, timeout=seconds,
-                          check=False)
+    done = subprocess.run([*valgrind, *words], stdin=subprocess.DEVNULL, capture_output=True, timeout=seconds, check=False, **how)
     found = COUNTED.search(done.stderr)
     if not found:
         raise Failure("valgrind counted nothing: %r" % done.stderr[-300:])
@@ -30,12 +34,12 @@ def run(words: Sequence[str], seconds: int, room: Path) -> tuple[subprocess.Comp
 
 
 def counted(words: Sequence[str], seconds: int, room: Path) -> int:
-    """How many instructions a program takes, whatever it answers."""
-    return run(words, seconds, room)[1]
+    """How many instructions a program takes in a folder, whatever it answers."""
+    return run(words, seconds, cwd=room, env={**os.environ, **BY_WORDS})[1]
 
 
 def instructions(words: Sequence[str], seconds: int) -> int:
     """How many a program takes for a script of statements that are accepted."""
-    done, count = run(words, seconds, Path())
+    done, count = run(words, seconds)
     check_output(done.returncode, done.stdout)
     return count
