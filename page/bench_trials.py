@@ -756,6 +756,7 @@ P STORAGE OBTAIN,LENGTH=64,SP=1,ADDR=P      remark </script>
 
 def try_same_page(page: BenchPage, folder: Path, program: str, trials: Trials) -> None:
     """The page that the bench saves has the data of the page that vsm-view makes of the same script."""
+    page.open()
     (folder / "odd.vsm").write_bytes(ODD)
     for name in SAVED:
         script = folder / name if name == "odd.vsm" else TOP / "examples" / name
@@ -767,7 +768,8 @@ def try_same_page(page: BenchPage, folder: Path, program: str, trials: Trials) -
         page.ended()
         page.wait("document.querySelector('#picture .said strong')", 20)
         page.js("""window.saved = null; URL.createObjectURL = (real => blob => {
-            blob.text().then(it => window.saved ??= it); return real.call(URL, blob); })(URL.createObjectURL)""")
+            blob.text().then(it => { if (it.includes('id="data"')) window.saved ??= it; });
+            return real.call(URL, blob); })(URL.createObjectURL)""")
         page.click("save-page")
         page.wait("window.saved", 20)
         words = [sys.executable, str(TOP / "tools" / "vsm-view"), "--vsm", program, str(script)]
