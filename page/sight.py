@@ -16,7 +16,7 @@ from vsmtools.maps import Map
 HEIGHT, FAINT = 0.94, 0.18  # of the curves' greatest value; how strong a free byte is in the course
 MOST_STRIPS = 6
 WHOLE = ((1440, 900), (1366, 768), (1280, 720), (1024, 768))  # the answer and the chosen page are in sight
-LOW = (853, 480)  # a row or the chosen page is
+LOW = (853, 480)  # a row or the chosen page is, if the statement has one line
 MOST_LINES, MOST_ANSWER = 3, 100  # of a statement, and characters of an answer, with all in sight
 MOST_STEPS = 24  # of a page that are looked at in each window
 MOST_COURSE, MOST_ROWS = 300, 48  # steps and pages of a course whose rows are single pages
@@ -173,7 +173,8 @@ def try_in_sight(trials: Trials, browser: Browser, page: Page) -> None:
         trials.equal(f"{width} x {height}: answers out of sight", out["answer"], [])
         trials.equal(f"{width} x {height}: changes that no line in sight names", out["what"], [])
         if (width, height) == LOW:
-            hidden = [step for step, it in found if it["lens"] is False and not it["row"]]
+            short = {it for it in steps if extents.get(page.line_of(page.shown[it - 1]), 1) == 1}
+            hidden = [step for step, it in found if it["lens"] is False and not it["row"] and step in short]
         else:
             hidden = [step for step, it in found if it["lens"] is False]
         trials.equal(f"{width} x {height}: steps without their storage in sight", hidden, [])
