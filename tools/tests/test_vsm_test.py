@@ -324,7 +324,7 @@ def test_files_that_cannot_be_read(tool: Tool, put: Put, tmp_path: Path) -> None
     done = tool("right.vsm", "nowhere.vsm", "empty")
     assert done.status == 8
     assert done.lines == ["nowhere.vsm: can't be read: No such file or directory",
-                          "empty: no *.vsm in this folder", "1 passed, 2 failed"]
+                          "empty: no *.vsm in this folder", "answers: 1 of 1", "1 passed, 2 failed"]
 
 
 @pytest.mark.parametrize("words", ["", "--bogus a.vsm", "--hide a.vsm b.vsm", "--hide --write a.vsm",

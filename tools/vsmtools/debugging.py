@@ -157,8 +157,7 @@ class Adapter:
         if not isinstance(path, str) or not path:
             raise Fault("launch needs 'program', the script's path")
         self.program = os.path.abspath(os.path.join(arguments.get("cwd") or "", path))
-        self.named = arguments.get("vsm") or self.named
-        self.vsm = find_program(self.named)
+        self.vsm = find_program(arguments.get("vsm") or self.named)
         self.load(arguments)
         self.launch_request = request
         self.event("initialized")
@@ -172,7 +171,7 @@ class Adapter:
                 options += [option, str(launched[option[2:]])]
         vsm = self.vsm or ""
         # The library is asked, if it's built; but a program that is named, itself.
-        partner = vsm if self.named else None
+        partner = vsm if launched.get("vsm") or self.named else None
         course = Course(Walk(Script(self.program, data), lambda: Session(partner, options, SECONDS)))
         if self.course:
             course.breaks, course.filters = self.course.breaks, self.course.filters
