@@ -369,7 +369,7 @@ def try_find(trials: Trials, browser: Browser, page: Page) -> None:
     browser.evaluate("document.activeElement.blur()")
     browser.key("/")
     trials.want("/ leads to the field", browser.evaluate("document.activeElement.matches('.find')"))
-    word = lines[firsts[-1] - 1].split()[-1]
+    word = next(it for it in reversed(lines[firsts[-1] - 1].split()) if not it.isdigit())
     found = next(number for number, line in enumerate(lines, 1) if word.lower() in line.lower())
     for asked, line in ((str(firsts[-1]), firsts[-1]), (word, found)):
         browser.evaluate(f"""(it => {{ it.value = {json.dumps(asked)}; document.querySelector('button.first').click();
