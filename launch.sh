@@ -79,7 +79,7 @@ hear_out() {
 }
 
 stop() {
-  trap - INT TERM HUP
+  trap '' INT TERM HUP
   [ -z "$trying" ] || { kill "$trying"; wait "$trying"; } 2>/dev/null
   rm -rf "$room"
   refuse "stopped"
@@ -89,8 +89,10 @@ stop() {
 compile() {
   local sum why said=""
   sum=$("$top/prove" --program "$crate" --sum)
-  # TMPDIR may be relative, and rt runs in another folder.
-  room=$(mktemp -d) && room=$(readlink -f "$room") || refuse "no temporary folder can be made"
+  # It's named before it's made, so that `stop` removes it; TMPDIR may be relative, and rt runs in another folder.
+  room=${TMPDIR:-/tmp}/$name-$$-$RANDOM
+  [[ $room == /* ]] || room=$PWD/$room
+  mkdir -m 700 "$room" 2>/dev/null || refuse "no temporary folder can be made"
   lay_out_kit || { rm -rf "$room"; refuse "the folder of the kit can't be found: '$rt doc' has to print the path of a page in it"; }
   say "compiling $name without a proof, once: about 2 minutes on a free machine"
   exec 3< <(exec </dev/null 2>&1 8>&-; cd "$top/crates/$crate" && TMPDIR=$room exec "$room/kit/bin/rt" try --steps 1 -- --help)
