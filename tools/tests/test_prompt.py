@@ -153,6 +153,26 @@ def test_the_first_prompt_and_lines_of_earlier_sessions(terminal: Callable[..., 
     assert it.status() == 0 and kept.is_fifo()
 
 
+@pytest.mark.parametrize("number", [0, signal.SIGHUP, signal.SIGTERM])
+def test_lines_are_kept_if_the_terminal_goes(terminal: Callable[..., Terminal], tmp_path: Path, number: int) -> None:
+    """Or a signal ends the prompt. Only their owner can read them, also if others could until now."""
+    kept = tmp_path / ".local" / "state" / "nilbozad" / "vsm-prompt.history"
+    kept.parent.mkdir(parents=True)
+    kept.write_text("back 0\n")
+    kept.chmod(0o644)
+    it = terminal()
+    it.until("vsm 0> ")
+    it.ask("storage obtain,length=16", "vsm 1> ")
+    if number:
+        os.kill(it.pid, number)
+        assert it.status() == 128 + number
+    else:
+        os.close(it.end)
+        assert os.waitpid(it.pid, 0)[1]
+        it.pid, it.end = 0, os.open(os.devnull, os.O_RDWR)
+    assert kept.read_text() == "back 0\nstorage obtain,length=16\n" and kept.stat().st_mode & 0o777 == 0o600
+
+
 def test_a_caret_at_a_fault(terminal: Callable[..., Terminal], vsm: str) -> None:
     try:
         bench.find_explain(vsm)
