@@ -301,7 +301,7 @@ def refuse(_lines: object) -> None:
 
 
 def stepped(call: Callable[[], object]) -> None:
-    """Runs a call that finds nothing or ends in a fault, for at most so many steps."""
+    """Runs a call that finds nothing or ends in a fault, within MOST_STEPS."""
     left = MOST_STEPS
 
     def trace(_frame: object, _event: str, _value: object) -> Callable:
