@@ -1,6 +1,7 @@
 """A language server: the messages of the Language Server Protocol, open scripts, and what a listing says of them."""
 from __future__ import annotations
 
+import os
 import time
 from itertools import islice
 from typing import Any, Callable, Iterator, Optional
@@ -49,7 +50,7 @@ class Server:
     def serve(self) -> int:
         """The exit status: 0 if the client has shut the server down."""
         try:
-            if self.explain == EXPLAIN_LAUNCHER:
+            if os.path.realpath(self.explain) == EXPLAIN_LAUNCHER:
                 self.lacking = "vsm-explain is being compiled, once: about 2 minutes"
                 self.runs.compile(self.explain, WITHOUT_INPUT, self.compiled)
             while not self.is_ended and not self.stream.is_ended:
