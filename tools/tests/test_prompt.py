@@ -165,7 +165,7 @@ def test_lines_are_kept_if_the_terminal_goes(terminal: Callable[..., Terminal], 
     it.ask("storage obtain,length=16", "vsm 1> ")
     if number:
         os.kill(it.pid, number)
-        assert it.status() == 128 + number
+        assert it.status() == -number
     else:
         os.close(it.end)
         assert os.waitpid(it.pid, 0)[1]
