@@ -3,6 +3,9 @@
 # from these sources (./prove does that), an unproved program is run in its place, and standard error says so after the
 # compile, and later if it's a terminal. That one is compiled once, in some two minutes, and kept in the crate's out/
 # as NAME-unproved until a source is changed or ./prove has run. RT names the command rt if it isn't on the PATH.
+: "${top:?launch.sh is sourced by ./vsm and ./vsm-explain}"
+# An exported SHELLOPTS may have it.
+set +e
 out=$top/crates/$crate/out
 program=$out/$crate
 unproved=$program-unproved
@@ -37,7 +40,7 @@ put_tool() {
 }
 
 # Lays out a folder in place of the kit's. rt try deletes the program that it compiled, so the linker also leaves it as
-# `made`; and the compiler optimizes when it adds checks, which makes the program some 25 times as fast.
+# `made`, once it's whole; and the compiler optimizes when it adds checks, which makes the program some 25 times as fast.
 lay_out_kit() {
   local kit tools
   kit=$(dirname "$("$rt" doc)") && [ -f "$kit/bin/rtlib.py" ] || return 1
@@ -50,7 +53,7 @@ END
   put_tool "$tools/ld.lld" <<END
 $(printf %q "$kit/toolchain/bin/ld.lld") "\$@" || exit
 while [ "\$#" -gt 2 ] && [ "\$1" != -o ]; do shift; done
-exec cp "\$2" $(printf %q "$room/made")
+cp "\$2" $(printf %q "$room/part") && exec mv $(printf %q "$room/part") $(printf %q "$room/made")
 END
   link_rest "$kit/toolchain/bin" "$tools" && link_rest "$kit/toolchain" "$room/kit/toolchain" &&
     link_rest "$kit/bin" "$room/kit/bin" && link_rest "$kit" "$room/kit"
@@ -76,7 +79,7 @@ hear_out() {
 }
 
 stop() {
-  trap - INT TERM HUP
+  trap '' INT TERM HUP
   [ -z "$trying" ] || { kill "$trying"; wait "$trying"; } 2>/dev/null
   rm -rf "$room"
   refuse "stopped"
@@ -84,28 +87,30 @@ stop() {
 
 # Compiles the program without a proof. The sum kept with it is that of the sources when it began.
 compile() {
-  local sum said=
+  local sum why said=""
   sum=$("$top/prove" --program "$crate" --sum)
-  room=$(mktemp -d) || refuse "no temporary folder can be made"
-  trying=
-  trap stop INT TERM HUP
+  # It's named before it's made, so that `stop` removes it; TMPDIR may be relative, and rt runs in another folder.
+  room=${TMPDIR:-/tmp}/$name-$$-$RANDOM
+  [[ $room == /* ]] || room=$PWD/$room
+  mkdir -m 700 "$room" 2>/dev/null || refuse "no temporary folder can be made"
   lay_out_kit || { rm -rf "$room"; refuse "the folder of the kit can't be found: '$rt doc' has to print the path of a page in it"; }
   say "compiling $name without a proof, once: about 2 minutes on a free machine"
-  exec 3< <(exec </dev/null 2>&1 8>&-; cd "$top/crates/$crate" && exec "$room/kit/bin/rt" try --steps 1 --seconds 10 -- --help)
+  exec 3< <(exec </dev/null 2>&1 8>&-; cd "$top/crates/$crate" && TMPDIR=$room exec "$room/kit/bin/rt" try --steps 1 -- --help)
   trying=$!
   hear_out
   exec 3<&-
-  wait "$trying" 2>/dev/null
-  if ! [ -x "$room/made" ]; then
+  # Only if rt says that the program ran to its end.
+  if ! wait "$trying" 2>/dev/null || ! [ -x "$room/made" ]; then
+    why="no program was compiled; above is what the kit said"
+    [ ! -e "$room/part" ] || why="the program can't be written in ${TMPDIR:-/tmp}: is the disk full?"
     rm -rf "$room"
     printf '%s' "$said" >&2
-    refuse "no program was compiled; above is what the kit said"
+    refuse "$why"
   fi
   { cp "$room/made" "$unproved.new" && mv "$unproved.new" "$unproved"; } 2>/dev/null &&
     "$top/prove" --program "$crate" --made "$sum" "$unproved" ||
     { rm -rf "$room" "$unproved.new"; refuse "the compiled program can't be kept in $out: is the disk full?"; }
   rm -rf "$room"
-  trap - INT TERM HUP
 }
 
 # One process compiles, and others wait for it.
@@ -113,11 +118,18 @@ compile_once() {
   command -v "$rt" >/dev/null || refuse "no program is built, and rt, the command of the Rattle kit that compiles one, isn't on the PATH: put its folder there, or name it by RT"
   { mkdir -p "$out" && exec 8>"$unproved.lock"; } 2>/dev/null ||
     refuse "no program is built, and none can be kept: $out can't be written"
+  room=""
+  trying=""
+  trap stop INT TERM HUP
   if ! flock -n 8; then
     say "another process compiles the program: this one waits for it"
-    flock 8
+    flock 8 &
+    trying=$!
+    wait "$trying"
+    trying=""
   fi
   "$top/prove" --program "$crate" --check "$unproved" || compile
+  trap - INT TERM HUP
   exec 8>&-
   tell
 }

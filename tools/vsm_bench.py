@@ -11,7 +11,8 @@ import ctypes
 import os
 import re
 import threading
-from ctypes import POINTER, Structure, byref, c_char_p, c_int, c_size_t, c_uint32, c_void_p, create_string_buffer
+from ctypes import POINTER, Structure, byref, c_char_p, c_int, c_size_t, c_uint32, c_uint64, c_void_p, \
+    create_string_buffer
 from enum import IntEnum
 from functools import cache
 from typing import NamedTuple, Optional, Sequence, Union
@@ -116,7 +117,7 @@ class BenchError(Fault):
 
 class Settings(Structure):
     _fields_ = [("size", c_size_t), ("low", c_uint32), ("high", c_uint32), ("residence", c_uint32),
-                ("history", c_uint32)]
+                ("history", c_uint32), ("memory", c_uint64)]
 
 
 CALLS = {"vsm_open": [POINTER(Settings), POINTER(c_void_p)], "vsm_ask": [c_void_p, c_char_p, POINTER(c_char_p)],
@@ -162,19 +163,21 @@ def data_of(text: Union[str, bytes]) -> bytes:
 class Bench:
     """A bench that takes statements, or a script in any pieces; threads that share it wait for each other.
 
-    A number is as vsm's option has it; 0 means its default. Each call that is refused is a BenchError."""
+    A number is as vsm's option has it; 0 means its default. `memory` is the most bytes that its state may take: without
+    it, a statement that is answered REFUSED MEMORY may keep all that this process can have until the bench is closed.
+    Each call that is refused is a BenchError."""
 
     def __init__(self, low: int = 0, high: int = 0, residence: int = 0, history: int = 0,
-                 path: Optional[str] = None) -> None:
+                 path: Optional[str] = None, memory: int = 0) -> None:
         self._bench, self._lock = c_void_p(None), threading.Lock()
         path = path or find()
         if not path:
             raise Fault("no library %s is found: VSM_LIBRARY names one" % NAME, status=WORDS)
         self._library = load(path)
         numbers = low, high, residence, history
-        if not all(0 <= number < 2 ** 32 for number in numbers):
+        if not (all(0 <= number < 2 ** 32 for number in numbers) and 0 <= memory < 2 ** 64):
             self._check(Code.SETTING)
-        settings = Settings(ctypes.sizeof(Settings), *numbers)
+        settings = Settings(ctypes.sizeof(Settings), *numbers, memory)
         self._check(self._library.vsm_open(byref(settings), byref(self._bench)))
 
     def _check(self, code: int) -> None:

@@ -59,11 +59,16 @@ static void settings(void) {
   IS(vsm_ask(bench, " STORAGE OBTAIN,LENGTH=65536", &answer), VSM_OK);
   SAYS(answer, "RC=0 A=00006000 L=00010000");
   vsm_close(&bench);
-  for (i = 0; i < sizeof own; i += 4) {
+  /* Hosts of a version without the last setting are served. */
+  for (i = 0; i <= offsetof(vsm_settings, memory); i += 4) {
     own = usual;
     own.size = i;
-    IS(vsm_open(&own, &bench), VSM_SETTING);
+    own.memory = UINT64_MAX;
+    IS(vsm_open(&own, &bench), i < offsetof(vsm_settings, memory) ? VSM_SETTING : VSM_OK);
+    vsm_close(&bench);
   }
+  own.size = sizeof own - 1;
+  IS(vsm_open(&own, &bench), VSM_SETTING);
   own.size = SIZE_MAX;
   IS(vsm_open(&own, &bench), VSM_SETTING);
   later.known.size = sizeof later;

@@ -7,31 +7,33 @@
    growths: line by line, and again and again with another growth refused each time: each one, or if there are more than
    MOST, that many at equal distances. The line continues with the numbers of growths and of refused ones, how often no
    bench was opened, an answer was REFUSED MEMORY, an answer had no memory, all was as before, and anything was wrong;
-   then the deepest stack in KiB. vsm.c is included, with its growths counted. */
+   then the deepest stack in KiB. vsm.c is included, with its growths counted. Before that, what a bench with a bound of
+   memory holds is looked at. */
 #define _GNU_SOURCE
+#include <malloc.h>
 #include <stdlib.h>
 #include <sys/mman.h>
 
 static long number, refused_at, live;
+static size_t bytes; /* of the blocks that are live */
 static int is_refused(void) { return ++number == refused_at; }
-static void *counted(void *block) { return live += block != NULL, block; }
-static void *counted_malloc(size_t size) { return is_refused() ? NULL : counted(malloc(size)); }
+static void *counted(void *block) { return live += block != NULL, bytes += malloc_usable_size(block), block; }
 static void *counted_calloc(size_t count, size_t size) { return is_refused() ? NULL : counted(calloc(count, size)); }
 static void *counted_realloc(void *old, size_t size) {
-  if (is_refused()) return NULL;
-  return old ? realloc(old, size) : counted(realloc(old, size));
+  size_t before = malloc_usable_size(old);
+  void *block = is_refused() ? NULL : realloc(old, size);
+  if (block) live -= old != NULL, bytes -= before;
+  return counted(block);
 }
-static void counted_free(void *block) { live -= block != NULL, free(block); }
+static void counted_free(void *block) { live -= block != NULL, bytes -= malloc_usable_size(block), free(block); }
 static void *counted_mmap(void *at, size_t size, int protection, int flags, int file, off_t offset) {
   return is_refused() ? MAP_FAILED : mmap(at, size, protection, flags, file, offset);
 }
-#define malloc counted_malloc
 #define calloc counted_calloc
 #define realloc counted_realloc
 #define free counted_free
 #define mmap counted_mmap
 #include "vsm.c"
-#undef malloc
 #undef calloc
 #undef realloc
 #undef free
@@ -193,11 +195,37 @@ static int holds_little(void) {
   return most < 1 << 15;
 }
 
+/* Whether a bench holds at most its bound of memory and its own record, also after a statement that it refuses, and
+   answers later ones; and whether none is opened that can't begin within its bound. */
+static int is_bounded(void) {
+  enum { MOST = 4 << 20 };
+  static const char *const asked[][2] = {
+      {" STORAGE OBTAIN,LENGTH=8,ADDR=P", "RC=0 A=00006000 L=00000008"},
+      {" STORAGE OBTAIN,LENGTH=67108864,LOC=31", "REFUSED MEMORY"},
+      {" STORAGE RELEASE,LENGTH=8,ADDR=P", "RC=0"},
+      {" BACK 1", "KEPT=1"}};
+  vsm_settings settings = VSM_SETTINGS;
+  size_t most = MOST + sizeof(vsm) + 16384, i;
+  const char *answer;
+  vsm *bench;
+  int is_right;
+  settings.high = 1572864, settings.memory = 1000;
+  is_right = vsm_open(&settings, &bench) == VSM_NO_MEMORY && !bench && !live;
+  settings.memory = MOST;
+  is_right &= vsm_open(&settings, &bench) == VSM_OK;
+  for (i = 0; i < sizeof asked / sizeof *asked; i++) {
+    is_right &= vsm_ask(bench, asked[i][0], &answer) == VSM_OK && !strcmp(answer, asked[i][1]) && bytes <= most;
+    if (!is_right) fprintf(stderr, "%s: %s, %zu bytes\n", asked[i][0], answer, bytes);
+  }
+  vsm_close(&bench);
+  return is_right && !live && !bytes;
+}
+
 int main(int count, char **words) {
   struct text script = {NULL, 0, 0}, told = {NULL, 0, 0};
   vsm_settings settings = VSM_SETTINGS;
   int of_growths = count > 1 && !strcmp(words[1], "growths"), code;
-  if (of_growths && !holds_little()) return 1;
+  if (of_growths && !(holds_little() && is_bounded())) return 1;
   while (scanf("%u %u %u %u %lu %zu", &settings.low, &settings.high, &settings.residence, &settings.history, &state,
                &script.length) == 6 && getchar() == '\n') {
     long counts[7] = {0, 0, 0, 0, 0, 0, 0};

@@ -6,6 +6,7 @@
 #include "vsm.h"
 
 #include <errno.h>
+#include <malloc.h>
 #include <signal.h>
 #include <stdio.h>
 #include <stdlib.h>
@@ -38,6 +39,7 @@ struct vsm {
   size_t in_left;
   char *out, *stack; /* the answers, of which `taken` bytes were read */
   size_t length, taken, room;
+  uint64_t memory, held; /* the most bytes that the program may hold, or 0; and how many it holds */
   char message[12]; /* the beginning of what goes to standard error */
   size_t said;
 };
@@ -90,16 +92,25 @@ long vsm_host_signal(int number, long handler);
 
 #pragma GCC visibility pop
 
-static struct growth grown(void *bytes) {
+/* A block of this size, in the place of an old one if there is any, within the bench's memory: what each block really
+   has counts, so the last one may pass it by what malloc adds. */
+static struct growth grown(void *old, uint64_t size) {
   static char nothing[16];
+  vsm *bench = current;
+  uint64_t others = bench->held - malloc_usable_size(old), most = bench->memory;
+  void *bytes = most && (others > most || size > most - others) ? NULL : realloc(old, size);
+  if (bytes) bench->held = others + malloc_usable_size(bytes);
   return (struct growth){bytes != NULL, bytes ? bytes : nothing};
 }
-struct growth vsm_host_alloc(uint64_t size, uint64_t alignment) { return grown(malloc(size ? size : alignment)); }
+struct growth vsm_host_alloc(uint64_t size, uint64_t alignment) { return grown(NULL, size ? size : alignment); }
 struct growth vsm_host_realloc(void *old, uint64_t old_size, uint64_t size, uint64_t alignment) {
   (void)old_size;
-  return grown(realloc(old, size ? size : alignment));
+  return grown(old, size ? size : alignment);
 }
-void vsm_host_dealloc(void *bytes) { free(bytes); }
+void vsm_host_dealloc(void *bytes) {
+  current->held -= malloc_usable_size(bytes);
+  free(bytes);
+}
 int vsm_host_errno(void) { return current->error; }
 void vsm_host_set_errno(int number) { current->error = number; }
 
@@ -259,13 +270,15 @@ int vsm_open(const vsm_settings *settings, vsm **bench) {
   if (!bench) return VSM_NULL;
   *bench = NULL;
   if (settings) {
-    if (settings->size < sizeof own || settings->size > MOST_BYTES) return VSM_SETTING;
-    for (size_t i = sizeof own; i < settings->size; i++)
+    size_t known = settings->size < sizeof own ? offsetof(vsm_settings, memory) : sizeof own;
+    if (settings->size < known || settings->size > MOST_BYTES) return VSM_SETTING;
+    for (size_t i = known; i < settings->size; i++)
       if (((const char *)settings)[i]) return VSM_SETTING;
-    own = *settings;
+    memcpy(&own, settings, known);
   }
   made = calloc(1, sizeof *made);
   if (!made) return VSM_NO_MEMORY;
+  made->memory = own.memory;
   put_words(made, &own);
   code = start(made);
   if (code != VSM_OK) vsm_close(&made);

@@ -46,7 +46,8 @@ enum vsm_code {
   VSM_STATEMENT = 23, /* vsm_ask: not exactly one whole statement, or another one is open */
 
   /* The bench is lost: there was no memory for an answer. Answers before it can be read; other calls return this code.
-     A statement for which there is no memory loses nothing: its answer is REFUSED MEMORY. */
+     A statement for which there is no memory loses nothing: its answer is REFUSED MEMORY. What it did get is kept for
+     later statements until vsm_close: without the setting `memory` that may be all that your process can have. */
   VSM_LOST = 40
 };
 
@@ -56,14 +57,15 @@ const char *vsm_strerror(int code);
 typedef struct vsm vsm;
 
 /* As the options of the program. 0 means its default: 64, 64, 24, 1024. Later versions add settings at the end;
-   `size` says which ones exist. */
+   `size` says which ones exist: `memory` may be missing. */
 typedef struct vsm_settings {
   size_t size;
   uint32_t low, high; /* regions below and above the line, in units of 1,024 bytes */
   uint32_t residence; /* 24 or 31 */
   uint32_t history;   /* changes that can be undone */
+  uint64_t memory;    /* bytes that the bench may hold for its state, or 0 for no bound of its own */
 } vsm_settings;
-#define VSM_SETTINGS {sizeof(vsm_settings), 0, 0, 0, 0}
+#define VSM_SETTINGS {sizeof(vsm_settings), 0, 0, 0, 0, 0}
 
 /* Opens a bench with these settings, or for NULL with the defaults. With any code except VSM_OK *bench is NULL. */
 int vsm_open(const vsm_settings *settings, vsm **bench);

@@ -5,21 +5,24 @@ import base64
 import os
 import random
 import signal
+import threading
 import time
 from pathlib import Path
 from typing import Any, Iterator, Optional
 
 import pytest
 import vsm_bench
-from conftest import TOP
+from conftest import SECONDS, TOP
 from editors import BAD, LIES, Debugged, Message, damaged_value, framed, tree
 from load_scripts import small_script
 from protocols import check_dap
 
 from vsmtools import bench, debugging, rpc
+from vsmtools.command import Fault
 from vsmtools.debugging import Adapter
 from vsmtools.lines import is_continued, options_for
 from vsmtools.maps import Map, parse_map
+from vsmtools.rpc import Stream, parsed
 from vsmtools.walking import Script
 
 EXAMPLES = sorted((TOP / "examples").glob("*.vsm"))
@@ -433,6 +436,29 @@ def test_restart_terminate_and_no_debug(vsm: str) -> None:
     assert client.close() == 0
 
 
+def test_a_stream_that_is_full_for_a_while_is_written_to() -> None:
+    """Its reader gets every byte; only one that has gone ends it."""
+    reader, writer = os.pipe()
+    os.set_blocking(writer, False)
+    message, got = {"it": "x" * 1_000_000}, bytearray()
+
+    def read() -> None:
+        while len(got) < 1_000_000:
+            got.extend(os.read(reader, 1 << 16))
+    thread = threading.Thread(target=read)
+    timer = threading.Timer(0.2, thread.start)
+    timer.start()
+    stream = Stream(0, writer)
+    stream.write(message)
+    timer.join()
+    thread.join(SECONDS)
+    os.close(reader)
+    with pytest.raises(Fault, match="the client has gone"):
+        stream.write(message)
+    os.close(writer)
+    assert parsed(bytes(got).partition(b"\r\n\r\n")[2]) == message and stream.is_ended
+
+
 def test_options_of_the_script_and_of_the_launch(client: Debugged, tmp_path: Path) -> None:
     client.begin(written(tmp_path, "*! --low 8\n STORAGE OBTAIN,LENGTH=8\n"), low=16, history=3)
     found = tree(client.ask, 1)["Pages and bytes"]
@@ -473,7 +499,7 @@ def test_wrong_requests_are_refused_and_it_lives(client: Debugged, tmp_path: Pat
     client.initialize()
     binary = written(tmp_path, "\x00\x01\udcff" * 1000 + "\n" + " MAP\udcfe\n" * 3)
     wrong = [("variables", {"variablesReference": 5}), ("nothing", {}), ("launch", {}), ("launch", {"program": "/"}),
-             ("launch", {"program": "/nowhere"}), ("launch", {"program": str(FIRST), "vsm": "/nowhere"}),
+             ("launch", {"program": "/nowhere"}), ("launch", {"program": "/dev/stdin"}), ("launch", {"program": str(FIRST), "vsm": "/nowhere"}),
              ("launch", {"program": str(FIRST), "low": "x"}), ("setBreakpoints", {}), ("next", {"threadId": 1}),
              ("readMemory", {"memoryReference": "zz", "count": 1}), ("evaluate", {"expression": "P"}), ("restart", {}),
              ("initialize", {"adapterID": "vsm"})]
@@ -482,6 +508,9 @@ def test_wrong_requests_are_refused_and_it_lives(client: Debugged, tmp_path: Pat
     found = client.response(client.send("launch", program="/nowhere"))
     assert found["message"] == found["body"]["error"]["format"] == "/nowhere: can't be read: No such file or directory"
     assert found["body"]["error"]["showUser"]
+    os.mkfifo(tmp_path / "fifo")
+    found = client.response(client.send("launch", program=str(tmp_path / "fifo")))
+    assert found["message"] == "%s: it's no regular file" % (tmp_path / "fifo")
     client.send("launch", program=str(binary), stopOnEntry=True)
     client.until("initialized")
     client.ask("configurationDone")

@@ -13,6 +13,7 @@ from typing import Any, Iterator
 
 import pytest
 from conftest import TOP
+import editors
 from editors import BAD, LIES, Edited, Message, damaged_value, framed
 from test_damaged import SCRIPTS, damaged
 from test_dap import Expected, generated
@@ -595,4 +596,32 @@ def test_no_program_beneath_it(vsm: str, explain: str, tmp_path: Path) -> None:
         assert "explain" in found[0]["message"], (text, found)
         where = {"textDocument": {"uri": URI}, "position": {"line": 0, "character": 1}}
         assert text.endswith("cat\n") or client.error("textDocument/hover", where) == Code.FAILED
+    client.finish()
+
+
+@pytest.mark.parametrize("status", [0, 16])
+def test_it_answers_while_vsm_explain_is_compiled(vsm: str, explain: str, tmp_path: Path, status: int,
+                                                  monkeypatch: pytest.MonkeyPatch) -> None:
+    """What is opened meanwhile is listed then, or the client hears that it can't be compiled."""
+    shutil.copytree(editors.TOOLS, tmp_path / "tools", ignore=shutil.ignore_patterns("tests"))
+    (tmp_path / "docs").symlink_to(editors.TOOLS.parent / "docs")
+    launcher, done = tmp_path / "vsm-explain", tmp_path / "done"
+    launcher.write_text("#!/bin/sh\nuntil [ -e '%s' ]; do sleep 0.1; done\n[ %d = 0 ] || exit %d\nexec '%s' \"$@\"\n"
+                        % (done, status, status, explain))
+    launcher.chmod(0o755)
+    monkeypatch.setattr(editors, "TOOLS", tmp_path / "tools")
+    client = Edited(vsm, str(launcher))
+    client.begin()
+    client.notify("textDocument/didOpen", {"textDocument": {"uri": URI, "languageId": "vsm", "version": 1,
+                                                            "text": " STORAGE OBTAIN,LENGTH=9X\n"}})
+    where = {"textDocument": {"uri": URI}, "position": {"line": 0, "character": 1}}
+    assert client.error("textDocument/hover", where) == Code.FAILED
+    done.touch()
+    if status == 0:
+        assert [it["code"] for it in client.diagnostics(URI)] == ["FAULT VALUE"]
+        assert "FAULT VALUE" in client.ask("textDocument/hover", **where)["contents"]["value"]
+    else:
+        while not (said := [it for it in client.told if it["method"] == "window/showMessage"]):
+            client.hear()
+        assert "ended with status 16" in said[0]["params"]["message"]
     client.finish()

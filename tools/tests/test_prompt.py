@@ -10,14 +10,17 @@ import subprocess
 import sys
 import time
 from pathlib import Path
+from types import SimpleNamespace
 from typing import Callable, Iterator
 
 import pytest
 from conftest import TOOLS, TOP, one_line
 
-from vsmtools import bench
+from vsmtools import bench, features
 from vsmtools.command import Fault
-from vsmtools.prompting import is_open, operand_text, with_blank
+from vsmtools.console import Console
+from vsmtools.documents import Document
+from vsmtools.prompting import Prompt, is_open, operand_text, with_blank
 from vsmtools.words import completions
 
 TOOL = "vsm-prompt"
@@ -150,6 +153,26 @@ def test_the_first_prompt_and_lines_of_earlier_sessions(terminal: Callable[..., 
     assert it.status() == 0 and kept.is_fifo()
 
 
+@pytest.mark.parametrize("number", [0, signal.SIGHUP, signal.SIGTERM])
+def test_lines_are_kept_if_the_terminal_goes(terminal: Callable[..., Terminal], tmp_path: Path, number: int) -> None:
+    """Or a signal ends the prompt. Only their owner can read them, also if others could until now."""
+    kept = tmp_path / ".local" / "state" / "nilbozad" / "vsm-prompt.history"
+    kept.parent.mkdir(parents=True)
+    kept.write_text("back 0\n")
+    kept.chmod(0o644)
+    it = terminal()
+    it.until("vsm 0> ")
+    it.ask("storage obtain,length=16", "vsm 1> ")
+    if number:
+        os.kill(it.pid, number)
+        assert it.status() == -number
+    else:
+        os.close(it.end)
+        assert os.waitpid(it.pid, 0)[1]
+        it.pid, it.end = 0, os.open(os.devnull, os.O_RDWR)
+    assert kept.read_text() == "back 0\nstorage obtain,length=16\n" and kept.stat().st_mode & 0o777 == 0o600
+
+
 def test_a_caret_at_a_fault(terminal: Callable[..., Terminal], vsm: str) -> None:
     try:
         bench.find_explain(vsm)
@@ -253,6 +276,46 @@ def test_long_lines_are_folded(run: Callable, vsm: str, tmp_path: Path) -> None:
                                                                    for line in answers[1].rest)
     _, told = talk(run, vsm, "poke p,x'%s'\n" % ("0" * 700))
     assert len(told) == 1 and "at most ten lines" in told[0]
+
+
+MOST_STEPS = 20_000    # of Python, for a line of any length
+
+
+@pytest.mark.parametrize("text", ["STORAGE OBTAIN,LENGTH=8%s", "STORAGE OBTAIN,%s", "POKE P,%s'", "%s POKE", "WRONG (%s"])
+@pytest.mark.parametrize("piece", ["A", "A,", "'", "(", "A=','", " "])
+def test_a_line_of_a_megabyte_is_refused_at_once(vsm: str, text: str, piece: str) -> None:
+    """By the prompt and the debugger, and the editor folds nothing: Python's steps are counted."""
+    shown, line = bench.run(vsm, [], b" MAP\n").answers[0].map, text % (piece * (1_000_000 // len(piece)))
+    walk = SimpleNamespace(carry_out=refuse)
+    prompt, course = Prompt(SimpleNamespace(show=print, log=[], **vars(walk))), SimpleNamespace(map=shown, walk=walk)  # type: ignore
+    document = Document("file:///long", 1, " " + line, "utf-16")
+    document.read()
+    where = {"range": document.lines_range(1, 1), "context": {"diagnostics": []}}
+    stepped(lambda: prompt.take(line))
+    stepped(lambda: Console(course, "", []).say(line))    # type: ignore[arg-type]
+    stepped(lambda: features.actions(None, document, where, 1))    # type: ignore[arg-type]
+
+
+def refuse(_lines: object) -> None:
+    raise Fault("short enough")
+
+
+def stepped(call: Callable[[], object]) -> None:
+    """Runs a call that finds nothing or ends in a fault, within MOST_STEPS."""
+    left = MOST_STEPS
+
+    def trace(_frame: object, _event: str, _value: object) -> Callable:
+        nonlocal left
+        left -= 1
+        assert left > 0, "it takes more than %d steps" % MOST_STEPS
+        return trace
+    sys.settrace(trace)
+    try:
+        assert not call()
+    except Fault:
+        pass
+    finally:
+        sys.settrace(None)
 
 
 def test_continuation_lines_as_in_a_file(run: Callable, vsm: str) -> None:

@@ -2,6 +2,7 @@
 from __future__ import annotations
 
 import argparse
+import ctypes
 import os
 import select
 import shutil
@@ -24,6 +25,8 @@ TOOLS = os.path.dirname(os.path.dirname(os.path.realpath(__file__)))
 TOP = os.path.dirname(TOOLS)
 BUILT = os.path.join(TOP, "crates", "vsm", "out", "vsm")
 BUILT_EXPLAIN = os.path.join(TOP, "crates", "vsm_explain_program", "out", "vsm_explain_program")
+EXPLAIN_LAUNCHER = os.path.join(TOP, "vsm-explain")
+WITHOUT_INPUT = ["why", "OK"]    # arguments of vsm-explain
 SECONDS = 120  # the longest that a run may take, and that an answer may be waited for
 MOST_OUTPUT = 256 << 20    # bytes that a program may print
 BENCH_OPTIONS = vsm_bench.OPTIONS
@@ -69,18 +72,43 @@ def is_program(place: str) -> bool:
     return os.path.isfile(place) and os.access(place, os.X_OK)
 
 
+def end_with_parent() -> None:
+    """Called in a new process: it gets SIGTERM when its parent ends, however that ends."""
+    ctypes.CDLL(None).prctl(1, signal.SIGTERM)    # PR_SET_PDEATHSIG
+
+
+def start_compile(launcher: str, words: Sequence[str] = (), out: int = subprocess.DEVNULL) -> subprocess.Popen[bytes]:
+    """Starts a repository's ./vsm or ./vsm-explain over no input: the first run compiles a program, and standard error
+    says so."""
+    return subprocess.Popen([launcher, *words], stdin=subprocess.DEVNULL, stdout=out, preexec_fn=end_with_parent)
+
+
+def end_compile(child: subprocess.Popen[bytes]) -> None:
+    """Ends such a run, which then leaves no process and no file."""
+    child.terminate()
+    child.wait()
+
+
+def not_compiled(launcher: str, status: int) -> Fault:
+    return Fault("%s ended with status %d; ./prove builds a proved program" % (launcher, status), status=WORDS)
+
+
 def compiled(launcher: str, words: Sequence[str] = ()) -> str:
-    """A repository's ./vsm or ./vsm-explain, after a run of it over no input: the first one compiles a program,
-    and standard error says so."""
-    status = subprocess.run([launcher, *words], stdin=subprocess.DEVNULL, stdout=subprocess.DEVNULL).returncode
+    """A launcher after such a run."""
+    child = start_compile(launcher, words)
+    try:
+        status = child.wait()
+    except BaseException:
+        end_compile(child)
+        raise
     if status:
-        raise Fault("%s ended with status %d; ./prove builds a proved program" % (launcher, status), status=WORDS)
+        raise not_compiled(launcher, status)
     return launcher
 
 
-def find_program(named: Optional[str] = None, may_compile: bool = True) -> str:
-    """The path of vsm: the one that is named, else the built one, else a repository's ./vsm, or what that has compiled
-    if it may not compile now, one with the installed tools, or one on the PATH."""
+def find_program(named: Optional[str] = None, may_compile: bool = True, is_needed: bool = True) -> str:
+    """The path of vsm: the one that is named, else the built one, else a repository's ./vsm (compiled, if it's needed
+    now), or what that has compiled if it may not compile, one with the installed tools, or one on the PATH."""
     if named:
         found = named if os.path.dirname(named) else shutil.which(named) or named
         if not is_program(found):
@@ -92,18 +120,18 @@ def find_program(named: Optional[str] = None, may_compile: bool = True) -> str:
               os.path.join(sysconfig.get_path("scripts"), "vsm")]
     for place in (BUILT, launcher if may_compile else BUILT + "-unproved", *beside, shutil.which("vsm") or ""):
         if is_program(place):
-            return compiled(place) if place == launcher else os.path.abspath(place)
+            return compiled(place) if place == launcher and is_needed else os.path.abspath(place)
     raise Fault("no program vsm is found: --vsm names one", status=WORDS)
 
 
-def find_explain(vsm: str) -> str:
-    """The path of vsm-explain: the one next to vsm, else the built one, a repository's ./vsm-explain, or one on
-    the PATH."""
-    launcher, beside = (os.path.join(it, "vsm-explain") for it in (TOP, os.path.dirname(vsm)))
+def find_explain(vsm: str, is_needed: bool = True) -> str:
+    """The path of vsm-explain: the one next to vsm, else the built one, a repository's ./vsm-explain (compiled, if it's
+    needed now), or one on the PATH."""
+    launcher, beside = EXPLAIN_LAUNCHER, os.path.join(os.path.dirname(vsm), "vsm-explain")
     places = [BUILT_EXPLAIN, launcher, shutil.which("vsm-explain") or ""]
     for place in places if beside == launcher else [beside, *places]:
         if is_program(place):
-            return compiled(place, ["why", "OK"]) if place == launcher else place
+            return compiled(place, WITHOUT_INPUT) if place == launcher and is_needed else place
     raise Fault("no program vsm-explain is found: it has to be next to vsm, or on the PATH", status=WORDS)
 
 

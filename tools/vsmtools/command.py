@@ -92,9 +92,9 @@ def read_input(path: Optional[str]) -> tuple[str, bytes]:
     return name, data
 
 
-def write_file(path: str, data: bytes, is_over: bool = True) -> None:
+def write_file(path: str, data: bytes, is_over: bool = True, most: int = 0o7777) -> None:
     """Puts bytes in a file's place at once: it keeps what it had if that fails. An existing file is replaced only if it
-    may be, and what is no file never."""
+    may be, and what is no file never. It has at most the permissions `most`."""
     whole, made = os.path.realpath(path), ""
     if not is_over and os.path.lexists(path):
         raise Fault("there is one already: --over %s replaces it" % path, path)
@@ -107,7 +107,7 @@ def write_file(path: str, data: bytes, is_over: bool = True) -> None:
         number, made = tempfile.mkstemp(prefix=".vsm-", dir=os.path.dirname(whole))
         with os.fdopen(number, "wb") as file:
             file.write(data)
-        os.chmod(made, before.st_mode & 0o7777 if before else 0o666 & ~mask)
+        os.chmod(made, (before.st_mode & 0o7777 if before else 0o666 & ~mask) & most)
         if before and os.geteuid() == 0:
             os.chown(made, before.st_uid, before.st_gid)
         os.replace(made, whole)

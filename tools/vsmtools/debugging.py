@@ -164,6 +164,8 @@ class Adapter:
 
     def load(self, launched: Arguments) -> None:
         """Reads the script, and begins a walk over it."""
+        if os.path.exists(self.program) and not os.path.isfile(self.program):
+            raise Fault("it's no regular file", self.program)
         data = command.read_input(self.program)[1]
         options = options_for(self.program, data)
         for option in BENCH_OPTIONS:

@@ -1,12 +1,13 @@
 """A language server: the messages of the Language Server Protocol, open scripts, and what a listing says of them."""
 from __future__ import annotations
 
+import os
 import time
 from itertools import islice
 from typing import Any, Callable, Iterator, Optional
 
 from . import features, listing, manuals, rpc
-from .bench import BENCH_OPTIONS, MOST_OUTPUT, find_explain, find_program
+from .bench import BENCH_OPTIONS, EXPLAIN_LAUNCHER, MOST_OUTPUT, WITHOUT_INPUT, find_explain, find_program, not_compiled
 from .command import Fault, one_line, version
 from .documents import FAR, Document
 from .lines import Extent, options_for
@@ -32,7 +33,8 @@ class Server:
 
     def __init__(self, stream: rpc.Stream, vsm: Optional[str], explain: Optional[str]) -> None:
         self.stream = stream
-        self.explain = find_program(explain) if explain else find_explain(find_program(vsm))
+        self.explain = find_program(explain) if explain else find_explain(find_program(vsm, False), False)
+        self.lacking = ""        # why vsm-explain can't be run yet
         self.documents: dict[str, Document] = {}
         self.runs = Runs()
         self.settings: Message = {}
@@ -48,6 +50,9 @@ class Server:
     def serve(self) -> int:
         """The exit status: 0 if the client has shut the server down."""
         try:
+            if os.path.realpath(self.explain) == EXPLAIN_LAUNCHER:
+                self.lacking = "vsm-explain is being compiled, once: about 2 minutes"
+                self.runs.compile(self.explain, WITHOUT_INPUT, self.compiled)
             while not self.is_ended and not self.stream.is_ended:
                 due = [it.due for it in self.documents.values() if it.due is not None]
                 ready = self.stream.read(max(0.0, min(due) - time.monotonic()) if due else None, self.runs.sources)
@@ -230,10 +235,20 @@ class Server:
 
     # Diagnostics.
 
+    def compiled(self, _output: bytes, status: int) -> None:
+        """Lists what was opened while vsm-explain was compiled."""
+        self.lacking = str(not_compiled(self.explain, status)) if status else ""
+        if status:
+            self.notify("window/showMessage", {"type": ERROR, "message": self.lacking})
+        for it in self.documents.values():
+            it.due = time.monotonic()
+
     def list(self, document: Document) -> None:
-        """Runs vsm-explain list over a document."""
+        """Runs vsm-explain list over a document, as soon as that is possible."""
         document.due = None
         document.read()
+        if self.lacking:
+            return
         self.runs.end_all(document.uri, is_asked=False)
         try:
             options = self.options(document)
@@ -279,6 +294,8 @@ class Server:
 
     def why(self, document: Document, extent: Extent, then: Callable[[bytes, int], None], number: Any = None) -> None:
         """Runs vsm-explain why over the script up to a statement."""
+        if self.lacking:
+            raise Fault(self.lacking)
         script = b"".join(line + b"\n" for line in document.raw[:extent.last])
         self.runs.start([self.explain, "why", *self.options(document), "/dev/stdin", str(extent.first)], script, then,
                         document.uri, number)

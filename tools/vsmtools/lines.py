@@ -9,6 +9,8 @@ from .command import Fault
 LAST_COLUMN = 71       # operands end there; column 72 says that the next line continues them
 CONTINUED_FROM = 16    # the column in which operands continue
 MOST_LINES = 10        # of one statement
+ON_FURTHER_LINES = LAST_COLUMN - CONTINUED_FROM + 1    # characters of each
+MOST_TEXT = LAST_COLUMN + (MOST_LINES - 1) * ON_FURTHER_LINES
 
 
 class Extent(NamedTuple):
@@ -77,12 +79,14 @@ def fold(text: str, most: int = MOST_LINES) -> Optional[list[str]]:
 
     Lines end after a comma if that takes no more lines than there are, else in column 71.
     """
+    if len(text) > LAST_COLUMN + (most - 1) * ON_FURTHER_LINES:
+        return None
     for ends in (comma_ends(text), set(range(len(text)))):
         lines, at, width = [], 0, LAST_COLUMN
         while len(text) - at > width:
             end = max((end for end in ends if at < end <= at + width), default=at + width)
             lines.append(text[at:end])
-            at, width = end, LAST_COLUMN - CONTINUED_FROM + 1
+            at, width = end, ON_FURTHER_LINES
         lines.append(text[at:])
         if len(lines) <= most:
             blanks = " " * (CONTINUED_FROM - 1)

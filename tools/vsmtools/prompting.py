@@ -11,7 +11,8 @@ from typing import Callable, Optional, Sequence
 
 from .bench import TOOLS, Answer, Session, check_is_one, find_explain, run_anyhow
 from .command import Fault, one_line, read_input, write_file
-from .lines import LAST_COLUMN, fold, is_continued, is_passed_over, split_lines, statements, text_of, unquoted
+from .lines import (
+    LAST_COLUMN, MOST_TEXT, fold, is_continued, is_passed_over, split_lines, statements, text_of, unquoted)
 from .maps import Map, parse_map
 from .words import FORMS
 
@@ -53,7 +54,8 @@ class Deferred:
 
 
 def operand_text(text: str) -> str:
-    """A statement without its remarks."""
+    """A statement without its remarks, or the beginning of one that is too long."""
+    text = text[:MOST_TEXT + 1]
     found = re.match(r"(\s*(?:\S+\s+)??)(%s)(\s+|$)" % "|".join(FORMS), text, re.I)
     if not found:
         return text.rstrip()
@@ -63,8 +65,9 @@ def operand_text(text: str) -> str:
 
 
 def is_open(text: str) -> bool:
-    """Whether operands continue: they end with a comma."""
-    return operand_text(text).endswith(",")
+    """Whether operands continue: they end with a comma, and a statement has room for them."""
+    operands = operand_text(text.lstrip())
+    return len(operands) <= MOST_TEXT and operands.endswith(",")
 
 
 def with_blank(text: str) -> str:

@@ -149,7 +149,10 @@ class Stream:
         data = memoryview(b"Content-Length: %d\r\n\r\n" % len(body) + body)
         try:
             while data:
-                data = data[os.write(self.sink, data):]
+                try:
+                    data = data[os.write(self.sink, data):]
+                except BlockingIOError:    # it's full for a while
+                    select.select([], [self.sink], [])
         except OSError:
             self.is_ended = True
             raise Fault("the client has gone") from None

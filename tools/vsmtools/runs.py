@@ -7,7 +7,7 @@ import tempfile
 from dataclasses import dataclass, field
 from typing import Any, Callable, Optional, Sequence
 
-from .bench import MOST_OUTPUT, end_group, start
+from .bench import MOST_OUTPUT, end_compile, end_group, start, start_compile
 from .rpc import SIGNALS
 
 Then = Callable[[bytes, int], None]
@@ -20,6 +20,7 @@ class Run:
     then: Then
     document: str
     request: Any = None     # the number of the request that waits for it; None if none does
+    is_compile: bool = False
     output: bytearray = field(default_factory=bytearray)
 
 
@@ -41,6 +42,11 @@ class Runs:
             with SIGNALS:
                 child = start(words[0], words[1:], given, subprocess.PIPE, subprocess.STDOUT)  # type: ignore[arg-type]
                 self.runs.append(Run(child, then, document, request))
+
+    def compile(self, launcher: str, words: Sequence[str], then: Then) -> None:
+        """Runs a launcher over no input, whose first run compiles its program."""
+        with SIGNALS:
+            self.runs.append(Run(start_compile(launcher, words, subprocess.PIPE), then, "", is_compile=True))
 
     def gather(self, ready: Sequence[Any]) -> None:
         """Takes what has been printed, and passes on the output of each run that has come to its end."""
@@ -65,7 +71,7 @@ class Runs:
     def end(self, run: Run) -> None:
         """Ends a run and its program."""
         self.runs.remove(run)
-        end_group(run.child)
+        (end_compile if run.is_compile else end_group)(run.child)
         if run.child.stdout:
             run.child.stdout.close()
 
