@@ -33,7 +33,7 @@ class Server:
 
     def __init__(self, stream: rpc.Stream, vsm: Optional[str], explain: Optional[str]) -> None:
         self.stream = stream
-        self.explain = find_program(explain) if explain else find_explain(find_program(vsm, False), False)
+        self.explain = find_program(explain) if explain else find_explain(find_program(vsm, is_needed=False), False)
         self.lacking = ""        # why vsm-explain can't be run yet
         self.documents: dict[str, Document] = {}
         self.runs = Runs()
