@@ -163,6 +163,7 @@ test('a statement breaks before its remarks, column 72 has no row of its own, an
     assert.ok(it.more.every(row => row.trimEnd().length <= most - 4));
   }
   assert.deepEqual(lineRows(' POKE P,X\'C1C2\'', 0, 12).rows, [' POKE ', 'P,X\'C1C2\'']);
+  for (const most of [0, 1, 9, 20]) assert.equal(lineRows(`${line}${line}`, 0, most).rows.join(''), line + line);
   const numbered = ' BACK 0'.padEnd(72) + '00000010', comment = `* ${'word '.repeat(15)}`.trimEnd();
   assert.deepEqual(lineRows(numbered, 0, 60), { rows: [numbered.slice(0, 71)], more: [], mark: ' 00000010' });
   assert.deepEqual(lineRows(comment, 0, 60, true), { rows: wrapped(comment, 60), more: [], mark: '' });

@@ -8,9 +8,9 @@ import { shownLine } from './shown.js';
 const BEYOND = 8, GAP = 2; // lines beyond those in sight; characters between a statement and its reply
 const COLUMN_72 = 71, INDENT = 4; // the place of column 72; the columns before remarks in a row of their own
 
-/** A text in rows of at most `most` characters, broken after a blank if there is one. */
-export function wrapped(text, most) {
-  const rows = [];
+/** A text in rows of at most `wide` characters, but at least one, broken after a blank if there is one. */
+export function wrapped(text, wide) {
+  const rows = [], most = Math.max(1, wide);
   for (let from = 0; from < text.length || !rows.length;) {
     const blank = text.length - from > most ? text.lastIndexOf(' ', from + most - 1) : -1;
     const isIndent = blank < from || !text.slice(from, blank).trim();
@@ -26,7 +26,8 @@ export function wrapped(text, most) {
     may be a part of a word: then it isn't apart. */
 export function lineRows(line, remarks, most, isComment = false) {
   if (line.length <= most) return { rows: [line], more: [], mark: '' };
-  const isApart = !isComment || line[COLUMN_72 - 1] === ' ', text = isApart ? line.slice(0, COLUMN_72) : line;
+  const isShort = 2 * (line.length - COLUMN_72) < most; // what has to fit next to the rest
+  const isApart = isShort && (!isComment || line[COLUMN_72 - 1] === ' '), text = isApart ? line.slice(0, COLUMN_72) : line;
   const mark = line.slice(text.length), width = most - (mark && mark.length + 1);
   const from = remarks && remarks < text.trimEnd().length ? remarks : text.length;
   const rowsOf = (part, wide) => {
