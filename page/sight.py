@@ -20,6 +20,8 @@ LOW = (853, 480)  # a row or the chosen page is, if the statement has one line
 MOST_LINES, MOST_ANSWER = 3, 100  # of a statement, and characters of an answer, with all in sight
 MOST_STEPS = 24  # of a page that are looked at in each window
 MOST_COURSE, MOST_ROWS = 300, 48  # steps and pages of a course whose rows are single pages
+# The course is drawn after the rest; until then it may move what is below.
+COURSE_DONE = "document.querySelector('.course[data-done]') || new Promise(done => setTimeout(done, 3000))"
 KINDS = ("taken", "low", "high", "largest")
 
 
@@ -41,6 +43,7 @@ def try_pixels(trials: Trials, browser: Browser, page: Page) -> None:
         for width in (390, 1440, 1920):
             browser.size(width, 900)
             browser.evaluate(probed(f"at([{page.steps}])"))
+            browser.evaluate(COURSE_DONE)
             browser.settle()
             for number, (left, top, wide, high), taken, free in browser.evaluate(probed("strips()"))[:MOST_STRIPS]:
                 if number not in full:
@@ -66,7 +69,7 @@ def greatest(page: Page) -> dict[str, int]:
 
 def try_curves(trials: Trials, browser: Browser, page: Page) -> None:
     """The curves reach the greatest value of all maps, on one scale, which their texts say."""
-    browser.evaluate("document.querySelector('.course[data-done]') || new Promise(done => setTimeout(done, 3000))")
+    browser.evaluate(COURSE_DONE)
     drawn, most = browser.evaluate(probed("curves()")), greatest(page)
     whole = max(1, *most.values())
     for kind in KINDS:
