@@ -27,7 +27,8 @@ export function wrapped(text, wide) {
 export function lineRows(line, remarks, most, isComment = false) {
   if (line.length <= most) return { rows: [line], more: [], mark: '' };
   const isShort = 2 * (line.length - COLUMN_72) < most; // what has to fit next to the rest
-  const isApart = isShort && (!isComment || line[COLUMN_72 - 1] === ' '), text = isApart ? line.slice(0, COLUMN_72) : line;
+  const isApart = isShort && (!isComment || line[COLUMN_72 - 1] === ' ');
+  const text = isApart ? line.slice(0, COLUMN_72) : line;
   const mark = line.slice(text.length), width = most - (mark && mark.length + 1);
   const from = remarks && remarks < text.trimEnd().length ? remarks : text.length;
   const rowsOf = (part, wide) => {

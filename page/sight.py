@@ -8,7 +8,7 @@ from typing import Any
 from chromium import Browser
 from expected import PAGE, Page, totals
 from on_page import STILL, probed, step_of
-from pixels import distance, pixels_of
+from pixels import Colour, distance, pixels_of
 from trials import Trials
 from vsmtools.lines import LAST_COLUMN, statements
 from vsmtools.maps import Map
@@ -34,6 +34,19 @@ def free_in(state: Map, number: int) -> int | None:
     return None
 
 
+def colours_of(browser: Browser, number: int) -> tuple[Colour, Colour, Colour] | None:
+    """The mean colour of a page's strip, and those of taken and of free, of a picture during which it didn't move; None
+    if it moved out of sight."""
+    def here() -> list[Any]:
+        return next((it[1:] for it in browser.evaluate(probed("strips()")) if it[0] == number), [])
+    while is_at := here():
+        (left, top, wide, high), taken, free = is_at
+        seen = pixels_of(browser.png({"x": left + 4, "y": top + 5, "width": wide - 8, "height": high - 10}))
+        if here() == is_at:
+            return seen.mean(0, 0, seen.wide, len(seen.rows)), tuple(taken), tuple(free)
+    return None
+
+
 def try_pixels(trials: Trials, browser: Browser, page: Page) -> None:
     """By its pixels a page that is wholly taken has its subpool's colour: it never is as pale as free storage."""
     pools = page.map_at(page.steps).cell_pools
@@ -45,14 +58,10 @@ def try_pixels(trials: Trials, browser: Browser, page: Page) -> None:
             browser.evaluate(probed(f"at([{page.steps}])"))
             browser.evaluate(COURSE_DONE)
             browser.settle()
-            for number, (left, top, wide, high), taken, free in browser.evaluate(probed("strips()"))[:MOST_STRIPS]:
-                if number not in full:
-                    continue
-                box = {"x": left + 4, "y": top + 5, "width": wide - 8, "height": high - 10}
-                seen = pixels_of(browser.png(box))
-                found = seen.mean(0, 0, seen.wide, len(seen.rows))
+            for number in [it[0] for it in browser.evaluate(probed("strips()"))[:MOST_STRIPS] if it[0] in full]:
+                found = colours_of(browser, number)
                 trials.want(f"{scheme}, {width} wide: the full page {number:X}000 looks full",
-                    distance(found, tuple(taken)) < distance(found, tuple(free)) / 2, (found, taken, free))
+                    not found or distance(found[0], found[1]) < distance(found[0], found[2]) / 2, found)
     browser.media(**STILL)
     browser.size(1440, 900)
 
