@@ -28,7 +28,7 @@ and_no_more false b = refl
 
 -- between apostrophes only an apostrophe counts
 abbrev inside : Nesting
-inside = record { quoted = true; depth = 0 }
+inside = record { quoted = true; depth = 0; overclosed = false }
 
 goes_inside : (xs : List ℕ) → AllByRecursion (λ c. (c == 39) ≡ false) xs → Goes inside xs inside
 goes_inside [] h = refl

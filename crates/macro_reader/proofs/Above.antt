@@ -1,10 +1,9 @@
--- A field's nesting after one more byte; a byte above a parenthesis leaves it as it was.
+-- A field's nesting after more bytes; a byte above a parenthesis leaves it as it was.
 use Rattle.std.proofs.Common.{◌≡◌, ℕ, ◌+◌, ◌<◌, List, [], ◌∷◌, ◌++◌, length, take, get_or, refl, sym, ap, ◌∙◌}
 use Rattle.std.proofs.lemmas.List.{take_more}
 use Rattle.operand_texts.specs.declared.nesting.Nesting.{Nesting}
-use Rattle.operand_texts.specs.Field.{past}
+use Rattle.operand_texts.specs.Field.{past, nesting_after}
 use Rattle.operand_texts.proofs.Above.{past_above}
-use Rattle.macro_reader.specs.Continuation.{nesting_after}
 
 after_push : (n : Nesting) (t : List ℕ) (c : ℕ) → nesting_after n (t ++ c ∷ []) ≡ past (nesting_after n t) c
 after_push n [] c = refl
@@ -15,3 +14,8 @@ after_more n at t i h e = ap (λ m. past m (get_or t i 0)) e ∙ sym (ap (nestin
 
 pub after_above : (n at : Nesting) (t : List ℕ) (i : ℕ) → i < length t → 41 < get_or t i 0 → at ≡ nesting_after n (take i t) → at ≡ nesting_after n (take (i + 1) t)
 after_above n at t i h k e = sym (past_above at (get_or t i 0) k) ∙ after_more n at t i h e
+
+-- the nesting after two texts, the second after the first
+pub after_both : (n : Nesting) (xs ys : List ℕ) → nesting_after n (xs ++ ys) ≡ nesting_after (nesting_after n xs) ys
+after_both n [] ys = refl
+after_both n (x ∷ xs) ys = after_both (past n x) xs ys

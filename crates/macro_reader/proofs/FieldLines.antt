@@ -7,8 +7,8 @@ use Rattle.std.proofs.lemmas.Bool.{cases_lt, eq-eqb}
 use Rattle.std.proofs.lemmas.List.{get_or_at, get_or_past, length-append, length-take-le, length-drop, take-append-drop, take_all}
 use Rattle.operand_texts.specs.declared.nesting.Nesting.{Nesting}
 use Rattle.macro_reader.specs.Columns.{Line, used, is_continued}
-use Rattle.operand_texts.specs.Field.{outside, past, field_len}
-use Rattle.macro_reader.specs.Continuation.{Joined, nesting_after, ends_with_comma, with_part, with_line, with_lines}
+use Rattle.operand_texts.specs.Field.{outside, past, nesting_after, field_len}
+use Rattle.macro_reader.specs.Continuation.{Joined, ends_with_comma, with_part, with_line, with_lines}
 use Rattle.macro_reader.specs.Scripts.{IsGroup}
 use Rattle.macro_statements.specs.declared.statements.Operation.{Operation}
 use Rattle.macro_statements.specs.declared.statements.Operation.TheVariants as operation

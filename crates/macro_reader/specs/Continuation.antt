@@ -4,7 +4,7 @@ use Rattle.std.specs.Prelude.{ℕ, ◌-◌, Bool, false, not, ◌&&◌, ◌||◌
 use Rattle.std.specs.Prelude.{take, drop, slice_index, Option, Some, None}
 use Rattle.operand_texts.specs.declared.nesting.Nesting.{Nesting}
 use Rattle.macro_reader.specs.Columns.{is_blank}
-use Rattle.operand_texts.specs.Field.{outside, past, field_len}
+use Rattle.operand_texts.specs.Field.{outside, nesting_after, field_len}
 use Rattle.macro_statements.specs.Statements.{is_misplaced, from_operands}
 
 -- The field so far, where its next byte is, and whether it continues at column 16 of the next line.
@@ -12,11 +12,6 @@ pub record Joined : Type 0 where
   pub text : List ℕ
   pub at : Nesting
   pub goes_on : Bool
-
--- Where the byte after a text is.
-abbrev pub nesting_after : Nesting → List ℕ → Nesting
-nesting_after n [] = n
-nesting_after n (c ∷ cs) = nesting_after (past n c) cs
 
 -- A comma is the last byte of a text.
 abbrev pub ends_with_comma : List ℕ → Bool

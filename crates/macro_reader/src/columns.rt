@@ -10,14 +10,13 @@ fn column(line: &[u8], i: usize) -> u8
     if i < line.len() { line[i] } else { b' ' }
 }
 
-/// Columns 1 to 71, filled with blanks.
-pub(crate) fn used(line: &[u8]) -> [u8; 71]
-    ensures { result ≡ used line.now }
+/// Puts columns 1 to 71, filled with blanks, in the place of others.
+pub(crate) fn put_used(card: &mut [u8; 71], line: &[u8])
+    ensures { card.new ≡ used line.now }
 {
-    let mut card = [b' '; 71];
+    *card = [b' '; 71];
     let n = line.len().min(71);
     card[..n].copy_from_slice(&line[..n]);
-    card
 }
 
 /// Whether column 72 isn't blank.

@@ -3,9 +3,9 @@
 ghost use Rattle.std.specs.Prelude.{◌≡◌, ◌++◌, ◌+◌, ◌*◌, ◌≤◌, ◌<◌, ◌^◌, length, take, drop, MatchBool, IsTrue, Some};
 ghost use Rattle.std.specs.Prelude.{None};
 ghost use Rattle.arrayvec.specs.ArrayVec.{array_vec_len};
-ghost use Rattle.operand_texts.specs.Field.{field_len};
+ghost use Rattle.operand_texts.specs.Field.{field_len, nesting_after};
 ghost use Rattle.macro_statements.specs.Statements.{IsHead};
-ghost use Rattle.macro_reader.specs.Continuation.{nesting_after, ends_with_comma, with_part, begun, with_line};
+ghost use Rattle.macro_reader.specs.Continuation.{ends_with_comma, with_part, begun, with_line};
 ghost use Rattle.macro_reader.specs.Columns.{is_blank};
 ghost use Rattle.macro_reader.specs.Modes.{joined};
 

@@ -1,7 +1,8 @@
 //! The state of a reader between two lines.
 
-ghost use Rattle.std.specs.Prelude.{◌+◌, ◌*◌, ◌≤◌};
+ghost use Rattle.std.specs.Prelude.{◌≡◌, ◌+◌, ◌*◌, ◌≤◌};
 ghost use Rattle.arrayvec.specs.ArrayVec.{array_vec_len};
+ghost use Rattle.operand_texts.specs.Field.{outside, nesting_after};
 ghost use Rattle.macro_statements.specs.Statements.{IsHead};
 
 use arrayvec::ArrayVec;
@@ -23,6 +24,7 @@ pub struct OpenField {
     /// The continuation lines so far.
     pub lines: u8,
     ghost room: { array_vec_len text ≤ 71 + 56 * lines },
+    ghost nested: { at ≡ nesting_after outside text.items },
     ghost deep: { at.depth ≤ 71 + 56 * lines },
     ghost few: { lines ≤ 9 },
 }

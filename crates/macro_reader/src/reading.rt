@@ -11,7 +11,7 @@ ghost use Rattle.macro_reader.specs.Roles.{IsStand};
 ghost use Rattle.macro_reader.specs.declared.modes.OpenStatement.{OpenStatement};
 ghost use Rattle.macro_reader.specs.declared.modes.Mode.TheVariants.{Awaiting, Gathering};
 
-use crate::columns::{is_continued, is_skipped, used};
+use crate::columns::{is_continued, is_skipped, put_used};
 use crate::modes::{Due, Mode, OpenStatement};
 use macro_statements::{FaultKind, Request, statement_into};
 use std::marker::Model;
@@ -75,7 +75,7 @@ fn start(number: u32, mode: &mut Mode, statement: &mut OpenStatement, line: &[u8
     if is_skipped(line) {
         return Due::Nothing;
     }
-    statement.first = used(line);
+    put_used(&mut statement.first, line);
     statement.number = number;
     statement.head = statement.gathered.begin(&statement.first);
     if is_continued(line) {
@@ -105,7 +105,9 @@ fn go_on(mode: &mut Mode, statement: &mut OpenStatement, line: &[u8]) -> Due
     ensures few { statement.new.gathered.lines ≤ most_lines mode.new }
     ensures told { due_of result statement.new ≡ (moved 0 (mode_of Gathering statement.old) line.now).1 }
 {
-    if !statement.gathered.take_line(&used(line)) {
+    let mut card = [b' '; 71];
+    put_used(&mut card, line);
+    if !statement.gathered.take_line(&card) {
         *mode = behind_break(line);
         return Due::Broken;
     }
@@ -184,7 +186,13 @@ impl Reader {
         let kind = match due {
             Due::Nothing => return Ok(None),
             Due::Whole => {
-                match statement_into(open.head, open.gathered.text.as_slice(), request) {
+                let field = &open.gathered;
+                match statement_into(
+                    open.head,
+                    field.text.as_slice(),
+                    field.at.is_closed(),
+                    request,
+                ) {
                     Ok(()) => return Ok(Some(open.number)),
                     Err(kind) => kind,
                 }

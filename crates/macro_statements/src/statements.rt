@@ -1,7 +1,7 @@
 //! The request of a statement.
 
 ghost use Rattle.std.specs.Prelude.{◌≡◌, ◌≤◌, ℕ, List, length, IfOk, OnOk};
-ghost use Rattle.operand_texts.specs.Field.{operands};
+ghost use Rattle.operand_texts.specs.Field.{outside, is_balanced, operands};
 ghost use Rattle.macro_operands.specs.Requests.{seen, asked_in, IsValidAsked};
 ghost use Rattle.macro_statements.specs.Statements.{operation_of, asked_of, from_operation, from_operands};
 ghost use Rattle.macro_statements.specs.Statements.{behind_of, operands_in};
@@ -181,13 +181,20 @@ pub fn head_of(card: &[u8]) -> (Head, &[u8])
     (head, rest)
 }
 
-/// Puts the request of a statement, whose first line says this and whose operand field is this text, into a room.
+/// Puts the request of a statement, whose first line says this and whose operand field is this text, into a room. The
+/// caller says if each apostrophe and parenthesis of the field is closed, and none too often.
 ///
 /// Otherwise returns the first fault, in this order: `Column` if the first line is misplaced; `Operation` if its
 /// operation isn't known; `Operand` if an apostrophe or parenthesis of the field isn't closed or is closed too often;
 /// and then that of the leftmost operand that has one, or `Missing`.
 #[inline(never)]
-pub fn statement_into(head: Head, text: &[u8], request: &mut Request) -> Result<(), FaultKind>
+pub fn statement_into(
+    head: Head,
+    text: &[u8],
+    balanced: bool,
+    request: &mut Request,
+) -> Result<(), FaultKind>
+    requires balanced { balanced ≡ is_balanced outside text.now }
     ensures value { (card : List ℕ) → IsHead head card → left result request.new ≡ statement_with card text.now }
     ensures valid { OnOk result (IsValidAsked (asked_in request.new)) }
 {
@@ -197,7 +204,7 @@ pub fn statement_into(head: Head, text: &[u8], request: &mut Request) -> Result<
     let Some(operation) = head.operation else {
         return Err(FaultKind::Operation);
     };
-    if !is_balanced(text) {
+    if !balanced {
         return Err(FaultKind::Operand);
     }
     asked_of(operation, text, request)
@@ -209,7 +216,7 @@ pub fn statement_with(head: Head, text: &[u8]) -> Result<Request, FaultKind>
     ensures valid { IfOk result (λ r. IsValidAsked (asked_in r)) }
 {
     let mut request = Request::Map;
-    match statement_into(head, text, &mut request) {
+    match statement_into(head, text, is_balanced(text), &mut request) {
         Ok(()) => Ok(request),
         Err(fault) => Err(fault),
     }

@@ -20,8 +20,7 @@ past_above n c h =
     rw (a, b, d) (same_either n.quoted n)
 
 pub above_balanced : (n : Nesting) (c : ℕ) (cs : List ℕ) → 41 < c → is_balanced n (c ∷ cs) ≡ is_balanced n cs
-above_balanced n c cs h =
-    ap (λ b. not (b && not n.quoted && (n.depth == 0)) && is_balanced (past n c) cs) (apart c 41 h) ∙ ap (λ m. is_balanced m cs) (past_above n c h)
+above_balanced n c cs h = ap (λ m. is_balanced m cs) (past_above n c h)
 
 pub above_field : (n : Nesting) (c : ℕ) (cs : List ℕ) → 41 < c → field_len n (c ∷ cs) ≡ 1 + field_len n cs
 above_field n c cs h =
@@ -50,13 +49,8 @@ pub balanced_passes : (n : Nesting) (t : List ℕ) (i : ℕ) → i < length t �
 balanced_passes n t i h k = sym (ap (is_balanced n) (drop_more t i 0 h) ∙ above_balanced n (get_or t i 0) (drop (i + 1) t) k)
 
 pub balanced_goes_on : (n m : Nesting) (t : List ℕ) (i : ℕ) → i < length t → m ≡ past n (get_or t i 0)
-    → (get_or t i 0 == 41 && not n.quoted && (n.depth == 0)) ≡ false → is_balanced m (drop (i + 1) t) ≡ is_balanced n (drop i t)
-balanced_goes_on n m t i h e k =
-    ap (λ x. is_balanced x (drop (i + 1) t)) e
-    ∙ sym (ap (is_balanced n) (drop_more t i 0 h) ∙ ap (λ b. not b && is_balanced (past n (get_or t i 0)) (drop (i + 1) t)) k)
-
-pub balanced_ends : (n : Nesting) (t : List ℕ) (i : ℕ) → i < length t → (get_or t i 0 == 41 && not n.quoted && (n.depth == 0)) ≡ true → false ≡ is_balanced n (drop i t)
-balanced_ends n t i h k = sym (ap (is_balanced n) (drop_more t i 0 h) ∙ ap (λ b. not b && is_balanced (past n (get_or t i 0)) (drop (i + 1) t)) k)
+    → is_balanced m (drop (i + 1) t) ≡ is_balanced n (drop i t)
+balanced_goes_on n m t i h e = ap (λ x. is_balanced x (drop (i + 1) t)) e ∙ sym (ap (is_balanced n) (drop_more t i 0 h))
 
 counted : (i a b all : ℕ) → a ≡ 1 + b → i + a ≡ all → i + 1 + b ≡ all
 counted i a b all h k = omega arith

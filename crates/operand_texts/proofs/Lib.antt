@@ -1,6 +1,7 @@
 pub mod Above
 mod ClassTable
 mod DigitTable
+mod UpperTable
 mod Classes
 pub mod Split
 pub mod Names

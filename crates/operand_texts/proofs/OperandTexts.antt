@@ -92,11 +92,11 @@ operand_first n (c ∷ cs) rest h = rw (h.2, operand_first (past n c) cs rest h.
 
 pub balanced_last : (n : Nesting) (o : List ℕ) → Goes n o outside → is_balanced n o ≡ true
 balanced_last n [] h = rw h refl
-balanced_last n (c ∷ cs) h = rw (h.1, balanced_last (past n c) cs h.3) refl
+balanced_last n (c ∷ cs) h = balanced_last (past n c) cs h.3
 
 pub balanced_first : (n : Nesting) (o rest : List ℕ) → Goes n o outside → is_balanced outside rest ≡ true → is_balanced n (o ++ 44 ∷ rest) ≡ true
 balanced_first n [] rest h k = rw h k
-balanced_first n (c ∷ cs) rest h k = rw (h.1, balanced_first (past n c) cs rest h.3 k) refl
+balanced_first n (c ∷ cs) rest h k = balanced_first (past n c) cs rest h.3 k
 
 -- operands with commas between them
 abbrev pub joined : List ℕ → List (List ℕ) → List ℕ

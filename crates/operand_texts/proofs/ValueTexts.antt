@@ -17,7 +17,7 @@ use Rattle.operand_texts.proofs.OperandTexts.{Goes, IsPlain, IsOperand, goes_app
 
 -- outside apostrophes, in this many parentheses
 abbrev within : ℕ → Nesting
-within d = record { quoted = false; depth = d }
+within d = record { quoted = false; depth = d; overclosed = false }
 
 -- a text with no equals sign that leads back to where it began
 pub record IsNeat (text : List ℕ) : Type 0 where
@@ -38,7 +38,7 @@ closes : (d : ℕ) → Goes (within (d + 1)) (41 ∷ []) (within d)
 closes d =
     let inside : (d + 1 == 0) ≡ false = grind (arith, nat_tests) in
     let back : d + 1 - 1 ≡ d = omega arith in
-    (refl, rw inside refl, refl, ap within back)
+    (refl, rw inside refl, refl, λ j. record { quoted = false; depth = back j; overclosed = inside j })
 
 pub goes_enclosed : (d : ℕ) (t : List ℕ) → Goes (within (d + 1)) t (within (d + 1)) → Goes (within d) (40 ∷ (t ++ 41 ∷ [])) (within d)
 goes_enclosed d t h = (refl, refl, refl, goes_append (within (d + 1)) (within (d + 1)) (within d) t (41 ∷ []) h (closes d))
@@ -154,7 +154,7 @@ plain_hex (b ∷ bs) h =
 
 in_apostrophes : (t : List ℕ) → AllByRecursion IsPlain t → IsOperand (88 ∷ 39 ∷ (t ++ 39 ∷ []))
 in_apostrophes t p =
-    let inside : Nesting = record { quoted = true; depth = 0 } in
+    let inside : Nesting = record { quoted = true; depth = 0; overclosed = false } in
     (refl, refl, refl, (refl, refl, refl, goes_append inside inside outside t (39 ∷ []) (goes_plain inside t p) (refl, refl, refl, refl)))
 
 pub content_text_of : (content : Stored) → HasBytes content → IsStored content → ContentText content

@@ -1,21 +1,27 @@
 -- The operand field of a statement: apostrophes and parentheses in it, where it ends, and its operands.
-use Rattle.std.specs.Prelude.{ℕ, ◌+◌, ◌-◌, Bool, false, not, ◌&&◌, ◌==◌, if◌then◌else◌, List, [], ◌∷◌, length, Option}
-use Rattle.std.specs.Prelude.{None, Some}
+use Rattle.std.specs.Prelude.{ℕ, ◌+◌, ◌-◌, Bool, false, not, ◌&&◌, ◌||◌, ◌==◌, if◌then◌else◌, List, [], ◌∷◌, length}
+use Rattle.std.specs.Prelude.{Option, None, Some}
 use Rattle.operand_texts.specs.declared.nesting.Nesting.{Nesting}
 
 -- The start of a field is outside apostrophes and parentheses.
 abbrev pub outside : Nesting
-outside = record { quoted = false; depth = 0 }
+outside = record { quoted = false; depth = 0; overclosed = false }
 
 -- A byte of the field opens or closes an apostrophe, or outside apostrophes a parenthesis (High Level Assembler
--- Language Reference, "Operand entries").
+-- Language Reference, "Operand entries"). A parenthesis that isn't open is closed too often.
 abbrev pub past : Nesting → ℕ → Nesting
 past n c =
-    if c == 39 then record { quoted = not n.quoted; depth = n.depth }
+    if c == 39 then record { quoted = not n.quoted; depth = n.depth; overclosed = n.overclosed }
     else if n.quoted then n
-    else if c == 40 then record { quoted = n.quoted; depth = n.depth + 1 }
-    else if c == 41 then record { quoted = n.quoted; depth = n.depth - 1 }
+    else if c == 40 then record { quoted = n.quoted; depth = n.depth + 1; overclosed = n.overclosed }
+    else if c == 41 then
+    record { quoted = n.quoted; depth = n.depth - 1; overclosed = n.overclosed || (n.depth == 0) }
     else n
+
+-- Where the byte after a text is.
+abbrev pub nesting_after : Nesting → List ℕ → Nesting
+nesting_after n [] = n
+nesting_after n (c ∷ cs) = nesting_after (past n c) cs
 
 -- The field goes up to the first blank outside apostrophes; what follows is remarks (High Level Assembler Language
 -- Reference, "Remarks entries").
@@ -23,10 +29,13 @@ abbrev pub field_len : Nesting → List ℕ → ℕ
 field_len n [] = 0
 field_len n (c ∷ cs) = if c == 32 && not n.quoted then 0 else 1 + field_len (past n c) cs
 
--- Each apostrophe and each parenthesis is closed, and none is closed too often.
+-- Before this byte each apostrophe and each parenthesis is closed, and none was closed too often,
+abbrev pub is_closed : Nesting → Bool
+is_closed n = not n.quoted && (n.depth == 0) && not n.overclosed
+
+-- and so it is after a text.
 abbrev pub is_balanced : Nesting → List ℕ → Bool
-is_balanced n [] = not n.quoted && (n.depth == 0)
-is_balanced n (c ∷ cs) = not (c == 41 && not n.quoted && (n.depth == 0)) && is_balanced (past n c) cs
+is_balanced n text = is_closed (nesting_after n text)
 
 -- A comma outside apostrophes and parentheses separates two operands.
 abbrev pub separates : Nesting → ℕ → Bool

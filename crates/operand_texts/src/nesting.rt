@@ -2,16 +2,19 @@
 
 ghost use Rattle.std.specs.Prelude.{◌≡◌, ◌∷◌, ◌+◌, ◌^◌, ◌<◌, ◌≤◌, length, List, ℕ, Some};
 ghost use Rattle.std.specs.Option.{option_copied};
-ghost use Rattle.operand_texts.specs.Field.{outside, past, field_len, is_balanced, operand_len, operands_from};
-ghost use Rattle.operand_texts.specs.Field.{operands_behind};
+ghost use Rattle.operand_texts.specs.Field.{outside, past, field_len, is_closed, is_balanced, operand_len};
+ghost use Rattle.operand_texts.specs.Field.{operands_from, operands_behind};
 
-/// Where a byte of a field is: between apostrophes or not, and in how many parentheses.
+/// Where a byte of a field is: between apostrophes or not, and in how many parentheses; and whether one was closed too
+/// often before it.
 #[derive(Clone, Copy)]
 pub struct Nesting {
     /// Whether it's between apostrophes.
     pub quoted: bool,
     /// How many parentheses it's in.
     pub depth: usize,
+    /// Whether a parenthesis was closed before it that wasn't open.
+    pub overclosed: bool,
 }
 
 impl Nesting {
@@ -22,6 +25,7 @@ impl Nesting {
         Nesting {
             quoted: false,
             depth: 0,
+            overclosed: false,
         }
     }
 
@@ -31,23 +35,37 @@ impl Nesting {
         ensures value { result ≡ past self byte }
         ensures depth { result.depth ≤ self.depth + 1 }
     {
-        let Nesting { quoted, depth } = self;
+        let Nesting {
+            quoted,
+            depth,
+            overclosed,
+        } = self;
         match byte {
             b'\'' => Nesting {
                 quoted: !quoted,
                 depth,
+                overclosed,
             },
             _ if quoted => self,
             b'(' => Nesting {
                 quoted,
                 depth: depth + 1,
+                overclosed,
             },
             b')' => Nesting {
                 quoted,
                 depth: depth.saturating_sub(1),
+                overclosed: overclosed || depth == 0,
             },
             _ => self,
         }
+    }
+
+    /// Whether each apostrophe and parenthesis before the byte is closed, and none too often.
+    pub fn is_closed(self) -> bool
+        ensures { result ≡ is_closed self }
+    {
+        !self.quoted && self.depth == 0 && !self.overclosed
     }
 }
 
@@ -82,12 +100,9 @@ pub fn is_balanced(text: &[u8]) -> bool
         if *byte > b')' {
             continue;
         }
-        if *byte == b')' && !at.quoted && at.depth == 0 {
-            return false;
-        }
         at = at.past(*byte);
     }
-    !at.quoted && at.depth == 0
+    at.is_closed()
 }
 
 /// How long the first operand of a field is.

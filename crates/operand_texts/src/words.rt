@@ -7,7 +7,7 @@ ghost use Rattle.std.specs.Str.{IsAscii};
 ghost use Rattle.operand_texts.specs.Words.{is_letter, is_name_byte, is_name, is_word, word_len, blank_len, word};
 ghost use Rattle.operand_texts.specs.Words.{after_word, after_blanks};
 
-use crate::characters::{Classes, classes_of};
+use crate::characters::{Classes, classes_of, upper_of};
 use arrayvec::ArrayString;
 use bitflags::Flags;
 
@@ -47,7 +47,7 @@ pub fn upper_name(text: &[u8]) -> Name
 {
     let mut name = Name::new();
     for byte in text {
-        name.push(char::from(byte.to_ascii_uppercase()));
+        name.push(char::from(upper_of(*byte)));
     }
     name
 }
@@ -56,7 +56,7 @@ pub fn upper_name(text: &[u8]) -> Name
 fn is_folded(byte: u8, upper: u8) -> bool
     ensures { result ≡ (to_ascii_uppercase byte == upper) }
 {
-    byte.to_ascii_uppercase() == upper
+    upper_of(byte) == upper
 }
 
 /// Whether a text is this word, in either case. The word is given in upper case.

@@ -5,7 +5,7 @@ ghost use Rattle.std.specs.Result.{OnOk, OnErr};
 ghost use Rattle.arrayvec.specs.ArrayVec.{array_vec_len};
 ghost use Rattle.macro_statements.specs.Statements.{from_operands};
 ghost use Rattle.macro_reader.specs.Columns.{used, is_blank};
-ghost use Rattle.macro_reader.specs.Continuation.{nesting_after, ends_with_comma, no_field};
+ghost use Rattle.macro_reader.specs.Continuation.{ends_with_comma, no_field};
 ghost use Rattle.macro_reader.specs.Continuation.{begun, with_part, with_line};
 ghost use Rattle.statement_faults.specs.Places.{in_row, added, joined_of};
 

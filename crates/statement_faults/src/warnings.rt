@@ -176,7 +176,14 @@ fn operands_len(quoted: Option<bool>, text: &[u8]) -> usize
     ensures { result ≤ length text.now }
 {
     match quoted {
-        Some(quoted) => field_len(Nesting { quoted, depth: 0 }, text),
+        Some(quoted) => {
+            let start = Nesting {
+                quoted,
+                depth: 0,
+                overclosed: false,
+            };
+            field_len(start, text)
+        }
         None => 0,
     }
 }

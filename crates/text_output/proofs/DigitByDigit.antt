@@ -104,6 +104,33 @@ hexadecimal_more width n some small = elim (cases_lt n 16) [
   | inr large ↦ hexadecimal_large width n large (omega arith)
 ]
 
+-- the digits of a number, the last after the others
+one_more : (width n : ℕ) (front : List ℕ) → 1 < width → n < 2 ^ 32 → hexadecimal (width - 1) (n / 16) ≡ front → hexadecimal width n ≡ front ++ glyph n ∷ []
+one_more width n front wide small e = hexadecimal_more width n (inl wide) small ∙ ap (λ x. x ++ glyph n ∷ []) e
+
+-- a word's digits, each by the number that remains without those after it
+by_remains : (a b c d e f g h : ℕ) → h < 2 ^ 32 → g ≡ h / 16 → f ≡ g / 16 → e ≡ f / 16 → d ≡ e / 16 → c ≡ d / 16 → b ≡ c / 16 → a ≡ b / 16
+    → hexadecimal 8 h ≡ glyph a ∷ glyph b ∷ glyph c ∷ glyph d ∷ glyph e ∷ glyph f ∷ glyph g ∷ glyph h ∷ []
+by_remains a b c d e f g h small to_g to_f to_e to_d to_c to_b to_a =
+    one_more 8 h _ (omega arith) small (ap (hexadecimal 7) (sym to_g)
+    ∙ one_more 7 g _ (omega arith) (omega arith) (ap (hexadecimal 6) (sym to_f)
+    ∙ one_more 6 f _ (omega arith) (omega arith) (ap (hexadecimal 5) (sym to_e)
+    ∙ one_more 5 e _ (omega arith) (omega arith) (ap (hexadecimal 4) (sym to_d)
+    ∙ one_more 4 d _ (omega arith) (omega arith) (ap (hexadecimal 3) (sym to_c)
+    ∙ one_more 3 c _ (omega arith) (omega arith) (ap (hexadecimal 2) (sym to_b)
+    ∙ one_more 2 b _ (omega arith) (omega arith) (ap (hexadecimal 1) (sym to_a)
+    ∙ hexadecimal_one 1 a (omega arith) (omega arith))))))))
+
+-- The eight digits of a word.
+pub word_written : (n : ℕ) → n < 2 ^ 32
+    → digit_glyph true (n / 268435456) ∷ digit_glyph true (n / 16777216 % 16) ∷ digit_glyph true (n / 1048576 % 16) ∷ digit_glyph true (n / 65536 % 16)
+    ∷ digit_glyph true (n / 4096 % 16) ∷ digit_glyph true (n / 256 % 16) ∷ digit_glyph true (n / 16 % 16) ∷ digit_glyph true (n % 16) ∷ [] ≡ hexadecimal 8 n
+word_written n small =
+    let first : n / 268435456 % 16 ≡ n / 268435456 = omega (arith, small) in
+    ap (λ d. digit_glyph true d ∷ glyph (n / 16777216) ∷ glyph (n / 1048576) ∷ glyph (n / 65536) ∷ glyph (n / 4096) ∷ glyph (n / 256) ∷ glyph (n / 16) ∷ glyph n ∷ []) (sym first)
+    ∙ sym (by_remains (n / 268435456) (n / 16777216) (n / 1048576) (n / 65536) (n / 4096) (n / 256) (n / 16) n small
+    refl (omega arith) (omega arith) (omega arith) (omega arith) (omega arith) (omega arith))
+
 split_zeros : (all front behind : ℕ) (ds : List ℕ) → all ≡ front + behind → zeros all ++ ds ≡ zeros front ++ (zeros behind ++ ds)
 split_zeros all front behind ds both =
     ap (λ k. zeros k ++ ds) both ∙ ap (λ x. x ++ ds) (sym (replicate-append-replicate front behind 48)) ∙ append_assoc (zeros front) (zeros behind) ds

@@ -1,3 +1,4 @@
 pub mod Known
 pub mod Gathering
 pub mod DigitByDigit
+mod DigitTable

@@ -37,16 +37,31 @@ pub fn put_line_number<W: Write>(gathered: &mut Gathered, writer: &mut W, n: u32
     gathered.put(writer, &places[first.min(3)..]);
 }
 
+// The upper case hexadecimal digits.
+static DIGITS: [u8; 16] = *b"0123456789ABCDEF";
+
 /// One upper case hexadecimal digit.
 fn hexadecimal_digit(n: u32) -> u8
     requires { n < 16 }
     ensures { result ≡ digit_glyph true n }
 {
-    if n < 10 {
-        b'0' + n as u8
-    } else {
-        b'A' + (n - 10) as u8
-    }
+    DIGITS[n as usize]
+}
+
+/// The eight upper case hexadecimal digits of a word.
+fn eight_digits(n: u32) -> [u8; 8]
+    ensures { result ≡ hexadecimal 8 n }
+{
+    [
+        hexadecimal_digit(n / 0x1000_0000),
+        hexadecimal_digit(n / 0x100_0000 % 16),
+        hexadecimal_digit(n / 0x10_0000 % 16),
+        hexadecimal_digit(n / 0x1_0000 % 16),
+        hexadecimal_digit(n / 0x1000 % 16),
+        hexadecimal_digit(n / 0x100 % 16),
+        hexadecimal_digit(n / 0x10 % 16),
+        hexadecimal_digit(n % 16),
+    ]
 }
 
 /// Writes a number in upper case hexadecimal digits, with leading zeros to this width, up to the last of eight places,
@@ -73,6 +88,10 @@ fn hexadecimal_digits(places: &mut [u8; 8], width: u32, n: u32) -> usize
 pub fn put_hexadecimal<W: Write>(gathered: &mut Gathered, writer: &mut W, width: u32, n: u32)
     ensures { Puts (W.contents writer.old) (W.contents writer.new) gathered.old gathered.new (hexadecimal width n) }
 {
+    if width == 8 {
+        gathered.put(writer, &eight_digits(n));
+        return;
+    }
     for _ in 0..width.saturating_sub(8) {
         gathered.put(writer, b"0");
     }

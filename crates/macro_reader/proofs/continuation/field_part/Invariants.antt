@@ -1,6 +1,5 @@
 use Rattle.std.proofs.Common.{◌≡◌, ◌+◌, ◌≤◌, take, drop}
-use Rattle.operand_texts.specs.Field.{field_len}
-use Rattle.macro_reader.specs.Continuation.{nesting_after}
+use Rattle.operand_texts.specs.Field.{field_len, nesting_after}
 use Rattle.macro_reader.proofs.continuation.field_part.Given as goal
 
 abbrev pub invariant-loop-i : goal.invariant-loop-i

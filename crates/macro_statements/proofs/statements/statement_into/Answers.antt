@@ -8,4 +8,4 @@ returns-clause-valid c = left_is_valid c.in-Some.operation (operands c.args.text
 
 pub returns-clause-value : goal.returns-clause-value
 returns-clause-value c card head =
-    stated_by card c.args.text.now c.args.head.misplaced c.args.head.operation c.in-Some.operation c.is_balanced.result _ head.0 c.if-head.false head.1 c.in-Some.is c.is_balanced.ensures c.if-not-is_balanced.false c.asked_of.ensures
+    stated_by card c.args.text.now c.args.head.misplaced c.args.head.operation c.in-Some.operation c.args.balanced _ head.0 c.if-head.false head.1 c.in-Some.is c.requires.balanced c.if-not-balanced.false c.asked_of.ensures

@@ -1,5 +1,5 @@
 use Rattle.std.proofs.Common.{◌≡◌, ◌+◌, ◌≤◌, take}
-use Rattle.macro_reader.specs.Continuation.{nesting_after}
+use Rattle.operand_texts.specs.Field.{nesting_after}
 use Rattle.statement_faults.proofs.fields.nesting_behind.Given as goal
 
 abbrev pub invariant-loop-byte : goal.invariant-loop-byte

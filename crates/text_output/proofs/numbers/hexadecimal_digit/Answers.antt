@@ -1,8 +1,8 @@
-use Rattle.std.proofs.Common.{◌≡◌, ◌+◌, true, arith, rules, tests}
-use Rattle.std.specs.Fmt.{digit_glyph}
+use Rattle.std.proofs.Common.{refl}
+use Rattle.text_output.specs.declared.numbers.TheConstants.{DIGITS}
+use Rattle.text_output.proofs.DigitTable.{are_glyphs, glyph_at}
 use Rattle.text_output.proofs.numbers.hexadecimal_digit.Goals as goal
 
-pub returns-else-n-lt10 : goal.returns-else-n-lt10
-returns-else-n-lt10 c =
-    let glyph : digit_glyph true c.args.n ≡ 55 + c.args.n = grind (arith, rules, tests) in
-    omega (arith, glyph)
+pub returns : goal.returns
+unfolding are_glyphs
+returns c = glyph_at DIGITS 16 refl c.args.n c.requires

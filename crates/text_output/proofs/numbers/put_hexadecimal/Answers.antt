@@ -15,9 +15,15 @@ loop-preserved g c =
     let l = c.loop in
     let old = g.W.Write.contents c.args.writer.now in
     let now = g.W.Write.contents l.writer in
+    let new = g.W.Write.contents c.put-in-loop.new.writer in
+    subst (Puts old new c.args.gathered.now c.put-in-loop.new.self) (sym (replicate_next l.counter 48))
+    (puts_both old now new c.args.gathered.now l.gathered c.put-in-loop.new.self (zeros l.counter) (48 ∷ []) l.invariant c.put-in-loop.ensures.puts)
+
+pub returns-then-width-eq8 : goal.returns-then-width-eq8
+returns-then-width-eq8 g c =
+    let old = g.W.Write.contents c.args.writer.now in
     let new = g.W.Write.contents c.put.new.writer in
-    subst (Puts old new c.args.gathered.now c.put.new.self) (sym (replicate_next l.counter 48))
-    (puts_both old now new c.args.gathered.now l.gathered c.put.new.self (zeros l.counter) (48 ∷ []) l.invariant c.put.ensures.puts)
+    subst (Puts old new c.args.gathered.now c.put.new.self) (c.eight_digits.ensures ∙ ap (λ w. hexadecimal w c.args.n) (sym c.if-width-eq8.true)) c.put.ensures.puts
 
 pub returns : goal.returns
 returns g c =

@@ -1,4 +1,5 @@
-use Rattle.std.proofs.Common.{◌≡◌, ℕ, List, [], ◌∷◌, Result, Err, refl, ap, ◌∙◌}
+use Rattle.std.proofs.Common.{◌≡◌, ℕ, List, [], ◌∷◌, Result, Err, refl, sym, ap, ◌∙◌}
+use Rattle.operand_texts.specs.Field.{outside, is_closed, is_balanced}
 use Rattle.macro_statements.specs.Requests.{Asked}
 use Rattle.macro_statements.specs.Statements.{statement_with}
 use Rattle.macro_operands.specs.declared.faults.FaultKind.{FaultKind}
@@ -25,6 +26,11 @@ whole_due d o x text h e t = rw (h, e, t) refl
 
 broken_due : (d : Due) (o : OpenStatement) → d ≡ due.Broken → answer o (Err kind.Continuation) ≡ due_of d o
 broken_due d o h = rw h refl
+
+pub statement_into-requires : goal.statement_into-requires
+statement_into-requires c = record {
+  balanced = c.is_closed.ensures ∙ ap is_closed c.move_on-due.new.statement.gathered.nested ∙ ap (is_balanced outside) (sym c.as_slice.ensures.value);
+}
 
 pub returns-in-Nothing-clause-answers : goal.returns-in-Nothing-clause-answers
 returns-in-Nothing-clause-answers c = λ lines answers h.

@@ -1,6 +1,6 @@
 use Rattle.std.proofs.Common.{◌++◌, ◌∙◌, take, drop, replicate, ap}
 use Rattle.macro_reader.proofs.Blanks.{filled}
-use Rattle.macro_reader.proofs.columns.used.Goals as goal
+use Rattle.macro_reader.proofs.columns.put_used.Goals as goal
 
 pub returns : goal.returns
 returns c = ap (λ x. x ++ drop c.min-n.result (replicate 71 32)) c.copy_from_slice.ensures.after
