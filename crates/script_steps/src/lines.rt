@@ -1,5 +1,5 @@
 //! A session takes the bytes of its script, line by line.
-ghost use Rattle.std.specs.Prelude.{◌≡◌, ◌<◌, [], ◌∷◌, ◌++◌, List, ℕ, take, length, Ok};
+ghost use Rattle.std.specs.Prelude.{◌≡◌, ◌<◌, ◌≤◌, [], ◌∷◌, ◌++◌, List, ℕ, take, length, Ok};
 ghost use Rattle.std.specs.Str.Lines.{strip_carriage_return};
 ghost use Rattle.vsm_model.specs.declared.limits.Settings.{Settings};
 ghost use Rattle.macro_statements.specs.Requests.{asked_in};
@@ -63,6 +63,24 @@ fn columns(kept: &[u8], size: u32) -> &[u8]
     if size <= 80 { strip(kept) } else { kept }
 }
 
+/// The response to a line with these columns. What its statement asks for goes into the room that is lent.
+fn take_columns(
+    reader: &mut Reader,
+    bench: &mut Bench,
+    columns: &[u8],
+    shown: &mut ArrayVec<u8, 256>,
+    request: &mut Request,
+) -> NumberedResponse
+    ensures tells { (lines : List Line) (answers : List Answer) → IsBehind lines answers reader.old
+        → (more : List Answer) × IsBehind (lines ++ columns.now ∷ []) (answers ++ more) reader.new
+        × Tells (settings_in bench.old) (bench_of bench.old) more result shown.new.items (bench_of bench.new)
+        × AreAsked (asked_in request.new) more }
+    ensures settings { settings_in bench.new ≡ settings_in bench.old }
+{
+    let fed = reader.next_into(columns, request);
+    tell(bench, fed, request, shown)
+}
+
 /// The response to a last line of this many bytes, of which the first 80 are kept; none if there are no bytes. What its
 /// statement asks for goes into the room that is lent.
 fn take_last(
@@ -83,8 +101,7 @@ fn take_last(
     if size == 0 {
         return None;
     }
-    let fed = reader.next_into(kept, request);
-    tell(bench, fed, request, shown)
+    take_columns(reader, bench, kept, shown, request)
 }
 
 impl Session {
@@ -101,6 +118,7 @@ impl Session {
             statements: 0,
             refused: 0,
             shown: ArrayVec::new(),
+            request: Request::Map,
         }
     }
 
@@ -150,11 +168,44 @@ impl Session {
             × Shows settings answers more self.new.shown.items
             × AreAsked (asked_in request.new) (answers_of more) }
     {
-        let line = columns(self.kept.as_slice(), self.length);
-        let fed = self.reader.next_into(line, request);
-        let told = tell(&mut self.bench, fed, request, &mut self.shown);
+        let told = take_columns(
+            &mut self.reader,
+            &mut self.bench,
+            columns(self.kept.as_slice(), self.length),
+            &mut self.shown,
+            request,
+        );
         self.kept.clear();
         self.length = 0;
+        self.lines += 1;
+        self.statements += told_count(&told);
+        self.refused += told_refused(&told);
+        told
+    }
+
+    /// Takes a line of at most 80 bytes, none of which was taken yet, with the line feed that ends it, and gives the
+    /// response to the line as `end_line` does. The line is read where it lies.
+    ///
+    /// Only while fewer than `LINES` lines have ended.
+    pub fn take_whole(&mut self, line: &[u8]) -> NumberedResponse
+        requires between { self.old.length ≡ 0 }
+        requires plain { NoFeed line.now }
+        requires short { length line.now ≤ 80 }
+        requires fewer { self.old.lines < 1048576 }
+        ensures { (settings : Settings) (given : List ℕ) (answers : List Marked) → Took settings given answers self.old
+            → (more : List Marked) × IsTold settings answers more
+            (told_text settings (bench_of self.new.bench) self.new.shown.items result)
+            × Brings settings answers more result
+            × Took settings ((given ++ line.now) ++ 10 ∷ []) (answers ++ more) self.new
+            × Shows settings answers more self.new.shown.items }
+    {
+        let told = take_columns(
+            &mut self.reader,
+            &mut self.bench,
+            strip(line),
+            &mut self.shown,
+            &mut self.request,
+        );
         self.lines += 1;
         self.statements += told_count(&told);
         self.refused += told_refused(&told);

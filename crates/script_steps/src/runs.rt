@@ -1,11 +1,15 @@
 //! A run over a reader and a writer.
-ghost use Rattle.std.specs.Prelude.{◌++◌, [], ◌∷◌, ◌<◌, ◌≤◌, ℕ, List, Option, length, IfOk, OnOk};
+ghost use Rattle.std.specs.Prelude.{◌≡◌, ◌↔◌, ◌++◌, [], ◌∷◌, ◌<◌, ◌≤◌, ℕ, List, Option, length, IfOk, IsTrue, OnOk};
 ghost use Rattle.std.specs.Io.KnownBytes.{IsAtEnd};
 ghost use Rattle.vsm_model.specs.declared.limits.Settings.{Settings};
-ghost use Rattle.text_output.specs.Writing.{IsEmpty};
+ghost use Rattle.bench_core.specs.Stands.{bench_of, settings_in};
+ghost use Rattle.text_output.specs.Writing.{IsEmpty, Puts};
+ghost use Rattle.script_steps.specs.Answers.{told_text};
+ghost use Rattle.script_steps.specs.Script.{NoFeed};
 ghost use Rattle.script_steps.specs.Run.{Runs, GoesOn, Takes, TakesLine, TakesRead, Finishes, Ran};
 
 use crate::faults::RunFault;
+use crate::responses::NumberedResponse;
 use crate::session::{LINES, Session, TooLong};
 use crate::steps::before_feed;
 use crate::texts::put_told;
@@ -15,6 +19,19 @@ use std::alloc::Global;
 use std::io::{Read, Write};
 use text_output::Gathered;
 use vsm_model::Settings;
+
+/// Puts the response that a session gave to a line.
+fn put_answer<W: Write>(
+    session: &Session,
+    gathered: &mut Gathered,
+    writer: &mut W,
+    told: &NumberedResponse,
+)
+    ensures { Puts (W.contents writer.old) (W.contents writer.new) gathered.old gathered.new
+        (told_text (settings_in session.now.bench) (bench_of session.now.bench) session.now.shown.items told.now) }
+{
+    put_told(gathered, writer, session.bench(), session.shown(), told);
+}
 
 /// Takes a line feed, and puts the response to the line that it ends.
 fn take_feed<W: Write>(
@@ -29,7 +46,36 @@ fn take_feed<W: Write>(
         return Err(TooLong);
     }
     let told = session.end_line();
-    put_told(gathered, writer, session.bench(), session.shown(), &told);
+    put_answer(session, gathered, writer, &told);
+    Ok(())
+}
+
+/// Whether the rest has a line feed after this many bytes, at most 80, and none of the line was taken yet.
+fn is_whole(session: &Session, size: usize, rest: &[u8]) -> bool
+    ensures { IsTrue result ↔ (size < length rest.now) × (size ≤ 80) × (session.now.length ≡ 0) }
+{
+    size < rest.len() && size <= 80 && session.is_between()
+}
+
+/// Takes a line of at most 80 bytes, none of which was taken yet, with its line feed, and puts the response to it.
+fn take_whole<W: Write>(
+    session: &mut Session,
+    gathered: &mut Gathered,
+    writer: &mut W,
+    line: &[u8],
+) -> Result<(), TooLong>
+    requires between { session.old.length ≡ 0 }
+    requires plain { NoFeed line.now }
+    requires short { length line.now ≤ 80 }
+    ensures { GoesOn (W.contents writer.old) gathered.old session.old (λ settings first given.
+        Takes settings first (W.contents writer.new) gathered.new ((given ++ line.now) ++ 10 ∷ []) session.new
+        result) }
+{
+    if session.lines() >= LINES {
+        return Err(TooLong);
+    }
+    let told = session.take_whole(line);
+    put_answer(session, gathered, writer, &told);
     Ok(())
 }
 
@@ -47,6 +93,10 @@ fn take_line<W: Write>(
     ensures within { IfOk result (λ n. n ≤ length rest.now) }
 {
     let size = before_feed(rest);
+    if is_whole(session, size, rest) {
+        take_whole(session, gathered, writer, &rest[..size])?;
+        return Ok(size + 1);
+    }
     session.take_bytes(&rest[..size])?;
     if size == rest.len() {
         return Ok(size);

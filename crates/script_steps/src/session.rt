@@ -1,10 +1,10 @@
 //! The state of a session.
-ghost use Rattle.std.specs.Prelude.{◌≡◌, ◌≤◌};
+ghost use Rattle.std.specs.Prelude.{◌≡◌, ◌==◌, ◌≤◌};
 ghost use Rattle.macro_reader.specs.Roles.{IsStand};
 
 use arrayvec::ArrayVec;
 use bench_core::Bench;
-use macro_reader::{Reader, ReaderState};
+use macro_reader::{Reader, ReaderState, Request};
 
 /// The most lines of a script.
 pub const LINES: u32 = 1_048_576;
@@ -32,6 +32,8 @@ pub struct Session {
     pub(crate) refused: u32,
     /// The bytes of the last reading that showed its bytes.
     pub(crate) shown: ArrayVec<u8, 256>,
+    // The room for what a line asks for.
+    pub(crate) request: Request,
     ghost short: { length ≤ 65536 },
     ghost few: { statements ≤ lines },
     ghost fewer: { refused ≤ statements },
@@ -65,6 +67,13 @@ impl Session {
         ensures { result ≡ self.now.lines }
     {
         self.lines
+    }
+
+    /// Whether no byte of the line that has not ended was taken yet.
+    pub fn is_between(&self) -> bool
+        ensures { result ≡ (self.now.length == 0) }
+    {
+        self.length == 0
     }
 
     /// The state of the reader: what the next line is to it, by whether that is skipped, or breaks a rule.

@@ -1,8 +1,7 @@
 use Rattle.std.proofs.Common.{◌∷◌, [], ◌++◌, arith, subst, sym}
-use Rattle.bench_core.specs.Stands.{bench_of, settings_in}
+use Rattle.bench_core.specs.Stands.{bench_of}
 use Rattle.script_steps.specs.Answers.{told_text}
 use Rattle.script_steps.specs.Taken.{IsTold}
-use Rattle.text_output.specs.Writing.{Puts}
 use Rattle.script_steps.proofs.Outcomes.{out_more}
 use Rattle.script_steps.proofs.Takes.{past_lines}
 use Rattle.script_steps.proofs.runs.take_feed.Goals as goal
@@ -20,14 +19,8 @@ returns g c = λ settings first given h.
     let now = bench_of c.end_line-told.new.self.bench in
     let bytes = c.end_line-told.new.self.shown.items in
     let told = subst (λ s. IsTold settings h.answers e.0 (told_text s now bytes c.end_line-told.result)) (sym e.3.under) e.1 in
-    let puts = subst
-    (λ b. Puts (g.W.Write.contents c.args.writer.now) (g.W.Write.contents c.put_told.new.writer) c.args.gathered.now c.put_told.new.gathered
-    (told_text (settings_in b) (bench_of b) bytes c.end_line-told.result)) c.bench.ensures
-    (subst
-    (λ x. Puts (g.W.Write.contents c.args.writer.now) (g.W.Write.contents c.put_told.new.writer) c.args.gathered.now c.put_told.new.gathered
-    (told_text (settings_in c.bench.result.now) (bench_of c.bench.result.now) x c.end_line-told.result)) c.shown.ensures c.put_told.ensures) in
     record {
       answers = h.answers ++ e.0;
       took = e.3;
-      out = out_more settings first _ _ _ _ h.answers e.0 _ told puts h.out;
+      out = out_more settings first _ _ _ _ h.answers e.0 _ told c.put_answer.ensures h.out;
     }

@@ -1,0 +1,32 @@
+use Rattle.std.proofs.Common.{◌<◌, ◌∷◌, [], ◌++◌, length, arith, subst, sym, append_assoc}
+use Rattle.std.proofs.lemmas.List.{length_push}
+use Rattle.bench_core.specs.Stands.{bench_of}
+use Rattle.script_steps.specs.Answers.{told_text}
+use Rattle.script_steps.specs.Taken.{IsTold, PassesBound}
+use Rattle.script_steps.proofs.Outcomes.{out_more}
+use Rattle.script_steps.proofs.Takes.{past_lines}
+use Rattle.script_steps.proofs.runs.take_whole.Goals as goal
+
+pub returns-then-lines-ge-LINES : goal.returns-then-lines-ge-LINES
+returns-then-lines-ge-LINES g c = λ settings first given h.
+    let line = c.args.line.now in
+    let size = length_push line 10 in
+    let some : 0 < length (line ++ 10 ∷ []) = omega (arith, size) in
+    record {
+      answers = h.answers;
+      past = λ behind. subst (λ x. PassesBound settings (x ++ behind) h.answers) (sym (append_assoc given line (10 ∷ [])))
+          (past_lines settings given h.answers c.args.session.now h.took (line ++ 10 ∷ []) behind some (omega (arith, c.if-lines-ge-LINES.true, c.lines.ensures)));
+      out = h.out;
+    }
+
+pub returns : goal.returns
+returns g c = λ settings first given h.
+    let e = c.take_whole-told.ensures settings given h.answers h.took in
+    let now = bench_of c.take_whole-told.new.self.bench in
+    let bytes = c.take_whole-told.new.self.shown.items in
+    let told = subst (λ s. IsTold settings h.answers e.0 (told_text s now bytes c.take_whole-told.result)) (sym e.3.under) e.1 in
+    record {
+      answers = h.answers ++ e.0;
+      took = e.3;
+      out = out_more settings first _ _ _ _ h.answers e.0 _ told c.put_answer.ensures h.out;
+    }
