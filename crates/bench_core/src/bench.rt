@@ -19,8 +19,8 @@ use step_history::{History, Reversible, TooFar, TooFarAhead};
 use storage_changes::laws::fresh_pages_are_newly_assigned;
 use storage_swap::laws::first_is_first;
 use vsm_machine::{
-    Machine, NameTable, NewFault, Planned, Refusal, Reply, Settings, Storage, look_up, plan_of,
-    reserve,
+    Machine, NameTable, NewFault, PlanRecords, Planned, Refusal, Reply, Settings, Storage, look_up,
+    plan_of, reserve,
 };
 
 /// A bench over one private region.
@@ -92,24 +92,26 @@ impl Bench {
         ensures sparing { IfErr result (Spares self.old.machine (act_in statement.now) self.new.machine) }
         ensures made { IfOk result (λ _. MakesForStatement self.old.machine (act_in statement.now) self.new.machine) }
     {
-        match plan_of(&self.machine, statement) {
-            Ok(planned) => self.carry_out(planned),
+        let mut word = [0; 4];
+        let mut room = PlanRecords::new();
+        match plan_of(&self.machine, statement, &mut word, &mut room) {
+            Ok(planned) => self.carry_out(&planned),
             Err(refusal) => Err(refusal),
         }
     }
 
     // Carries out what was planned for a statement.
-    fn carry_out(&mut self, planned: Planned) -> Result<Reply, Refusal>
-        requires { (x : Act) × CanCarryOut (shown self.old.machine) x planned }
-        ensures keeps { (x : Act) → CanCarryOut (shown self.old.machine) x planned
+    fn carry_out(&mut self, planned: &Planned<'_>) -> Result<Reply, Refusal>
+        requires { (x : Act) × CanCarryOut (shown self.old.machine) x planned.now }
+        ensures keeps { (x : Act) → CanCarryOut (shown self.old.machine) x planned.now
             → Keeps (statement_step (settings_in self.old)) (settings_in self.old).history (bench_of self.old)
             (Apply x) (answer_to_apply result) (bench_of self.new) }
         ensures settings { settings_in self.new ≡ settings_in self.old }
-        ensures needless { (x : Act) → CanCarryOut (shown self.old.machine) x planned
+        ensures needless { (x : Act) → CanCarryOut (shown self.old.machine) x planned.now
             → IsSupplied self.old.machine x → FindsMemory result }
         ensures wants { IfErr result (λ refusal. refusal ≡ NoMemory) }
-        ensures made { (x : Act) → CanCarryOut (shown self.old.machine) x planned
-            → MakesFor self.old.machine x planned self.new.machine }
+        ensures made { (x : Act) → CanCarryOut (shown self.old.machine) x planned.now
+            → MakesFor self.old.machine x planned.now self.new.machine }
     {
         fresh_pages_are_newly_assigned();
         let reply = planned.plan.reply();

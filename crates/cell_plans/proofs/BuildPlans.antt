@@ -1,5 +1,5 @@
 -- The plan of a new cell pool leads to what BUILD leaves, or it's refused for the first cause.
-use Rattle.std.proofs.Common.{◌≡◌, ℕ, ◌+◌, ◌*◌, ◌<◌, ◌≤◌, ◌^◌, Bool, true, false, not, ◌&&◌, nat_le, is_some, Option, Some, None, List, [], ◌∷◌, ◌++◌, length, refl, sym, ap, ◌∙◌, subst, arith}
+use Rattle.std.proofs.Common.{◌≡◌, ℕ, ◌+◌, ◌*◌, ◌<◌, ◌≤◌, ◌^◌, Bool, true, false, not, ◌&&◌, nat_le, is_some, IfSome, Option, Some, None, List, [], ◌∷◌, ◌++◌, length, refl, sym, ap, ◌∙◌, subst, arith}
 use Rattle.std.specs.Prelude.{unwrap_or, option_map, Ok}
 use Rattle.std.proofs.Math.Logic.{∥∥₁_map}
 use Rattle.std.proofs.Math.Nat.{mul-pos, mul-le-mul_left}
@@ -219,15 +219,16 @@ module _ (settings : Settings) (names_full : Bool) (m : StorageState) (name : Li
             }
 
     -- A plan with these parts.
-    module _ (plan : BuildPlan) (given : CellSettings) (is_given : given ≡ built_with) (is_name : plan.name.bytes ≡ name) (is_header : option_map (λ h. h.items) plan.header ≡ header)
+    module _ (plan : BuildPlan) (given : CellSettings) (is_given : given ≡ built_with) (is_name : plan.name.now ≡ name) (is_header : option_map (λ text. text.now) plan.header ≡ header)
+        (short_name : length name ≤ 63) (short_header : IfSome plan.header (λ text. length text.now ≤ 24))
         (is_settings : plan.settings ≡ given) (is_start : plan.start ≡ place_address x)
-        (is_records : plan.records.items ≡ own_records given.subpool is_new ++ place_records given.subpool (doublewords (given.primary * given.size)) x ++ register_records m rows)
+        (is_records : plan.records.now.items ≡ own_records given.subpool is_new ++ place_records given.subpool (doublewords (given.primary * given.size)) x ++ register_records m rows)
         (is_blanks : plan.blanks ≡ place_blanks x) (is_fresh : plan.fresh ≡ place_pages (doublewords (given.primary * given.size)) x)
         (is_reply : plan.reply ≡ Obtained (place_address x) (8 * doublewords (given.primary * given.size))) where
       with_these : plan.settings ≡ built_with
       with_these = is_settings ∙ is_given
 
-      records_are : plan.records.items ≡ own_records own is_new ++ place_records own count x ++ register_records m rows
+      records_are : plan.records.now.items ≡ own_records own is_new ++ place_records own count x ++ register_records m rows
       records_are =
           is_records ∙ ap (λ (g : CellSettings). own_records g.subpool is_new ++ place_records g.subpool (doublewords (g.primary * g.size)) x ++ register_records m rows) is_given
 
@@ -250,6 +251,8 @@ module _ (settings : Settings) (names_full : Bool) (m : StorageState) (name : Li
           let least : 0 < b.size = (let size = bounds.0 in omega (arith, size)) in
           let most : b.primary ≤ 2 ^ 12 = (let few = bounds.3 in omega (arith, few)) in
           record {
+            name = subst (λ (n : List ℕ). length n ≤ 63) (sym is_name) short_name;
+            header = short_header;
             some = subst (λ (g : CellSettings). 0 < g.primary) (sym with_these) least_count;
             size = subst (λ (g : CellSettings). 0 < g.size) (sym with_these) least;
             count = subst (λ (g : CellSettings). g.primary ≤ 2 ^ 12) (sym with_these) most;

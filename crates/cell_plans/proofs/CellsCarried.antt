@@ -20,7 +20,7 @@ use Rattle.cell_plans.specs.CellPlans.{HasRecords}
 
 module _ (settings : Settings) (names_full : Bool) (m : StorageState) (x : Service) (plan : StoragePlan) where
   module _ (records : List Record) (blanks : ℕ) (fresh : Run)
-      (is_emptied : plan.emptied ≡ None) (is_records : plan.records.items ≡ records) (is_blanks : plan.blanks ≡ blanks) (is_fresh : plan.fresh ≡ fresh) where
+      (is_emptied : plan.emptied ≡ None) (is_records : plan.records.now.items ≡ records) (is_blanks : plan.blanks ≡ blanks) (is_fresh : plan.fresh ≡ fresh) where
     pub accepts : (t : State) → step settings names_full (model_of m) x ≡ Accepted t plan.reply → Leads settings m (change_of records blanks fresh) t
         → IsAccepted settings names_full m x (change_in m plan) plan.reply
     accepts t accepted leads =

@@ -63,7 +63,7 @@ module _ (settings : Settings) (names_full : Bool) (m : StorageState) (name : Li
         ap (answered settings s (free name cell)) (past_sight ∙ skip (not (is_in_use (pool_of s name) cell)) NotInUse [] (ap not (use_is ∙ used)))
         ∙ (λ i. outcome (sym seen.named i) (pool_is m name id p seen i))
 
-    module _ (plan : StoragePlan) (is_emptied : plan.emptied ≡ None) (is_records : plan.records.items ≡ given_back_records id cell ++ register_records m ((15, 0) ∷ []))
+    module _ (plan : StoragePlan) (is_emptied : plan.emptied ≡ None) (is_records : plan.records.now.items ≡ given_back_records id cell ++ register_records m ((15, 0) ∷ []))
         (is_blanks : plan.blanks ≡ 0) (is_fresh : plan.fresh ≡ run_of 0 0) (is_reply : plan.reply ≡ Returned 0) where
       pub given_back : GivingBackCellsLeads → FreeLeavesWellFormed → AreNamed m.subpools.cells → ∥ IsSound settings m ∥₁ → uses p cell ≡ true
           → IsCellPlanned settings names_full m (free name cell) (Ok plan)

@@ -204,7 +204,7 @@ module _ (settings : Settings) (names_full : Bool) (m : StorageState) (name : Li
           ∙ ap (replied x) first_out
 
       pub first_planned : HandingOutLeads → GetLeavesWellFormed → AreNamed m.subpools.cells → settings_valid settings ≡ true → IfSome g.register (λ r. r < 16)
-          → ∥ IsSound settings m ∥₁ → names_full ≡ false → (plan : StoragePlan) → plan.emptied ≡ None → plan.records.items ≡ cell_records m id cell g.register → plan.blanks ≡ 0
+          → ∥ IsSound settings m ∥₁ → names_full ≡ false → (plan : StoragePlan) → plan.emptied ≡ None → plan.records.now.items ≡ cell_records m id cell g.register → plan.blanks ≡ 0
           → plan.fresh ≡ run_of 0 0 → plan.reply ≡ Cell cell → IsCellPlanned settings names_full m x (Ok plan)
       first_planned leads formed named valid register sound fits plan is_emptied is_records is_blanks is_fresh is_reply =
           let rows = cell_registers g.register cell in
@@ -222,7 +222,7 @@ module _ (settings : Settings) (names_full : Bool) (m : StorageState) (name : Li
 
     -- None is free, and the conditional form returns 4.
     pub four_planned : ∥ IsSound settings m ∥₁ → names_full ≡ false → p.cells ≡ [] → g.conditional ≡ true → (plan : StoragePlan) → plan.emptied ≡ None
-        → plan.records.items ≡ register_records m ((15, 4) ∷ []) → plan.blanks ≡ 0 → plan.fresh ≡ run_of 0 0 → plan.reply ≡ Returned 4 → IsCellPlanned settings names_full m x (Ok plan)
+        → plan.records.now.items ≡ register_records m ((15, 4) ∷ []) → plan.blanks ≡ 0 → plan.fresh ≡ run_of 0 0 → plan.reply ≡ Returned 4 → IsCellPlanned settings names_full m x (Ok plan)
     four_planned sound fits empty conditional plan is_emptied is_records is_blanks is_fresh is_reply = (
       ∥∥₁_map sound (λ h. as_accepted settings names_full m x plan
           (four_carried_out settings names_full m x NoStorage plan h
@@ -291,7 +291,7 @@ module _ (settings : Settings) (names_full : Bool) (m : StorageState) (name : Li
       light blanks is = let area = few_blanks to in omega (arith, is, area, weight_is)
 
       pub further_planned : ExtendingLeads → GetLeavesWellFormed → AreNamed m.subpools.cells → settings_valid settings ≡ true → IfSome g.register (λ r. r < 16) → names_full ≡ false
-          → (cells : CellSettings) → cells ≡ p.settings → (plan : StoragePlan) → plan.emptied ≡ None → plan.records.items ≡ further_records m id cells to g.register
+          → (cells : CellSettings) → cells ≡ p.settings → (plan : StoragePlan) → plan.emptied ≡ None → plan.records.now.items ≡ further_records m id cells to g.register
           → plan.blanks ≡ place_blanks to + extent_blanks cells.secondary → plan.fresh ≡ place_pages (doublewords (cells.secondary * cells.size)) to
           → plan.reply ≡ Cell (place_address to) → IsCellPlanned settings names_full m x (Ok plan)
       further_planned leads formed named valid register fits cells cells_are plan is_emptied is_records is_blanks is_fresh is_reply =
@@ -302,7 +302,7 @@ module _ (settings : Settings) (names_full : Bool) (m : StorageState) (name : Li
           let registers : List Record = register_records m rows in
           let behind : List Record → List Record = λ area. area ++ extent ++ cell ++ registers in
           let records : List Record = behind (area_records p.settings.subpool length goes) in
-          let as_records : plan.records.items ≡ records =
+          let as_records : plan.records.now.items ≡ records =
           is_records ∙ (λ i. further_records m (sym seen.id_is i) (cells_are i) to g.register)
           ∙ sym (append_assoc (place_records p.settings.subpool length to ++ extent) cell registers)
           ∙ ap behind (same_records p.settings.subpool length to) in

@@ -78,15 +78,17 @@ pub record IsOpen (m : StorageState) (name : List ℕ) (b : Build) : Type 0 wher
 -- the cell pool that is created, under an id: the cells of its one extent are free
 abbrev pub new_pool : BuildPlan → ℕ → Pool
 new_pool plan id =
-    built_pool id plan.name.bytes plan.settings (option_map (λ h. h.items) plan.header) plan.start plan.settings.primary
+    built_pool id plan.name.now plan.settings (option_map (λ text. text.now) plan.header) plan.start plan.settings.primary
 
 -- the change that creates it
 abbrev pub build_change : BuildPlan → ℕ → Change
-build_change plan id = change_building (new_pool plan id) (change_of plan.records.items plan.blanks plan.fresh)
+build_change plan id = change_building (new_pool plan id) (change_of plan.records.now.items plan.blanks plan.fresh)
 
--- It has cells, with a size and an end in storage, its records and blank elements are few, and the pages that become
--- assigned are unassigned.
+-- Its name and header are short, it has cells, with a size and an end in storage, its blank elements are few, and the
+-- pages that become assigned are unassigned.
 pub record CanBeBuilt (m : StorageState) (plan : BuildPlan) : Type 0 where
+  pub name : length plan.name.now ≤ 63
+  pub header : IfSome plan.header (λ text. length text.now ≤ 24)
   pub some : 0 < plan.settings.primary
   pub size : 0 < plan.settings.size
   pub count : plan.settings.primary ≤ 2 ^ 12

@@ -37,7 +37,7 @@ pub record CanExtend (cells : CellSettings) (place : AreaPlace) : Type 0 where
 pub record IsFurther (m : StorageState) (id : ℕ) (cells : CellSettings) (place : AreaPlace) (named : Option ℕ)
     (plan : StoragePlan) : Type 0 where
   pub emptied : plan.emptied ≡ None
-  pub records : plan.records.items ≡ further_records m id cells place named
+  pub records : plan.records.now.items ≡ further_records m id cells place named
   pub blanks : plan.blanks ≡ place_blanks place + extent_blanks cells.secondary
   pub fresh : plan.fresh ≡ place_pages (doublewords (cells.secondary * cells.size)) place
   pub reply : plan.reply ≡ Cell (place_address place)

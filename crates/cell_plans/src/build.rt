@@ -18,7 +18,6 @@ ghost use Rattle.cell_plans.specs.CellPlans.{IsBuildPlanned, IsOpen};
 
 use crate::seen::name_of;
 use crate::sizes::extent_doublewords;
-use arrayvec::ArrayVec;
 use cell_pool::laws::{pools_are_listed, pools_are_one};
 use cell_pool::{CellPoolHeader, CellPoolName, CellSettings};
 use run_set::Run;
@@ -36,16 +35,19 @@ use vsm_model::geometry::{MOST_CELL_BYTES, MOST_CELL_POOLS, MOST_CELLS};
 use vsm_model::{Build, Cause, Reply, Settings, Subpool};
 
 /// A cell pool to be created, with its first extent. Nothing is changed yet.
-#[derive(Drop)]
-pub struct BuildPlan {
-    pub name: CellPoolName,
-    pub header: Option<CellPoolHeader>,
+#[derive(Clone, Copy)]
+pub struct BuildPlan<'a> {
+    /// At most 63 bytes.
+    pub name: &'a str,
+    /// At most 24 bytes.
+    pub header: Option<&'a str>,
     /// What it is built with; its first extent has the primary number of cells.
     pub settings: CellSettings,
     /// The address of its first cell.
     pub start: u32,
-    /// The records of its change after the one that creates it, in the order in which they are exchanged.
-    pub records: PlanRecords,
+    /// The records of its change after the one that creates it, in the order in which they are exchanged; in the room
+    /// that the caller gave.
+    pub records: &'a PlanRecords,
     /// How many blank elements the change needs, at most 5.
     pub blanks: u32,
     /// The pages of 4,096 bytes that become assigned; an empty run if there is none.
@@ -62,6 +64,24 @@ fn header_of(text: Option<&str>) -> Option<CellPoolHeader>
     let mut header = CellPoolHeader::new();
     let _ = header.try_extend_from_slice(text.as_bytes());
     Some(header)
+}
+
+impl BuildPlan<'_> {
+    /// The name of the cell pool as an array of its own.
+    pub fn pool_name(&self) -> CellPoolName
+        requires { length self.now.name.now ≤ 63 }
+        ensures { result.bytes ≡ self.now.name.now }
+    {
+        name_of(self.name)
+    }
+
+    /// Its header as an array of its own, if it has one.
+    pub fn pool_header(&self) -> Option<CellPoolHeader>
+        requires { IfSome self.now.header (λ text. length text.now ≤ 24) }
+        ensures { option_map (λ h. h.items) result ≡ option_map (λ text. text.now) self.now.header }
+    {
+        header_of(self.header)
+    }
 }
 
 // Whether cells can have this size in bytes, and an extent this many of them.
@@ -127,23 +147,24 @@ fn check_build(storage: &Parts, name: &CellPoolName, b: Build) -> Result<u8, Cau
 }
 
 // The plan that creates the cell pool, with its first extent at its place.
-fn plan_pool(
+fn plan_pool<'a>(
     storage: &Parts,
-    name: CellPoolName,
-    header: Option<CellPoolHeader>,
+    name: &'a str,
+    header: Option<&'a str>,
     settings: CellSettings,
     place: AreaPlace,
     is_new: bool,
-) -> BuildPlan
+    room: &'a mut PlanRecords,
+) -> BuildPlan<'a>
     requires stands { Stand storage.now }
     requires bytes { settings.primary * settings.size < 2 ^ 32 }
     requires words { (place_address place < 2 ^ 32) × (0 < doublewords (settings.primary * settings.size))
         × (doublewords (settings.primary * settings.size) < 2 ^ 29) }
-    ensures name { result.name ≡ name }
-    ensures header { result.header ≡ header }
+    ensures name { result.name.now ≡ name.now }
+    ensures header { result.header ≡ header.entry }
     ensures settings { result.settings ≡ settings }
     ensures start { result.start ≡ place_address place }
-    ensures records { result.records.items
+    ensures records { result.records.now.items
         ≡ own_records settings.subpool is_new
         ++ place_records settings.subpool (doublewords (settings.primary * settings.size)) place
         ++ register_records (state_of storage.now) ((15, 0) ∷ []) }
@@ -152,10 +173,10 @@ fn plan_pool(
     ensures reply { result.reply ≡ Obtained (place_address place) (8 * doublewords (settings.primary * settings.size)) }
 {
     let count = extent_doublewords(settings.primary, settings.size);
-    let mut records = ArrayVec::new();
-    push_own(&mut records, settings.subpool, is_new);
-    push_place(&mut records, settings.subpool, place, count);
-    push_return(&mut records, storage, 0);
+    room.clear();
+    push_own(room, settings.subpool, is_new);
+    push_place(room, settings.subpool, place, count);
+    push_return(room, storage, 0);
     let (blanks, fresh) = needs_of(place, count);
     let start = address_of(place);
     BuildPlan {
@@ -163,7 +184,7 @@ fn plan_pool(
         header,
         settings,
         start,
-        records,
+        records: room,
         blanks,
         fresh,
         reply: Reply::Obtained {
@@ -175,20 +196,22 @@ fn plan_pool(
 
 /// A plan for a new cell pool (*Assembler Services Reference*, CPOOL BUILD): with one extent of the primary number of
 /// cells, all of them free, in the subpool that the current task sees at the number, or in a new one of its own.
-/// Register 15 gets 0. Only reads, and takes no memory.
+/// Register 15 gets 0. Only reads, and takes no memory. The plan's records are in `room`, in place of what that had; its
+/// texts stay where they were read.
 ///
 /// The causes that refuse it, in order: a number above 127 (`UnsupportedSubpool` for 131 and 132, otherwise
 /// `SubpoolNotAllowed`), `BadCells` for a size that isn't a multiple of 4 from 4 to 4,096 bytes or a number of cells
 /// that isn't one from 1 to 4,096, `CellPoolExists`, `TooManyCellPools` if there are 256, and `NoStorage` if its first
 /// extent has no place.
 #[inline(never)]
-pub fn plan_build(
+pub fn plan_build<'a>(
     storage: &Parts,
     settings: Settings,
-    name: &str,
-    header: Option<&str>,
+    name: &'a str,
+    header: Option<&'a str>,
     b: Build,
-) -> Result<BuildPlan, Cause>
+    room: &'a mut PlanRecords,
+) -> Result<BuildPlan<'a>, Cause>
     requires sound { StandsSound settings storage.now }
     requires valid { settings_valid settings ≡ true }
     requires name { length name.now ≤ 63 }
@@ -199,8 +222,7 @@ pub fn plan_build(
     building_leads();
     cell_pools_stay_well_formed();
     cell_pools_are_named();
-    let name = name_of(name);
-    let number = check_build(storage, &name, b)?;
+    let number = check_build(storage, &name_of(name), b)?;
     let (subpool, is_new) = subpool_for(storage, settings, number);
     let location = side_of(settings, b.location);
     let count = extent_doublewords(b.primary, b.size);
@@ -214,5 +236,5 @@ pub fn plan_build(
         secondary: b.secondary.unwrap_or(b.primary),
         location,
     };
-    Ok(plan_pool(storage, name, header_of(header), cells, place, is_new))
+    Ok(plan_pool(storage, name, header, cells, place, is_new, room))
 }

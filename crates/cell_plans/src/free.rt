@@ -10,37 +10,41 @@ ghost use Rattle.storage_changes.specs.CellActions.{given_back_records};
 ghost use Rattle.cell_plans.specs.CellPlans.{IsCellPlanned};
 
 use crate::seen::find_seen;
-use arrayvec::ArrayVec;
 use cell_pool::CellId;
 use service_laws::cells::cell_pools_stay_well_formed;
 use storage_changes::cells::giving_back_cells_leads;
 use storage_changes::{CellRecord, Record};
 use storage_plans::plan::{NO_PAGES, push_return};
-use storage_plans::{PlannedStorage, StoragePlan};
+use storage_plans::{PlanRecords, PlannedStorage, StoragePlan};
 use storage_swap::Parts;
 use subpool_storage::laws::cell_pools_are_named;
 use vsm_model::{Cause, Reply};
 
 // The plan that makes a cell in use the first free one.
-fn plan_given_back(storage: &Parts, pool: CellId, cell: u32) -> StoragePlan
+fn plan_given_back<'a>(
+    storage: &Parts,
+    pool: CellId,
+    cell: u32,
+    room: &'a mut PlanRecords,
+) -> StoragePlan<'a>
     requires { Stand storage.now }
     ensures emptied { result.emptied ≡ None }
-    ensures records { result.records.items
+    ensures records { result.records.now.items
         ≡ given_back_records pool cell ++ register_records (state_of storage.now) ((15, 0) ∷ []) }
     ensures blanks { result.blanks ≡ 0 }
     ensures fresh { result.fresh ≡ run_of 0 0 }
     ensures reply { result.reply ≡ Returned 0 }
 {
-    let mut records = ArrayVec::new();
-    records.push(Record::Cell(CellRecord {
+    room.clear();
+    room.push(Record::Cell(CellRecord {
         pool,
         cell,
         free: true,
     }));
-    push_return(&mut records, storage, 0);
+    push_return(room, storage, 0);
     StoragePlan {
         emptied: None,
-        records,
+        records: room,
         blanks: 0,
         fresh: NO_PAGES,
         reply: Reply::Returned(0),
@@ -48,12 +52,18 @@ fn plan_given_back(storage: &Parts, pool: CellId, cell: u32) -> StoragePlan
 }
 
 /// A plan for a cell that is given back to its cell pool, by the address of its first byte (*Assembler Services
-/// Reference*, CPOOL FREE): it's the next that is handed out. Register 15 gets 0. Only reads, and takes no memory.
+/// Reference*, CPOOL FREE): it's the next that is handed out. Register 15 gets 0. Only reads, and takes no memory. The
+/// plan's records are in `room`, in place of what that had.
 ///
 /// The causes that refuse it, in order: `NoCellPool` if no cell pool of the name exists or the current task doesn't see
 /// its subpool, and `NotInUse` if the address isn't that of a cell that was handed out.
 #[inline(never)]
-pub fn plan_free(storage: &Parts, name: &str, cell: u32) -> PlannedStorage
+pub fn plan_free<'a>(
+    storage: &Parts,
+    name: &str,
+    cell: u32,
+    room: &'a mut PlanRecords,
+) -> PlannedStorage<'a>
     requires stands { Stand storage.now }
     requires name { length name.now ≤ 63 }
     ensures { (settings : Settings) (names_full : Bool) → StandsSound settings storage.now
@@ -65,7 +75,7 @@ pub fn plan_free(storage: &Parts, name: &str, cell: u32) -> PlannedStorage
     let id = find_seen(storage, name)?;
     let pools = storage.subpools.cell_pools(&storage.elements);
     if pools.in_use(&storage.elements, id, cell) {
-        Ok(plan_given_back(storage, id, cell))
+        Ok(plan_given_back(storage, id, cell, room))
     } else {
         Err(Cause::NotInUse)
     }

@@ -13,7 +13,6 @@ ghost use Rattle.cell_plans.specs.Handing.{CanExtend, IsFurther, cell_records};
 
 use crate::seen::find_seen;
 use crate::sizes::extent_doublewords;
-use arrayvec::ArrayVec;
 use cell_pool::{CellId, CellSettings};
 use service_laws::cells::cell_pools_stay_well_formed;
 use storage_changes::cells::{extending_leads, handing_out_leads};
@@ -52,19 +51,25 @@ fn push_handed_out(
 }
 
 // The plan that hands out the first free cell.
-fn plan_cell(storage: &Parts, pool: CellId, cell: u32, register: Option<u8>) -> StoragePlan
+fn plan_cell<'a>(
+    storage: &Parts,
+    pool: CellId,
+    cell: u32,
+    register: Option<u8>,
+    room: &'a mut PlanRecords,
+) -> StoragePlan<'a>
     requires { Stand storage.now }
     ensures emptied { result.emptied ≡ None }
-    ensures records { result.records.items ≡ cell_records (state_of storage.now) pool cell register }
+    ensures records { result.records.now.items ≡ cell_records (state_of storage.now) pool cell register }
     ensures blanks { result.blanks ≡ 0 }
     ensures fresh { result.fresh ≡ run_of 0 0 }
     ensures reply { result.reply ≡ Cell cell }
 {
-    let mut records = ArrayVec::new();
-    push_handed_out(&mut records, storage, pool, cell, register);
+    room.clear();
+    push_handed_out(room, storage, pool, cell, register);
     StoragePlan {
         emptied: None,
-        records,
+        records: room,
         blanks: 0,
         fresh: NO_PAGES,
         reply: Reply::Cell(cell),
@@ -80,32 +85,33 @@ fn extent_blanks(count: u32) -> u32
 }
 
 // The plan by which the cell pool gets a further extent at its place, whose first cell is handed out.
-fn plan_further(
+fn plan_further<'a>(
     storage: &Parts,
     pool: CellId,
     cells: CellSettings,
     place: AreaPlace,
     register: Option<u8>,
-) -> StoragePlan
+    room: &'a mut PlanRecords,
+) -> StoragePlan<'a>
     requires stands { Stand storage.now }
     requires can { CanExtend cells place }
     ensures { IsFurther (state_of storage.now) pool cells place register result }
 {
     let start = address_of(place);
     let count = extent_doublewords(cells.secondary, cells.size);
-    let mut records = ArrayVec::new();
-    push_place(&mut records, cells.subpool, place, count);
-    records.push(Record::CellExtent(CellExtentRecord {
+    room.clear();
+    push_place(room, cells.subpool, place, count);
+    room.push(Record::CellExtent(CellExtentRecord {
         pool,
         start,
         count: cells.secondary,
         present: true,
     }));
-    push_handed_out(&mut records, storage, pool, start, register);
+    push_handed_out(room, storage, pool, start, register);
     let (blanks, fresh) = needs_of(place, count);
     StoragePlan {
         emptied: None,
-        records,
+        records: room,
         blanks: blanks + extent_blanks(cells.secondary),
         fresh,
         reply: Reply::Cell(start),
@@ -116,18 +122,19 @@ fn plan_further(
 /// free, the first one of a further extent of the secondary number of cells. Its address goes into register 1, and into
 /// the one that is named; register 15 gets 0. A conditional form never gets a further extent: it sets register 15 to 4,
 /// and nothing else. Only reads, and takes no memory. `names_full` says that the statement defines a name for which
-/// there is no room.
+/// there is no room. The plan's records are in `room`, in place of what that had.
 ///
 /// The causes that refuse it, in order: `NoCellPool` if no cell pool of the name exists or the current task doesn't see
 /// its subpool, `TooManyNames`, and `NoStorage` if a further extent has no place.
 #[inline(never)]
-pub fn plan_get(
+pub fn plan_get<'a>(
     storage: &Parts,
     settings: Settings,
     name: &str,
     g: Get,
     names_full: bool,
-) -> PlannedStorage
+    room: &'a mut PlanRecords,
+) -> PlannedStorage<'a>
     requires sound { StandsSound settings storage.now }
     requires valid { settings_valid settings ≡ true }
     requires name { length name.now ≤ 63 }
@@ -144,15 +151,15 @@ pub fn plan_get(
     }
     let pools = storage.subpools.cell_pools(&storage.elements);
     if let Some(cell) = pools.first_free(&storage.elements, id) {
-        return Ok(plan_cell(storage, id, cell, g.register));
+        return Ok(plan_cell(storage, id, cell, g.register, room));
     }
     if g.conditional {
-        return Ok(answer_four(storage));
+        return Ok(answer_four(storage, room));
     }
     let cells = pools.settings(&storage.elements, id);
     let count = extent_doublewords(cells.secondary, cells.size);
     match area_place(storage, settings, cells.location, cells.subpool, count, 1) {
-        Some(place) => Ok(plan_further(storage, id, cells, place, g.register)),
+        Some(place) => Ok(plan_further(storage, id, cells, place, g.register, room)),
         None => Err(Cause::NoStorage),
     }
 }

@@ -26,7 +26,7 @@ some_inside run a some = go (inside (a / 4096) run) some where
 frames_for : (m : StorageState) (id : ℕ) (plan : Plan) (a : ℕ) → IsSome ((change_for m id plan).frames a) → inside (a / 4096) (fresh_pages plan) ≡ true
 frames_for m id (Storage plan) a some =
     let P : Option ℕ → Type 0 = λ o. IsSome o in
-    some_inside plan.fresh a (subst P (meant-frames m.subpools plan.records.items plan.blanks plan.fresh plan.emptied a) some)
+    some_inside plan.fresh a (subst P (meant-frames m.subpools plan.records.now.items plan.blanks plan.fresh plan.emptied a) some)
 frames_for m id (Store plan) a some = some_inside no_pages a some
 frames_for m id (Attach plan) a some = some_inside no_pages a some
 frames_for m id (End plan) a some = some_inside no_pages a some

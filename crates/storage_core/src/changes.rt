@@ -38,25 +38,25 @@ impl Storage {
     /// `AllocError` if memory is refused, which is possible only if fewer elements or frames are spare, or a table is
     /// missing. What was made before that stays, as spare elements and frames. Whatever the answer, at most a block of
     /// elements is made beyond what the change takes, and no frame.
-    pub fn reserve(&mut self, plan: Plan) -> Result<Change, AllocError>
-        requires { CanBeReserved (state_in_place self.old) plan }
-        ensures ok { IfOk result (λ change. (id : ℕ) × IsIdFor (state_in_place self.old) plan id
-            × Reserves self.old.parts (change_for (state_in_place self.old) id plan) change self.new.parts) }
-        ensures frames { IfOk result (λ change. length change.frames ≡ pages_assigned plan) }
+    pub fn reserve(&mut self, plan: &Plan<'_>) -> Result<Change, AllocError>
+        requires { CanBeReserved (state_in_place self.old) plan.now }
+        ensures ok { IfOk result (λ change. (id : ℕ) × IsIdFor (state_in_place self.old) plan.now id
+            × Reserves self.old.parts (change_for (state_in_place self.old) id plan.now) change self.new.parts) }
+        ensures frames { IfOk result (λ change. length change.frames ≡ pages_assigned plan.now) }
         ensures few { IfOk result (λ change. change.records.count + change.blanks.count
-            ≤ elements_needed (state_in_place self.old) plan) }
+            ≤ elements_needed (state_in_place self.old) plan.now) }
         ensures uses { IfOk result (λ _. self.old.parts.elements.spare
-            ≤ self.new.parts.elements.spare + elements_needed (state_in_place self.old) plan) }
+            ≤ self.new.parts.elements.spare + elements_needed (state_in_place self.old) plan.now) }
         ensures live { IfOk result (λ _. live_count self.new.parts.elements
-            ≤ live_count self.old.parts.elements + elements_needed (state_in_place self.old) plan) }
+            ≤ live_count self.old.parts.elements + elements_needed (state_in_place self.old) plan.now) }
         ensures made { MakesElements self.old.parts.elements self.new.parts.elements
-            (elements_needed (state_in_place self.old) plan) }
-        ensures made_frames { MakesFrames self.old.parts.region self.new.parts.region (pages_assigned plan) }
+            (elements_needed (state_in_place self.old) plan.now) }
+        ensures made_frames { MakesFrames self.old.parts.region self.new.parts.region (pages_assigned plan.now) }
         ensures err { OnErr result (Stays self.old.parts self.new.parts) }
-        ensures needless { IsSpare self.old.parts (state_in_place self.old) plan → IsOk result }
+        ensures needless { IsSpare self.old.parts (state_in_place self.old) plan.now → IsOk result }
         ensures settings { settings_of self.new ≡ settings_of self.old }
     {
-        match plan {
+        match *plan {
             Plan::Storage(plan) => self.reserve_storage(plan),
             Plan::Store(plan) => self.reserve_store(plan),
             Plan::Attach(plan) => self.reserve_attach(plan),
@@ -67,11 +67,11 @@ impl Storage {
     }
 
     // The change of a request for storage, or of a turn.
-    fn reserve_storage(&mut self, plan: StoragePlan) -> Result<Change, AllocError>
+    fn reserve_storage(&mut self, plan: StoragePlan<'_>) -> Result<Change, AllocError>
         requires { HasRecords (state_in_place self.old) plan }
-        ensures { IsReserved self.old (change_in (state_in_place self.old) plan)
-            (storage_elements (state_in_place self.old) plan) plan.fresh.len
-            (IsSpareFor self.old.parts (storage_elements (state_in_place self.old) plan) plan.fresh) self.new result }
+        ensures { IsReserved self.old (change_in (state_in_place self.old) plan.entry)
+            (storage_elements (state_in_place self.old) plan.entry) plan.entry.fresh.len
+            (IsSpareFor self.old.parts (storage_elements (state_in_place self.old) plan.entry) plan.entry.fresh) self.new result }
     {
         Change::reserve(
             &mut self.parts,

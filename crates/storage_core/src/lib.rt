@@ -17,7 +17,7 @@ pub use free_queue::Area;
 pub use plans::Plan;
 pub use run_set::{Run, SideSums, Sums};
 pub use storage::Storage;
-pub use storage_plans::STORE_MOST;
+pub use storage_plans::PlanRecords;
 pub use storage_plans::reasons::SideReason;
 pub use storage_swap::Change;
 pub use subpool_storage::{SharerPlace, SubpoolPlace};

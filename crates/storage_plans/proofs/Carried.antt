@@ -38,7 +38,7 @@ register_and register word rows is are = let below : (ℕ × ℕ) → Type 0 = �
 module _ (settings : Settings) (names_full : Bool) (m : StorageState) (x : Service) where
   -- with a subpool that is emptied first, or with none,
   pub carries_out_from : (plan : StoragePlan) (emptied : Option Subpool) (records : List Record) (blanks : ℕ) (fresh : Run) (t : State) →
-      plan.emptied ≡ emptied → plan.records.items ≡ records → plan.blanks ≡ blanks → plan.fresh ≡ fresh →
+      plan.emptied ≡ emptied → plan.records.now.items ≡ records → plan.blanks ≡ blanks → plan.fresh ≡ fresh →
       step settings names_full (model_of m) x ≡ Accepted t plan.reply → Leads settings m (change_from m.subpools emptied records blanks fresh) t →
       IfSome emptied (λ p. is_there m.subpools p ≡ true) → blanks ≤ 5 → fresh.start + fresh.len ≤ 2 ^ 20 →
       ((page : ℕ) → inside page fresh ≡ true → m.unassigned page ≡ true) → Assigns m (change_from m.subpools emptied records blanks fresh) fresh → CarriesOut settings names_full m x plan
@@ -65,7 +65,7 @@ module _ (settings : Settings) (names_full : Bool) (m : StorageState) (x : Servi
 
   -- and with none
   pub carries_out : (plan : StoragePlan) (records : List Record) (blanks : ℕ) (fresh : Run) (t : State) →
-      plan.emptied ≡ None → plan.records.items ≡ records → plan.blanks ≡ blanks → plan.fresh ≡ fresh →
+      plan.emptied ≡ None → plan.records.now.items ≡ records → plan.blanks ≡ blanks → plan.fresh ≡ fresh →
       step settings names_full (model_of m) x ≡ Accepted t plan.reply → Leads settings m (change_of records blanks fresh) t →
       blanks ≤ 5 → fresh.start + fresh.len ≤ 2 ^ 20 → ((page : ℕ) → inside page fresh ≡ true → m.unassigned page ≡ true) → Assigns m (change_of records blanks fresh) fresh →
       CarriesOut settings names_full m x plan
@@ -78,7 +78,7 @@ module _ (settings : Settings) (names_full : Bool) (m : StorageState) (x : Servi
   by_cause cause first = ap (answered settings (model_of m) x) first
 
   pub four_carried_out : (cause : Cause) (plan : StoragePlan) → IsSound settings m → first_cause (causes settings names_full (model_of m) x) ≡ Some cause →
-      is_conditional x ≡ true → answers_four cause ≡ true → plan.emptied ≡ None → plan.records.items ≡ register_records m ((15, 4) ∷ []) → plan.blanks ≡ 0 → plan.fresh ≡ run_of 0 0 →
+      is_conditional x ≡ true → answers_four cause ≡ true → plan.emptied ≡ None → plan.records.now.items ≡ register_records m ((15, 4) ∷ []) → plan.blanks ≡ 0 → plan.fresh ≡ run_of 0 0 →
       plan.reply ≡ Returned 4 → CarriesOut settings names_full m x plan
   four_carried_out cause plan sound first conditional four is_emptied is_records is_blanks is_fresh is_reply =
       let after : State = with_register (model_of m) 15 4 in

@@ -54,7 +54,7 @@ module _ (settings : Settings) (names_full : Bool) (m : StorageState) (number : 
       ap (λ owner. is_there m.subpools (record { number = number; owner = owner })) (ap (λ seen. unwrap_or seen s.current) at)
       ∙ sound.well_formed.sight.seen_is_there s.current number owner at
 
-  carried : settings_valid settings ≡ true → IsSound settings m → (plan : StoragePlan) → plan.emptied ≡ Some own → plan.records.items ≡ register_records m ((15, 0) ∷ []) →
+  carried : settings_valid settings ≡ true → IsSound settings m → (plan : StoragePlan) → plan.emptied ≡ Some own → plan.records.now.items ≡ register_records m ((15, 0) ∷ []) →
       plan.blanks ≡ 1 → plan.fresh ≡ run_of 0 0 → plan.reply ≡ Returned 0 → CarriesOut settings names_full m (whole number) plan
   carried valid sound plan emptied records blanks fresh reply =
       let outcome : Reply → Stepped = λ r. Accepted after r in
@@ -65,6 +65,6 @@ module _ (settings : Settings) (names_full : Bool) (m : StorageState) (number : 
       (seen_is_there sound) (omega arith) (omega arith) (none_fresh m) (none_assigned _)
 
   pub emptying_carried_out : settings_valid settings ≡ true → ∥ IsSound settings m ∥₁ → (p : Subpool) → p ≡ seen_or_own (model_of m) number → (plan : StoragePlan) → plan.emptied ≡ Some p →
-      plan.records.items ≡ register_records m ((15, 0) ∷ []) → plan.blanks ≡ 1 → plan.fresh ≡ run_of 0 0 → plan.reply ≡ Returned 0 → ∥ CarriesOut settings names_full m (whole number) plan ∥₁
+      plan.records.now.items ≡ register_records m ((15, 0) ∷ []) → plan.blanks ≡ 1 → plan.fresh ≡ run_of 0 0 → plan.reply ≡ Returned 0 → ∥ CarriesOut settings names_full m (whole number) plan ∥₁
   emptying_carried_out valid sound p is plan emptied records blanks fresh reply =
       ∥∥₁_map sound (λ h. carried valid h plan (emptied ∙ ap Some is) records blanks fresh reply)

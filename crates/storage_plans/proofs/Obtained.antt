@@ -217,7 +217,7 @@ module _ (settings : Settings) (names_full : Bool) (m : StorageState) (o : Obtai
       ∙ ap (outcome (with_own (model_of m) o.number) found.count) (sym is.place)
       ∙ ap (λ (t : State). outcome t found.count goes) (made settings m o sound found.is_new is.is_new)
 
-  pub obtain_carried_out : IsSound settings m → IfSome o.register (λ r. r < 16) → (plan : StoragePlan) → plan.emptied ≡ None → plan.records.items ≡ obtain_records m found o →
+  pub obtain_carried_out : IsSound settings m → IfSome o.register (λ r. r < 16) → (plan : StoragePlan) → plan.emptied ≡ None → plan.records.now.items ≡ obtain_records m found o →
       plan.blanks ≡ place_blanks found.place → plan.fresh ≡ place_pages found.count found.place →
       plan.reply ≡ Obtained (place_address found.place) (8 * found.count) → CarriesOut settings names_full m (obtain o) plan
   obtain_carried_out sound register plan emptied records blanks fresh reply =

@@ -94,12 +94,12 @@ are_bytes (x ∷ xs) fits zero d below = fits 0
 are_bytes (x ∷ xs) fits (suc k) d below = are_bytes xs (λ i. fits (suc i)) k d (omega (arith, below))
 
 -- the plan of a store
-stored_planned :
-    (settings : Settings) (names_full : Bool) (m : StorageState) (plan : StorePlan) → are_there (model_of m) plan.address (length plan.bytes.items) ≡ true
-    → All (λ byte. byte < 256) plan.bytes.items → ∥ IsSound settings m ∥₁ → IsStorePlanned settings names_full m (store plan.address plan.bytes.items) (Ok plan)
-stored_planned settings names_full m plan there are sound =
+pub store_planned :
+    (settings : Settings) (names_full : Bool) (m : StorageState) (plan : StorePlan) → length plan.bytes.now ≤ 256 → are_there (model_of m) plan.address (length plan.bytes.now) ≡ true
+    → All (λ byte. byte < 256) plan.bytes.now → ∥ IsSound settings m ∥₁ → IsStorePlanned settings names_full m (store plan.address plan.bytes.now) (Ok plan)
+store_planned settings names_full m plan few there are sound =
     let address : ℕ = plan.address in
-    let bytes : List ℕ = plan.bytes.items in
+    let bytes : List ℕ = plan.bytes.now in
     let after : State = with_bytes (model_of m) address bytes in
     let outcome : State → Stepped = λ s. Accepted s Stored in
     let accepted : step settings names_full (model_of m) (store address bytes) ≡ Accepted after Stored = store_accepted settings names_full (model_of m) address bytes there in (
@@ -107,15 +107,5 @@ stored_planned settings names_full m plan there are sound =
           let its : Leads settings m (store_change m plan) after =
           writing_leads settings m address bytes h there (store_leaves_well_formed settings names_full (model_of m) after address bytes Stored are h.well_formed accepted) in
           record { accepted = accepted ∙ ap outcome (sym its.leads); fits = its.fits; sound = its.sound }),
-      record { there = there },
+      record { few = few; there = there },
     )
-
--- which has these bytes
-pub store_planned :
-    (settings : Settings) (names_full : Bool) (m : StorageState) (plan : StorePlan) (bytes : List ℕ) → plan.bytes.items ≡ bytes → are_there (model_of m) plan.address (length bytes) ≡ true
-    → All (λ byte. byte < 256) bytes → ∥ IsSound settings m ∥₁ → IsStorePlanned settings names_full m (store plan.address bytes) (Ok plan)
-store_planned settings names_full m plan bytes its there are sound =
-    let P : List ℕ → Type 0 = λ b. are_there (model_of m) plan.address (length b) ≡ true in
-    let Q : List ℕ → Type 0 = λ b. All (λ byte. byte < 256) b in
-    let R : List ℕ → Type 0 = λ b. IsStorePlanned settings names_full m (store plan.address b) (Ok plan) in
-    subst R its (stored_planned settings names_full m plan (subst P (sym its) there) (subst Q (sym its) are) sound)

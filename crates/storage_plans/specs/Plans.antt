@@ -18,7 +18,7 @@ use Rattle.storage_plans.specs.declared.plan.StoragePlan.{StoragePlan}
 -- the change of its records after those that empty its subpool, if it has one, with its blank elements, and frames of
 -- zeros for the pages that become assigned
 abbrev pub change_in : StorageState → StoragePlan → Change
-change_in m plan = change_from m.subpools plan.emptied plan.records.items plan.blanks plan.fresh
+change_in m plan = change_from m.subpools plan.emptied plan.records.now.items plan.blanks plan.fresh
 
 -- each page of the run becomes assigned by the change
 abbrev pub Assigns : StorageState → Change → Run → Type 0

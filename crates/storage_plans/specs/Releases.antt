@@ -44,7 +44,7 @@ given_back_records m p d count =
 -- The plan has these records.
 pub record IsGivenBack (m : StorageState) (found : GivenBack) (plan : StoragePlan) : Type 0 where
   pub emptied : plan.emptied ≡ None
-  pub records : plan.records.items ≡ given_back_records m found.subpool found.area.start found.area.len
+  pub records : plan.records.now.items ≡ given_back_records m found.subpool found.area.start found.area.len
   pub blanks : plan.blanks ≡ 5
   pub fresh : plan.fresh ≡ run_of 0 0
   pub reply : plan.reply ≡ Returned 0

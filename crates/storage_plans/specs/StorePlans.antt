@@ -1,5 +1,5 @@
 -- What the plan of a store leads to on the plain machine.
-use Rattle.std.specs.Prelude.{◌≡◌, Bool, true, length, Result, Ok, Err}
+use Rattle.std.specs.Prelude.{◌≡◌, ◌≤◌, Bool, true, length, Result, Ok, Err}
 use Rattle.vsm_model.specs.declared.causes.Cause.{Cause}
 use Rattle.vsm_model.specs.declared.limits.Settings.{Settings}
 use Rattle.vsm_model.specs.declared.replies.Reply.TheVariants.{Stored}
@@ -16,11 +16,12 @@ use Rattle.storage_plans.specs.Plans.{IsAccepted}
 
 -- its change: a record for each block that its bytes touch
 abbrev pub store_change : StorageState → StorePlan → Change
-store_change m plan = change_of (write_records m plan.address plan.bytes.items) 0 no_pages
+store_change m plan = change_of (write_records m plan.address plan.bytes.now) 0 no_pages
 
--- each of its bytes lies in an assigned page
+-- it has at most 256 bytes, and each of them lies in an assigned page
 pub record CanBeStored (m : StorageState) (plan : StorePlan) : Type 0 where
-  pub there : are_there (model_of m) plan.address (length plan.bytes.items) ≡ true
+  pub few : length plan.bytes.now ≤ 256
+  pub there : are_there (model_of m) plan.address (length plan.bytes.now) ≡ true
 
 -- A store was planned; or it's refused for this cause.
 abbrev pub IsStorePlanned : Settings → Bool → StorageState → Service → Result StorePlan Cause → Type 0

@@ -18,5 +18,5 @@ pub use obtain::plan_obtain;
 pub use plan::{PLAN_RECORDS, PlanRecords, PlannedStorage, StoragePlan};
 pub use reading::{load, register};
 pub use release::plan_release;
-pub use store::{STORE_BLOCKS, STORE_MOST, StorePlan, block_records, plan_store};
+pub use store::{STORE_BLOCKS, StorePlan, block_records, plan_store};
 pub use whole::plan_whole;

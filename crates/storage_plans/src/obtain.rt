@@ -17,7 +17,6 @@ use crate::plan::{
     NO_PAGES, PlanRecords, PlannedStorage, StoragePlan, answer_cause, push_area, push_register,
     push_return,
 };
-use arrayvec::ArrayVec;
 use descriptor_queue::Page;
 use run_set::Run;
 use storage_changes::{ExtentRecord, OwnRecord, PagesRecord, Record};
@@ -136,25 +135,30 @@ pub fn needs_of(place: AreaPlace, count: u32) -> (u32, Run)
 }
 
 // The plan that takes the area that was found, with its address and its length in the registers.
-fn plan_area(storage: &Parts, found: FoundArea, o: Obtain) -> StoragePlan
+fn plan_area<'a>(
+    storage: &Parts,
+    found: FoundArea,
+    o: Obtain,
+    room: &'a mut PlanRecords,
+) -> StoragePlan<'a>
     requires stands { Stand storage.now }
     requires words { (place_address found.place < 2 ^ 32) × (0 < found.count) × (found.count < 2 ^ 29) }
     ensures emptied { result.emptied ≡ None }
-    ensures records { result.records.items ≡ obtain_records (state_of storage.now) found o }
+    ensures records { result.records.now.items ≡ obtain_records (state_of storage.now) found o }
     ensures blanks { result.blanks ≡ place_blanks found.place }
     ensures fresh { result.fresh ≡ place_pages found.count found.place }
     ensures reply { result.reply ≡ Obtained (place_address found.place) (8 * found.count) }
 {
     let address = address_of(found.place);
     let length = 8 * found.count;
-    let mut records = ArrayVec::new();
-    push_own(&mut records, found.subpool, found.is_new);
-    push_place(&mut records, found.subpool, found.place, found.count);
-    push_reply(&mut records, storage, o, address, length);
+    room.clear();
+    push_own(room, found.subpool, found.is_new);
+    push_place(room, found.subpool, found.place, found.count);
+    push_reply(room, storage, o, address, length);
     let (blanks, fresh) = needs_of(found.place, found.count);
     StoragePlan {
         emptied: None,
-        records,
+        records: room,
         blanks,
         fresh,
         reply: Reply::Obtained { address, length },
@@ -165,19 +169,21 @@ fn plan_area(storage: &Parts, found: FoundArea, o: Obtain) -> StoragePlan
 /// the rounded minimum to the rounded maximum, of which a fixed length is both. It is placed in the subpool that the
 /// current task sees at the number, or in a new one of its own. Its address goes into register 1, and into the one that
 /// is named; register 15 gets 0; and if bounds were given, register 0 gets the length in bytes. Only reads, and takes
-/// no memory. `names_full` says that the statement defines a name for which there is no room.
+/// no memory. `names_full` says that the statement defines a name for which there is no room. The plan's records are in
+/// `room`, in place of what that had.
 ///
 /// The causes that refuse it, in order: a number above 127 (`UnsupportedSubpool` for 131 and 132, otherwise
 /// `SubpoolNotAllowed`), `BadLength` for a minimum of zero bytes or one above the maximum, `TooManyNames`, and
 /// `NoStorage` if not even the minimum has a place. Instead of `NoStorage` a conditional form has a plan that sets
 /// register 15 to 4, and nothing else.
 #[inline(never)]
-pub fn plan_obtain(
+pub fn plan_obtain<'a>(
     storage: &Parts,
     settings: Settings,
     o: Obtain,
     names_full: bool,
-) -> PlannedStorage
+    room: &'a mut PlanRecords,
+) -> PlannedStorage<'a>
     requires sound { StandsSound settings storage.now }
     requires valid { settings_valid settings ≡ true }
     requires register { IfSome o.register (λ r. r < 16) }
@@ -185,7 +191,7 @@ pub fn plan_obtain(
     ensures emptied { IfOk result (λ plan. plan.emptied ≡ None) }
 {
     match find_area(storage, settings, o, names_full) {
-        Ok(found) => Ok(plan_area(storage, found, o)),
-        Err(cause) => answer_cause(storage, cause, o.conditional),
+        Ok(found) => Ok(plan_area(storage, found, o, room)),
+        Err(cause) => answer_cause(storage, cause, o.conditional, room),
     }
 }

@@ -25,13 +25,13 @@ pub const PLAN_RECORDS: usize = 8;
 pub type PlanRecords = ArrayVec<Record, PLAN_RECORDS>;
 
 /// What an accepted request will do. It was found only by reading, and nothing is changed yet.
-#[derive(Drop)]
-pub struct StoragePlan {
+#[derive(Clone, Copy)]
+pub struct StoragePlan<'a> {
     /// The subpool whose pages and free storage move into the change as they are, before its records; `None` if there
     /// is none.
     pub emptied: Option<Subpool>,
-    /// The records of its change.
-    pub records: PlanRecords,
+    /// The records of its change, in the room that the caller gave.
+    pub records: &'a PlanRecords,
     /// How many blank elements the change needs: at most 5, or 4,121 for another extent of a cell pool.
     pub blanks: u32,
     /// The pages of 4,096 bytes that become assigned; an empty run if there is none.
@@ -40,7 +40,7 @@ pub struct StoragePlan {
 }
 
 /// The outcome of a request: its plan, or the first cause that refuses it.
-pub type PlannedStorage = Result<StoragePlan, Cause>;
+pub type PlannedStorage<'a> = Result<StoragePlan<'a>, Cause>;
 
 /// The empty run.
 pub const NO_PAGES: Run = Run { start: 0, len: 0 };
@@ -89,20 +89,21 @@ pub fn push_return(records: &mut PlanRecords, storage: &Parts, code: u32)
     }
 }
 
-/// The plan of a conditional request that can't be met: register 15 gets 4, and nothing else changes.
-pub fn answer_four(storage: &Parts) -> StoragePlan
+/// The plan of a conditional request that can't be met: register 15 gets 4, and nothing else changes. What the room had
+/// is gone.
+pub fn answer_four<'a>(storage: &Parts, room: &'a mut PlanRecords) -> StoragePlan<'a>
     requires { Stand storage.now }
     ensures emptied { result.emptied ≡ None }
-    ensures records { result.records.items ≡ register_records (state_of storage.now) ((15, 4) ∷ []) }
+    ensures records { result.records.now.items ≡ register_records (state_of storage.now) ((15, 4) ∷ []) }
     ensures blanks { result.blanks ≡ 0 }
     ensures fresh { result.fresh ≡ run_of 0 0 }
     ensures reply { result.reply ≡ Returned 4 }
 {
-    let mut records = ArrayVec::new();
-    push_return(&mut records, storage, 4);
+    room.clear();
+    push_return(room, storage, 4);
     StoragePlan {
         emptied: None,
-        records,
+        records: room,
         blanks: 0,
         fresh: NO_PAGES,
         reply: Reply::Returned(4),
@@ -111,7 +112,12 @@ pub fn answer_four(storage: &Parts) -> StoragePlan
 
 /// What a request with this first cause gets: a plan that sets register 15 to 4, if it is conditional and the cause is
 /// one of those that such a form answers that way; otherwise the cause refuses it.
-pub fn answer_cause(storage: &Parts, cause: Cause, conditional: bool) -> PlannedStorage
+pub fn answer_cause<'a>(
+    storage: &Parts,
+    cause: Cause,
+    conditional: bool,
+    room: &'a mut PlanRecords,
+) -> PlannedStorage<'a>
     requires { Stand storage.now }
     ensures emptied { IfOk result (λ plan. plan.emptied ≡ None) }
     ensures planned { (settings : Settings) (names_full : Bool) (x : Service)
@@ -121,7 +127,7 @@ pub fn answer_cause(storage: &Parts, cause: Cause, conditional: bool) -> Planned
         → IsPlanned settings names_full (state_of storage.now) x result }
 {
     if conditional && cause.answers_four() {
-        Ok(answer_four(storage))
+        Ok(answer_four(storage, room))
     } else {
         Err(cause)
     }

@@ -22,7 +22,6 @@ use crate::plan::{
     NO_PAGES, PlanRecords, PlannedStorage, StoragePlan, answer_cause, push_area, push_return,
 };
 use crate::searches::pages_on;
-use arrayvec::ArrayVec;
 use cell_pool::laws::pools_are_one;
 use descriptor_queue::Page;
 use run_set::{Cover, Run};
@@ -304,19 +303,19 @@ fn push_given_back(records: &mut PlanRecords, found: GivenBack, pages: Run)
 }
 
 // The plan of a release that no cause refuses.
-fn give_back(storage: &Parts, found: GivenBack) -> StoragePlan
+fn give_back<'a>(storage: &Parts, found: GivenBack, room: &'a mut PlanRecords) -> StoragePlan<'a>
     requires stands { Stand storage.now }
     requires some { 0 < found.area.len }
     requires range { found.area.start + found.area.len ≤ 2 ^ 29 }
     ensures { IsGivenBack (state_of storage.now) found result }
 {
     let pages = emptied(storage, found.subpool, found.area);
-    let mut records = ArrayVec::new();
-    push_given_back(&mut records, found, pages);
-    push_return(&mut records, storage, 0);
+    room.clear();
+    push_given_back(room, found, pages);
+    push_return(room, storage, 0);
     StoragePlan {
         emptied: None,
-        records,
+        records: room,
         blanks: RELEASE_BLANKS,
         fresh: NO_PAGES,
         reply: Reply::Returned(0),
@@ -325,7 +324,7 @@ fn give_back(storage: &Parts, found: GivenBack) -> StoragePlan
 
 /// A plan for the release of an area (*Assembler Services Reference*, STORAGE): its doublewords are free again, and the
 /// pages that are left without a taken doubleword leave the subpool. Register 15 gets 0. Only reads, and takes no
-/// memory.
+/// memory. The plan's records are in `room`, in place of what that had.
 ///
 /// The causes that refuse it, in order: a number above 127 (`UnsupportedSubpool` for 131 and 132, otherwise
 /// `SubpoolNotAllowed`), `BadLength` for zero bytes, `Misaligned`, `NotInSubpool` if the task doesn't see the subpool
@@ -334,7 +333,12 @@ fn give_back(storage: &Parts, found: GivenBack) -> StoragePlan
 /// extent of a cell pool. Instead of the last three a conditional form has a plan that sets register 15 to 4, and
 /// nothing else.
 #[inline(never)]
-pub fn plan_release(storage: &Parts, settings: Settings, r: Release) -> PlannedStorage
+pub fn plan_release<'a>(
+    storage: &Parts,
+    settings: Settings,
+    r: Release,
+    room: &'a mut PlanRecords,
+) -> PlannedStorage<'a>
     requires sound { StandsSound settings storage.now }
     requires frameless { IsFrameless storage.now }
     requires valid { settings_valid settings ≡ true }
@@ -342,7 +346,7 @@ pub fn plan_release(storage: &Parts, settings: Settings, r: Release) -> PlannedS
     ensures emptied { IfOk result (λ plan. plan.emptied ≡ None) }
 {
     match find_given_back(storage, settings, r) {
-        Ok(found) => Ok(give_back(storage, found)),
-        Err(cause) => answer_cause(storage, cause, r.conditional),
+        Ok(found) => Ok(give_back(storage, found, room)),
+        Err(cause) => answer_cause(storage, cause, r.conditional, room),
     }
 }

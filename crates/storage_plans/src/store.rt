@@ -16,18 +16,15 @@ use storage_swap::Parts;
 use vsm_model::Cause;
 use vsm_model::geometry::PAGE_BYTES;
 
-/// The most bytes of one store.
-pub const STORE_MOST: usize = 256;
-
 /// The most blocks of sixteen bytes that a store touches.
 pub const STORE_BLOCKS: usize = 17;
 
-/// Bytes that are stored. Nothing is changed yet.
-#[derive(Drop)]
-pub struct StorePlan {
+/// Bytes that are stored, which stay where they were read. Nothing is changed yet.
+#[derive(Clone, Copy)]
+pub struct StorePlan<'a> {
     /// The address of the first one.
     pub address: u32,
-    pub bytes: ArrayVec<u8, STORE_MOST>,
+    pub bytes: &'a [u8],
 }
 
 // Whether each of this many bytes from the address on lies in an assigned page. They lie in two pages at most: that of
@@ -80,23 +77,17 @@ pub fn block_records(storage: &Parts, address: u32, bytes: &[u8]) -> ArrayVec<Re
     records
 }
 
-// The bytes as an array of its own.
-fn array_of(bytes: &[u8]) -> ArrayVec<u8, STORE_MOST>
-    requires { length bytes.now ≤ 256 }
-    ensures { result.items ≡ bytes.now }
-{
-    let mut array = ArrayVec::new();
-    let _ = array.try_extend_from_slice(bytes);
-    array
-}
-
 /// A plan for a store of at most 256 bytes at the address, in any subpool. It sets no register. Only reads, and takes
 /// no memory. The records of its change are made where memory is taken (`block_records`), so that a plan has no room
 /// for them.
 ///
 /// Refused with `NotAssigned` if one of the bytes doesn't lie in an assigned page.
 #[inline(never)]
-pub fn plan_store(storage: &Parts, address: u32, bytes: &[u8]) -> Result<StorePlan, Cause>
+pub fn plan_store<'a>(
+    storage: &Parts,
+    address: u32,
+    bytes: &'a [u8],
+) -> Result<StorePlan<'a>, Cause>
     requires frameless { IsFrameless storage.now }
     requires room { length bytes.now ≤ 256 }
     ensures { (settings : Settings) (names_full : Bool) → StandsSound settings storage.now
@@ -105,8 +96,5 @@ pub fn plan_store(storage: &Parts, address: u32, bytes: &[u8]) -> Result<StorePl
     if !are_assigned(storage, address, bytes.len()) {
         return Err(Cause::NotAssigned);
     }
-    Ok(StorePlan {
-        address,
-        bytes: array_of(bytes),
-    })
+    Ok(StorePlan { address, bytes })
 }

@@ -14,8 +14,7 @@ ghost use Rattle.storage_plans.specs.Places.{StandsSound};
 ghost use Rattle.storage_plans.specs.Plans.{IsPlanned};
 
 use crate::areas::check_number;
-use crate::plan::{NO_PAGES, PlannedStorage, StoragePlan, push_return};
-use arrayvec::ArrayVec;
+use crate::plan::{NO_PAGES, PlanRecords, PlannedStorage, StoragePlan, push_return};
 use storage_changes::tables::rows_of_the_others_stay;
 use storage_swap::Parts;
 use subpool_storage::laws::cell_pools_are_named;
@@ -50,19 +49,19 @@ fn find_owned(storage: &Parts, number: u32) -> Result<Subpool, Cause>
 }
 
 // The plan of a release that no cause refuses.
-fn empty(storage: &Parts, subpool: Subpool) -> StoragePlan
+fn empty<'a>(storage: &Parts, subpool: Subpool, room: &'a mut PlanRecords) -> StoragePlan<'a>
     requires { Stand storage.now }
     ensures emptied { result.emptied ≡ Some subpool }
-    ensures records { result.records.items ≡ register_records (state_of storage.now) ((15, 0) ∷ []) }
+    ensures records { result.records.now.items ≡ register_records (state_of storage.now) ((15, 0) ∷ []) }
     ensures blanks { result.blanks ≡ 1 }
     ensures fresh { result.fresh ≡ run_of 0 0 }
     ensures reply { result.reply ≡ Returned 0 }
 {
-    let mut records = ArrayVec::new();
-    push_return(&mut records, storage, 0);
+    room.clear();
+    push_return(room, storage, 0);
     StoragePlan {
         emptied: Some(subpool),
-        records,
+        records: room,
         blanks: WHOLE_BLANKS,
         fresh: NO_PAGES,
         reply: Reply::Returned(0),
@@ -72,13 +71,13 @@ fn empty(storage: &Parts, subpool: Subpool) -> StoragePlan
 /// A plan for the release of a whole subpool (*Assembler Services Reference*, FREEMAIN and STORAGE, RELEASE): its pages
 /// are unassigned again, with all that was obtained in them, its cell pools are gone, and the subpool stays, empty,
 /// with its owner and the tasks that share it. Register 15 gets 0. Only reads, and takes no memory, however many areas,
-/// extents and cell pools the subpool has.
+/// extents and cell pools the subpool has. The plan's records are in `room`, in place of what that had.
 ///
 /// The causes that refuse it, in order: a number above 127 (`UnsupportedSubpool` for 131 and 132, otherwise
 /// `SubpoolNotAllowed`), `WholeOfZero` for subpool 0, `NotInSubpool` if the task doesn't see the subpool, and
 /// `NotOwner` if it doesn't own it.
 #[inline(never)]
-pub fn plan_whole(storage: &Parts, number: u32) -> PlannedStorage
+pub fn plan_whole<'a>(storage: &Parts, number: u32, room: &'a mut PlanRecords) -> PlannedStorage<'a>
     requires { Stand storage.now }
     ensures planned { (settings : Settings) (names_full : Bool) → settings_valid settings ≡ true
         → StandsSound settings storage.now
@@ -88,5 +87,5 @@ pub fn plan_whole(storage: &Parts, number: u32) -> PlannedStorage
 {
     rows_of_the_others_stay();
     cell_pools_are_named();
-    Ok(empty(storage, find_owned(storage, number)?))
+    Ok(empty(storage, find_owned(storage, number)?, room))
 }

@@ -39,7 +39,7 @@ module _ (settings : Settings) (names_full : Bool) (m : StorageState) (task : �
       λ h. false_from_ne_true (is_task s task) (λ there. absurd (omega (arith, high, (h.well_formed.tasks.numbered task there).1))) in
       by_task false (∥∥₁_elim sound (Bool-set (is_task s task) false) none)
 
-  pub run_carried : TurningLeads → is_task s task ≡ true → ∥ IsSound settings m ∥₁ → (plan : StoragePlan) → plan.emptied ≡ None → plan.records.items ≡ turn_records task →
+  pub run_carried : TurningLeads → is_task s task ≡ true → ∥ IsSound settings m ∥₁ → (plan : StoragePlan) → plan.emptied ≡ None → plan.records.now.items ≡ turn_records task →
       plan.blanks ≡ 0 → plan.fresh ≡ run_of 0 0 → plan.reply ≡ Turn task → ∥ CarriesOut settings names_full m (run task) plan ∥₁
   run_carried law there sound plan emptied records blanks fresh reply =
       let after : State = record s { current = task } in

@@ -10,7 +10,7 @@ ghost use Rattle.storage_core.specs.Meaning.{state_in_place, settings_of};
 ghost use Rattle.storage_core.specs.Planned.{CanBePlanned};
 
 use std::test::Fail;
-use storage_core::{Change, Service, Storage};
+use storage_core::{Change, PlanRecords, Service, Storage};
 
 // The change is exchanged with the storage, and can be again.
 pub(crate) fn exchange(storage: &mut Storage, change: &mut Change)
@@ -31,8 +31,9 @@ pub(crate) fn change_for(storage: &mut Storage, service: Service<'_>) -> Result<
     ensures sound { IfOk result (λ change. ∥ IsSound (settings_of storage.new)
         (overlay (state_in_place storage.new) (means storage.new.parts.elements change)) ∥₁) }
 {
-    let plan = storage.plan(service, false)?;
-    let change = storage.reserve(plan)?;
+    let mut room = PlanRecords::new();
+    let plan = storage.plan(service, false, &mut room)?;
+    let change = storage.reserve(&plan)?;
     Ok(change)
 }
 

@@ -10,8 +10,8 @@ use crate::checks::{holds, same};
 use std::process::Abort;
 use std::test::Fail;
 use storage_core::{
-    Area, Boundary, Build, Cause, Get, Lengths, Location, Obtain, Release, Reply, Residence, Run,
-    Service, Settings, Storage, Subpool,
+    Area, Boundary, Build, Cause, Get, Lengths, Location, Obtain, PlanRecords, Release, Reply,
+    Residence, Run, Service, Settings, Storage, Subpool,
 };
 
 const SETTINGS: Settings = Settings {
@@ -34,7 +34,8 @@ fn byte_at(storage: &Storage, address: u32) -> Option<u8> {
 fn reply_to(storage: &Storage, service: Service<'_>) -> Result<Reply, Cause>
     requires { CanBePlanned (service_in service) }
 {
-    Ok(storage.plan(service, false)?.reply())
+    let mut room = PlanRecords::new();
+    Ok(storage.plan(service, false, &mut room)?.reply())
 }
 
 // What is read at the address once the service was done, once it was undone, and once it was done again.

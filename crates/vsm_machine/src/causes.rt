@@ -9,7 +9,7 @@ use crate::machine::Machine;
 use crate::plans::is_one_too_many;
 use crate::services::{name_of, service_of};
 use macro_statements::Statement;
-use storage_core::{Cause, Obtain, Release, Service};
+use storage_core::{Cause, Obtain, PlanRecords, Release, Service};
 
 /// A name in a value of the statement isn't defined.
 #[derive(Clone, Copy)]
@@ -40,12 +40,16 @@ pub fn cause_of(machine: &Machine, statement: &Statement) -> Result<Option<Cause
     requires { IsValidAct (act_in statement.now) }
     ensures { IsCause (shown machine.now) (act_in statement.now) result }
 {
-    let mut room = [0; 4];
-    let Some(service) = service_of(machine, statement, &mut room) else {
+    let mut word = [0; 4];
+    let Some(service) = service_of(machine, statement, &mut word) else {
         return Err(UnknownName);
     };
     let full = is_one_too_many(&machine.names, name_of(statement));
-    match machine.storage.plan(unconditional(service), full) {
+    let mut room = PlanRecords::new();
+    match machine
+        .storage
+        .plan(unconditional(service), full, &mut room)
+    {
         Ok(_) => Ok(None),
         Err(cause) => Ok(Some(cause)),
     }

@@ -27,5 +27,5 @@ pub use operand_texts::Name;
 pub use plans::{Planned, plan_of, reserve};
 pub use refusals::{NewFault, Refusal};
 pub use services::service_of;
-pub use storage_core::{Reply, Settings, Storage};
+pub use storage_core::{PlanRecords, Reply, Settings, Storage};
 pub use values::look_up;

@@ -19,17 +19,18 @@ use crate::name_changes::NameChange;
 use crate::names::NameTable;
 use crate::refusals::Refusal;
 use crate::services::{family_of, name_of, service_of};
+use crate::values::Room;
 use macro_statements::Statement;
 use operand_texts::Name;
 use std::alloc::AllocError;
-use storage_core::{Plan, Reply};
+use storage_core::{Plan, PlanRecords, Reply};
 
 /// What an accepted statement will do: the plan of its service, and the step of the name that gets the address of the
 /// area.
 #[derive(Drop)]
-pub struct Planned {
+pub struct Planned<'a> {
     /// The plan of the service.
-    pub plan: Plan,
+    pub plan: Plan<'a>,
     /// The step of the name; `None` if the statement names none.
     pub name: Option<NameChange>,
 }
@@ -59,18 +60,23 @@ fn name_change(names: &NameTable, name: Option<&Name>, reply: Reply) -> Option<N
     }
 }
 
-/// The plan for what a statement asks for, or why it is refused: an unknown name, or the first cause that holds.
-pub fn plan_of(machine: &Machine, statement: &Statement) -> Result<Planned, Refusal>
+/// The plan for what a statement asks for, or why it is refused: an unknown name, or the first cause that holds. A value
+/// that is stored is written into `word`, and the plan's records are in `room`, in place of what that had.
+pub fn plan_of<'a>(
+    machine: &Machine,
+    statement: &'a Statement,
+    word: Room<'a>,
+    room: &'a mut PlanRecords,
+) -> Result<Planned<'a>, Refusal>
     requires { IsValidAct (act_in statement.now) }
     ensures { IsPlanned (shown machine.now) (act_in statement.now) result }
 {
-    let mut room = [0; 4];
-    let Some(service) = service_of(machine, statement, &mut room) else {
+    let Some(service) = service_of(machine, statement, word) else {
         return Err(Refusal::Name);
     };
     let name = name_of(statement);
     let full = is_one_too_many(&machine.names, name);
-    match machine.storage.plan(service, full) {
+    match machine.storage.plan(service, full, room) {
         Ok(plan) => {
             let name = name_change(&machine.names, name, plan.reply());
             Ok(Planned { plan, name })
@@ -123,27 +129,31 @@ fn make_ready(names: &mut NameTable, new: Option<Name>) -> Result<(), AllocError
 /// elements are spare as the change takes, and a frame and a table for each page that becomes assigned, and there is
 /// room for the name that is defined, if one is. At most a block of elements is made beyond those that the change
 /// takes, and no frame beyond those of its pages, whatever the answer: they stay as spare ones.
-pub fn reserve(machine: &mut Machine, planned: Planned) -> Result<MachineChange, AllocError>
-    requires { CanBeReserved (state_in_place machine.old.storage) planned.plan }
-    ensures is { IfOk result (λ c. IsChangeOf machine.old planned machine.new c) }
+pub fn reserve(machine: &mut Machine, planned: &Planned<'_>) -> Result<MachineChange, AllocError>
+    requires { CanBeReserved (state_in_place machine.old.storage) planned.now.plan }
+    ensures is { IfOk result (λ c. IsChangeOf machine.old planned.now machine.new c) }
     ensures settings { settings_of machine.new.storage ≡ settings_of machine.old.storage }
     ensures rows { rows_of machine.new.names ≡ rows_of machine.old.names }
-    ensures can { IfOk result (λ c. CanStepBy (rows_of machine.old.names) (λ name. true) (step_planned planned)
+    ensures can { IfOk result (λ c. CanStepBy (rows_of machine.old.names) (λ name. true) (step_planned planned.now)
         → CanStepBy (rows_of machine.new.names) (knows machine.new.names) (step_of c)) }
     ensures stays { OnErr result (Stays machine.old.storage.parts machine.new.storage.parts) }
     ensures same { OnErr result ((name : List ℕ) → knows machine.new.names name ≡ knows machine.old.names name) }
-    ensures needless { elements_needed (state_in_place machine.old.storage) planned.plan
-        ≤ machine.old.storage.parts.elements.spare → NeedsNoMore machine.old planned → IsOk result }
+    ensures needless { elements_needed (state_in_place machine.old.storage) planned.now.plan
+        ≤ machine.old.storage.parts.elements.spare → NeedsNoMore machine.old planned.now → IsOk result }
     ensures made { Makes machine.old.storage.parts machine.new.storage.parts
-        (elements_needed (state_in_place machine.old.storage) planned.plan) (pages_assigned planned.plan) }
+        (elements_needed (state_in_place machine.old.storage) planned.now.plan)
+        (pages_assigned planned.now.plan) }
 {
     let Planned { plan, name } = planned;
     let storage = match machine.storage.reserve(plan) {
         Ok(storage) => storage,
         Err(fault) => return Err(fault),
     };
-    match make_ready(&mut machine.names, new_name(&name)) {
-        Ok(()) => Ok(MachineChange { storage, name }),
+    match make_ready(&mut machine.names, new_name(name)) {
+        Ok(()) => Ok(MachineChange {
+            storage,
+            name: *name,
+        }),
         Err(fault) => {
             machine.storage.discard(storage);
             Err(fault)

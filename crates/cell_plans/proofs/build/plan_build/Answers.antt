@@ -1,4 +1,4 @@
-use Rattle.std.proofs.Common.{◌≡◌, ℕ, ◌<◌, ◌≤◌, not, true, Option, Some, List, Bor, sym, ap, ◌∙◌, subst, arith}
+use Rattle.std.proofs.Common.{◌≡◌, ℕ, ◌<◌, ◌≤◌, not, true, length, IfSome, Option, Some, List, Bor, sym, ap, ◌∙◌, subst, arith}
 use Rattle.std.specs.Prelude.{option_map}
 use Rattle.std.proofs.lemmas.Result.{err_from_is_err_and}
 use Rattle.vsm_model.specs.Subpools.{seen_or_own, sees_one}
@@ -18,7 +18,7 @@ returns-in_err-number c =
     let t = model_of (state_of c.args.storage.now) in
     let header : Option (List ℕ) = option_map (λ (text : Bor (List ℕ)). text.now) c.args.header in
     let is_first : List ℕ → Type 0 = λ n. first_cause (build_causes c.args.settings t n header c.args.b) ≡ Some c.in_err-number.field-0.0 in
-    let first : is_first c.args.name.now = subst is_first c.name_of-name.ensures (c.in_err-number.ensures.err c.args.settings header) in
+    let first : is_first c.args.name.now = subst is_first c.name_of.ensures (c.in_err-number.ensures.err c.args.settings header) in
     λ names_full. rw (p.1, p.2) (refused c.args.settings t c.args.name.now header c.args.b names_full c.in_err-number.field-0.0 first)
 
 pub area_place-requires-clause-asked : goal.area_place-requires-clause-asked
@@ -37,10 +37,10 @@ plan_pool-requires-clause-words c =
     let its = c.in_ok-number.ensures in
     let own = c.subpool_for-is_new.ensures.subpool ∙ ap (seen_or_own (model_of m)) its.number in
     let at = ap place_of (sym c.in-Some.is) ∙ c.area_place.ensures
-    ∙ goes_is c.args.settings (model_of m) c.name_of-name.result.bytes (option_map (λ h. h.items) c.header_of.result) b
+    ∙ goes_is c.args.settings (model_of m) c.name_of.result.bytes (option_map (λ (text : Bor (List ℕ)). text.now) c.args.header) b
     c.side_of-location.result c.subpool_for-is_new.result.0 c.extent_doublewords-count.result c.side_of-location.ensures own c.extent_doublewords-count.ensures in
     let new = c.subpool_for-is_new.ensures.is_new ∙ ap (λ (n : ℕ). not (sees_one (model_of m) n)) its.number in
-    place_in_words c.args.settings true m c.name_of-name.result.bytes (option_map (λ h. h.items) c.header_of.result) b c.requires.valid its.is_open c.in-Some.place c.subpool_for-is_new.result.1 at new
+    place_in_words c.args.settings true m c.name_of.result.bytes (option_map (λ (text : Bor (List ℕ)). text.now) c.args.header) b c.requires.valid its.is_open c.in-Some.place c.subpool_for-is_new.result.1 at new
 
 pub returns : goal.returns
 returns c =
@@ -49,7 +49,7 @@ returns c =
     let name = c.args.name.now in
     let header : Option (List ℕ) = option_map (λ (text : Bor (List ℕ)). text.now) c.args.header in
     let its = c.in_ok-number.ensures in
-    let can : IsOpen m name b = subst (λ (n : List ℕ). IsOpen m n b) c.name_of-name.ensures its.is_open in
+    let can : IsOpen m name b = subst (λ (n : List ℕ). IsOpen m n b) c.name_of.ensures its.is_open in
     let own = c.subpool_for-is_new.ensures.subpool ∙ ap (seen_or_own (model_of m)) its.number in
     let at = ap place_of (sym c.in-Some.is) ∙ c.area_place.ensures
     ∙ goes_is c.args.settings (model_of m) name header b
@@ -66,9 +66,9 @@ returns c =
     λ i. record { subpool = own i; size = b.size; primary = b.primary; secondary = c.unwrap_or.ensures i; location = c.side_of-location.ensures i } in
     let plan = c.plan_pool.result in
     let made = c.plan_pool.ensures in
-    let is_name : plan.name.bytes ≡ c.name_of-name.result.bytes = λ i. (made.name i).bytes in
-    let is_header : option_map (λ h. h.items) plan.header ≡ option_map (λ h. h.items) c.header_of.result = λ i. option_map (λ h. h.items) (made.header i) in
+    let is_header : option_map (λ (text : Bor (List ℕ)). text.now) plan.header ≡ header = ap (option_map (λ (text : Bor (List ℕ)). text.now)) made.header in
+    let is_short : Option (Bor (List ℕ)) → Type 0 = λ h. IfSome h (λ text. length text.now ≤ 24) in
     λ names_full. planned c.args.settings names_full m name header b c.requires.valid can c.in-Some.place c.subpool_for-is_new.result.1 at new plan given is_given
-    (is_name ∙ c.name_of-name.ensures) (is_header ∙ c.header_of.ensures) made.settings made.start made.records made.blanks made.fresh made.reply
+    made.name is_header c.requires.name (subst is_short (sym made.header) c.requires.header) made.settings made.start made.records made.blanks made.fresh made.reply
     c.building_leads.ensures c.cell_pools_stay_well_formed.ensures.build (c.cell_pools_are_named.ensures c.args.storage.now.elements c.args.storage.now.subpools c.requires.sound.stands.subpools)
     c.requires.sound.sound

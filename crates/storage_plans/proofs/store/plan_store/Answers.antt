@@ -9,4 +9,4 @@ pub returns : goal.returns
 returns c settings names_full stands =
     let small : (i : ℕ) → slice_index_or c.args.bytes.now i 0 < 256 = search rules in
     let there : are_there (model_of (state_of c.args.storage.now)) c.args.address (length c.args.bytes.now) ≡ true = sym c.are_assigned.ensures ∙ c.if-not-are_assigned.false in
-    store_planned settings names_full (state_of c.args.storage.now) _ c.args.bytes.now c.array_of.ensures there (are_bytes c.args.bytes.now small) stands.sound
+    store_planned settings names_full (state_of c.args.storage.now) (record { address = c.args.address; bytes = c.args.bytes }) c.requires.room there (are_bytes c.args.bytes.now small) stands.sound

@@ -4,4 +4,4 @@ use Rattle.task_plans.proofs.run.turn_to.Goals as goal
 
 pub returns-clause-records : goal.returns-clause-records
 returns-clause-records c =
-    c.push.ensures.items ∙ (λ i. c.new-records.ensures i ++ Turn (record { task = c.args.task }) ∷ [])
+    c.push.ensures.items ∙ (λ i. c.clear.ensures i ++ Turn (record { task = c.args.task }) ∷ [])

@@ -57,7 +57,7 @@ swap-requires c =
     let change = c.in-Ok.change in
     let made = c.in-Ok.ensures in
     can_swap h.kept h.undone b.machine r change
-    (reserved_of b.machine r made.settings made.rows c.args.planned change made.is c.requires.0
+    (reserved_of b.machine r made.settings made.rows c.args.planned.now change made.is c.requires.0
     b.history.kept b.history.undone h.kept h.undone e.kept e.undone b.fits b.whole b.kept_define_none c.requires.1 made.can)
 
 pub push_reserved-requires-clause-fits : goal.push_reserved-requires-clause-fits
@@ -69,7 +69,7 @@ push_reserved-requires-clause-fits c =
     let change = c.in-Ok.change in
     let made = c.in-Ok.ensures in
     applied_fits h.kept h.undone b.machine r c.swap.new.self change c.swap.new.c
-    (reserved_of b.machine r made.settings made.rows c.args.planned change made.is c.requires.0
+    (reserved_of b.machine r made.settings made.rows c.args.planned.now change made.is c.requires.0
     b.history.kept b.history.undone h.kept h.undone e.kept e.undone b.fits b.whole b.kept_define_none c.requires.1 made.can)
     c.swap.ensures
 
@@ -82,7 +82,7 @@ push_reserved-requires-clause-apart c =
     let change = c.in-Ok.change in
     let made = c.in-Ok.ensures in
     applied_apart h.kept h.undone b.machine r c.swap.new.self change c.swap.new.c
-    (reserved_of b.machine r made.settings made.rows c.args.planned change made.is c.requires.0
+    (reserved_of b.machine r made.settings made.rows c.args.planned.now change made.is c.requires.0
     b.history.kept b.history.undone h.kept h.undone e.kept e.undone b.fits b.whole b.kept_define_none c.requires.1 made.can)
     c.swap.ensures
 
@@ -94,7 +94,7 @@ invariant_of-self-2 c =
     let e = c.reserve_place.ensures in
     let change = c.in-Ok.change in
     let made = c.in-Ok.ensures in
-    let reserved = reserved_of b.machine r made.settings made.rows c.args.planned change made.is c.requires.0
+    let reserved = reserved_of b.machine r made.settings made.rows c.args.planned.now change made.is c.requires.0
     b.history.kept b.history.undone h.kept h.undone e.kept e.undone b.fits b.whole b.kept_define_none c.requires.1 made.can in
     let t = c.swap.new.self in
     let d = c.swap.new.c in
@@ -102,7 +102,7 @@ invariant_of-self-2 c =
     let n = c.push_reserved.new.self in
     let kept = c.push_reserved.ensures in
     let settings = discards_settings _ t u kept.discarded ∙ applied_settings h.kept h.undone b.machine r t change d reserved c.swap.ensures in
-    let gives : undefines_none _ ≡ _ = ap undefines_none made.is.step ∙ gives_of (shown b.machine) c.requires.0 c.args.planned c.requires.1 made.is.id made.is.free in
+    let gives : undefines_none _ ≡ _ = ap undefines_none made.is.step ∙ gives_of (shown b.machine) c.requires.0 c.args.planned.now c.requires.1 made.is.id made.is.free in
     let directed = kept_directed h.kept h.undone b.machine r t change d reserved c.swap.ensures h.limit n gives kept.kept kept.undone in
     let whole : Whole u n.kept = kept.whole (applied_whole h.kept h.undone b.machine r t change d reserved c.swap.ensures) in
     record {
@@ -123,7 +123,7 @@ returns-clause-settings c =
     let made = c.in-Ok.ensures in
     discards_settings _ c.swap.new.self c.push_reserved.new.s c.push_reserved.ensures.discarded
     ∙ applied_settings h.kept h.undone b.machine r c.swap.new.self change c.swap.new.c
-    (reserved_of b.machine r made.settings made.rows c.args.planned change made.is c.requires.0
+    (reserved_of b.machine r made.settings made.rows c.args.planned.now change made.is c.requires.0
     b.history.kept b.history.undone h.kept h.undone e.kept e.undone b.fits b.whole b.kept_define_none c.requires.1 made.can)
     c.swap.ensures
 
@@ -135,7 +135,7 @@ returns-clause-keeps c = λ x planned.
     let e = c.reserve_place.ensures in
     let change = c.in-Ok.change in
     let made = c.in-Ok.ensures in
-    let reserved = reserved_of b.machine r made.settings made.rows c.args.planned change made.is x
+    let reserved = reserved_of b.machine r made.settings made.rows c.args.planned.now change made.is x
     b.history.kept b.history.undone h.kept h.undone e.kept e.undone b.fits b.whole b.kept_define_none planned made.can in
     let t = c.swap.new.self in
     let d = c.swap.new.c in
@@ -150,7 +150,7 @@ returns-clause-keeps c = λ x planned.
     let new : bench_at n.kept u n.undone ≡ record { past = take limit (plain_of b.machine ∷ (bench_of b).past); present = led; later = [] } =
     kept_bench h.kept h.undone b.machine r t change d reserved c.swap.ensures limit n u kept.undone kept.fits states
     ∙ (λ i. record { past = take limit (plain_of b.machine ∷ (bench_at (e.kept i) b.machine (e.undone i)).past); present = led; later = [] }) in
-    let accepted = accepted_as b.machine r x c.args.planned change planned made.is in (
+    let accepted = accepted_as b.machine r x c.args.planned.now change planned made.is in (
       accepted ∙ (λ i. Accepted (sym (ap (λ (y : Bench NamedState). y.present) new) i) (sym c.reply-reply.ensures i)),
       ap (λ (y : Bench NamedState). y.past) new,
       ap (λ (y : Bench NamedState). y.later) new,
@@ -160,18 +160,18 @@ returns-clause-keeps c = λ x planned.
 
 pub returns-in-Err-clause-needless : goal.returns-in-Err-clause-needless
 returns-in-Err-clause-needless c = λ x planned supplied.
-    let ok : IsOk c.reserve.result = c.reserve.ensures.needless (omega (arith, planned.light, supplied.elements)) (needs_no_more c.fresh_pages_are_newly_assigned.ensures c.args.self.now.machine x c.args.planned planned supplied) in
+    let ok : IsOk c.reserve.result = c.reserve.ensures.needless (omega (arith, planned.light, supplied.elements)) (needs_no_more c.fresh_pages_are_newly_assigned.ensures c.args.self.now.machine x c.args.planned.now planned supplied) in
     failed_isnt_ok c.in-Err.field-0 c.reserve.result c.in-Err.is ok
 
 -- what is made
 
 pub returns-clause-made : goal.returns-clause-made
 returns-clause-made c = λ x planned.
-    makes_in_all c.args.self.now.machine c.reserve.new.machine c.swap.new.self c.push_reserved.new.s x c.args.planned c.in-Ok.change c.swap.new.c _
+    makes_in_all c.args.self.now.machine c.reserve.new.machine c.swap.new.self c.push_reserved.new.s x c.args.planned.now c.in-Ok.change c.swap.new.c _
     planned c.reserve.ensures.made c.swap.ensures c.push_reserved.ensures.discarded
 
 pub returns-in_err-reserve_place-clause-made : goal.returns-in_err-reserve_place-clause-made
-returns-in_err-reserve_place-clause-made c = λ x planned. made_none c.args.self.now.machine x c.args.planned
+returns-in_err-reserve_place-clause-made c = λ x planned. made_none c.args.self.now.machine x c.args.planned.now
 
 pub returns-in-Err-clause-made : goal.returns-in-Err-clause-made
-returns-in-Err-clause-made c = λ x planned. makes_wanting c.args.self.now.machine c.reserve.new.machine x c.args.planned planned c.reserve.ensures.made
+returns-in-Err-clause-made c = λ x planned. makes_wanting c.args.self.now.machine c.reserve.new.machine x c.args.planned.now planned c.reserve.ensures.made

@@ -24,6 +24,12 @@ returns-in-End-clause-few c =
     let P : Plan → Type 0 = λ x. IfOk c.reserve_end.result (λ change. change.records.count + change.blanks.count ≤ elements_needed m x) in
     subst P (sym c.in-End.is) c.reserve_end.ensures.few
 
+pub returns-in-End-clause-uses : goal.returns-in-End-clause-uses
+returns-in-End-clause-uses c =
+    let s = c.args.self.now in
+    let P : Plan → Type 0 = λ x. IfOk c.reserve_end.result (λ _. s.parts.elements.spare ≤ c.reserve_end.new.self.parts.elements.spare + elements_needed (state_in_place s) x) in
+    subst P (sym c.in-End.is) c.reserve_end.ensures.uses
+
 pub returns-in-End-clause-made : goal.returns-in-End-clause-made
 returns-in-End-clause-made c =
     let s = c.args.self.now in

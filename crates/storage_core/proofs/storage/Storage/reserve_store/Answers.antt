@@ -18,13 +18,13 @@ returns c = record {
   ok = search rules;
   frames = search rules;
   few = (let s = c.args.self.now in
-      few_records s.parts c.reserve.new.storage c.as_slice-2.result.now c.reserve.result c.reserve.ensures.ok c.as_slice-2.ensures.fits);
+      few_records s.parts c.reserve.new.storage c.as_slice.result.now c.reserve.result c.reserve.ensures.ok c.as_slice.ensures.fits);
   uses = (let s = c.args.self.now in
-      uses_within s.parts.elements.spare c.reserve.new.storage.elements.spare _ 17 (omega (arith, c.as_slice-2.ensures.fits)) c.reserve.result c.reserve.ensures.uses);
+      uses_within s.parts.elements.spare c.reserve.new.storage.elements.spare _ 17 (omega (arith, c.as_slice.ensures.fits)) c.reserve.result c.reserve.ensures.uses);
   live = (let s = c.args.self.now in
-      uses_within (live_count c.reserve.new.storage.elements) (live_count s.parts.elements) _ 17 (omega (arith, c.as_slice-2.ensures.fits)) c.reserve.result c.reserve.ensures.live);
+      uses_within (live_count c.reserve.new.storage.elements) (live_count s.parts.elements) _ 17 (omega (arith, c.as_slice.ensures.fits)) c.reserve.result c.reserve.ensures.live);
   made = (let s = c.args.self.now in
-      makes_within s.parts.elements c.reserve.new.storage.elements _ 17 (omega (arith, c.as_slice-2.ensures.fits)) c.reserve.ensures.made);
+      makes_within s.parts.elements c.reserve.new.storage.elements _ 17 (omega (arith, c.as_slice.ensures.fits)) c.reserve.ensures.made);
   made_frames = c.reserve.ensures.made_frames;
   err = (let s = c.args.self.now in
       failed_stays s.parts c.reserve.new.storage s.held.stands c.reserve.result c.reserve.ensures.grown);
