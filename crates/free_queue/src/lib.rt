@@ -5,4 +5,4 @@ pub mod laws;
 mod queue;
 
 pub use queue::{Area, FreeQueue};
-pub use run_set::{Cover, RunPlace};
+pub use run_set::{Around, Cover, Gap, RunPlace};

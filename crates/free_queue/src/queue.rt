@@ -4,11 +4,11 @@ ghost use Rattle.vsm_elements.specs.Store.{Store};
 ghost use Rattle.vsm_elements.specs.Ownership.{Leaves};
 ghost use Rattle.run_set.specs.Counts.{joins};
 ghost use Rattle.run_set.specs.RunSet.{place_index};
-ghost use Rattle.run_set.specs.Runs.{inside, AreRunsOf, IsCover, IsEndFrom};
+ghost use Rattle.run_set.specs.Runs.{inside, AreRunsOf, IsAround, IsCover, IsEndFrom};
 ghost use Rattle.run_set.specs.Fits.{Fits, IsLeastFit, IsLongest};
 ghost use Rattle.run_set.specs.Sums.{IsSidesOf};
 
-use run_set::{Cover, Run, RunPlace, RunSet, SideSums};
+use run_set::{Around, Cover, Run, RunPlace, RunSet, SideSums};
 use vsm_elements::Elements;
 
 /// That many doublewords (8 bytes each), from the doubleword of this number on. Doubleword `d` has the addresses from
@@ -94,6 +94,14 @@ impl FreeQueue {
             ≡ elements.old.spare + 1 }
     {
         self.set.remove(elements, area);
+    }
+
+    /// The free area that has the doubleword, or the two between which it is: one look-up.
+    pub fn around(&self, elements: &Elements, doubleword: u32) -> Around
+        requires { IsFreeQueue elements.now self.now }
+        ensures { IsAround (λ d. is_free elements.now self.now d) doubleword result }
+    {
+        self.set.around(elements, doubleword)
     }
 
     /// Whether all, none or a part of the area is free.

@@ -3,12 +3,12 @@ ghost use Rattle.std.specs.Prelude.{IfNone, length, option_map};
 ghost use Rattle.vsm_elements.specs.Store.{Store};
 ghost use Rattle.vsm_elements.specs.Ownership.{Leaves};
 ghost use Rattle.run_set.specs.Counts.{joins};
-ghost use Rattle.run_set.specs.Runs.{inside, AllIn, NoneIn, AreRunsOf, IsCover, IsEndFrom};
+ghost use Rattle.run_set.specs.Runs.{inside, AllIn, NoneIn, AreRunsOf, IsAround, IsCover, IsEndFrom};
 ghost use Rattle.run_set.specs.Fits.{Fits, IsLeastFit, IsLongest};
 
 use crate::clip::{PAGE, clipped};
 use crate::places::RunPlace;
-use crate::run::Cover;
+use crate::run::{Around, Cover, Gap};
 use run_tree::{Run, RunTree};
 use vsm_elements::Elements;
 
@@ -157,6 +157,26 @@ impl RunSet {
         }
         let here = self.reached(elements, sought);
         here.start <= n
+    }
+
+    /// The maximal run that has the number, or the two between which it is: one look-up.
+    pub fn around(&self, elements: &Elements, n: u32) -> Around
+        requires { IsRunSet elements.now self.now }
+        ensures { IsAround (λ m. holds elements.now self.now m) n result }
+    {
+        let sought = self.seek(elements, n);
+        let before = self.passed(elements, sought);
+        let place = sought.place;
+        if place.index == self.tree.count {
+            let after = None;
+            return Around::Out(Gap { before, after });
+        }
+        let here = self.reached(elements, sought);
+        if here.start <= n {
+            return Around::In(here);
+        }
+        let after = Some(here);
+        Around::Out(Gap { before, after })
     }
 
     /// Whether all, none or a part of the run is in the set.

@@ -26,9 +26,8 @@ pub struct FoundRun {
 // An element of a higher rank is above one of a lower rank. The ranks are the ids, well mixed, so trees are as flat as
 // those of random ranks. Nothing is proved about that.
 fn rank(id: Id) -> u32 {
-    let a = (id ^ (id >> 16)).wrapping_mul(0x7feb_352d);
-    let b = (a ^ (a >> 15)).wrapping_mul(0x846c_a68b);
-    b ^ (b >> 16)
+    let a = id.wrapping_mul(0x7feb_352d);
+    (a ^ (a >> 15)).wrapping_mul(0x846c_a68b)
 }
 
 impl RunTree {

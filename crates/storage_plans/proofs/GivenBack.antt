@@ -1,7 +1,6 @@
 -- The causes of a release, and its plan on the plain machine.
 use Rattle.std.proofs.Common.{◌≡◌, ◌≢◌, ℕ, ◌+◌, ◌*◌, ◌/◌, ◌%◌, ◌<◌, ◌≤◌, ◌^◌, Bool, true, false, not, ◌&&◌, ◌==◌, Option, Some, None, is_some, [], ◌∷◌, ◌++◌, sym, ap, ◌∙◌, arith}
 use Rattle.std.proofs.lemmas.Bool.{eq-eqb, ne_eqb, and_parts, not-false, not-true}
-use Rattle.std.specs.Prelude.{Result, Ok, Err, IfErr}
 use Rattle.std.proofs.Math.Logic.{∥∥₁_elim, ∥∥₁_prop}
 use Rattle.run_set.specs.Runs.{Run}
 use Rattle.vsm_model.specs.declared.Subpool.{Subpool}
@@ -70,11 +69,9 @@ module _ (settings : Settings) (s : State) (p : Subpool) (d count : ℕ) where
   is_on_cells_first : foreign ≡ false → not_taken ≡ false → on_cells ≡ true → first_cause (area_causes settings s p d count) ≡ Some OverlapsCells
   is_on_cells_first e f g = behind_free e f ∙ stop on_cells OverlapsCells [] g
 
-  -- so it's the cause that an answer names, if the answer is that of its cells
-  pub caused : {A : Type 0} (answer : Result A Cause) → foreign ≡ false → not_taken ≡ false → IfErr answer (λ cause. (cause ≡ OverlapsCells) × (on_cells ≡ true))
-      → IfErr answer (λ cause. first_cause (area_causes settings s p d count) ≡ Some cause)
-  caused (Ok x) e f none = tt
-  caused (Err cause) e f is = is_on_cells_first e f is.1 ∙ ap Some (sym is.0)
+  -- so it's the cause that a look at the cells names
+  pub caused : (cause : Cause) → foreign ≡ false → not_taken ≡ false → (cause ≡ OverlapsCells) × (on_cells ≡ true) → first_cause (area_causes settings s p d count) ≡ Some cause
+  caused cause e f is = is_on_cells_first e f is.1 ∙ ap Some (sym is.0)
 
   pub has_no_cause : foreign ≡ false → not_taken ≡ false → on_cells ≡ false → first_cause (area_causes settings s p d count) ≡ None
   has_no_cause e f g = behind_free e f ∙ skip on_cells OverlapsCells [] g

@@ -10,5 +10,6 @@ pub mod Regions
 mod Stores
 mod CellAreas
 mod OwnedAreas
+mod FreeSides
 mod GivenBack
 mod Emptied

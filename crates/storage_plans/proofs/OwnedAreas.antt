@@ -4,9 +4,7 @@ use Rattle.std.proofs.lemmas.Bool.{and_parts, and_from, or_parts, leb-true, ltb-
 use Rattle.std.proofs.lemmas.Bool.Decides.{nat_tests}
 use Rattle.std.proofs.Math.Bool.{Bool-set}
 use Rattle.std.proofs.Math.Logic.{∥∥₁_elim}
-use Rattle.run_set.specs.declared.run.Cover.{Cover}
-use Rattle.run_set.specs.declared.run.Cover.TheVariants as covers
-use Rattle.run_set.specs.Runs.{Run, inside, IsCover}
+use Rattle.run_set.specs.Runs.{Run, inside, NoneIn}
 use Rattle.vsm_model.specs.declared.Subpool.{Subpool}
 use Rattle.vsm_model.specs.declared.limits.Residence.{Residence}
 use Rattle.vsm_model.specs.declared.limits.Residence.TheVariants.{Below, Above}
@@ -26,6 +24,7 @@ use Rattle.storage_changes.proofs.MeaningLemmas.{named_pages_are_there}
 use Rattle.storage_swap.specs.declared.storage.Parts.{Parts}
 use Rattle.storage_swap.specs.Storage.{state_of, IsFrameless}
 use Rattle.storage_plans.specs.Places.{region_on}
+use Rattle.storage_plans.specs.Releases.{HasFree}
 use Rattle.storage_plans.proofs.BytesRead.{byte_shown}
 use Rattle.storage_plans.proofs.Regions.{of_a_region}
 
@@ -45,49 +44,18 @@ not_one f first count k e low high =
 some_from : (f : ℕ → Bool) (first count : ℕ) → (((k : ℕ) → first ≤ k → k < first + count → f k ≡ false) → ⊥) → some_pass f first count ≡ true
 some_from f first count h = true_from_ne_false (some_pass f first count) (λ e. h (λ k low high. not_one f first count k e low high))
 
-both_answers : (x y : Bool) → (x ≡ true → y ≡ true) → (y ≡ true → x ≡ true) → x ≡ y
+pub both_answers : (x y : Bool) → (x ≡ true → y ≡ true) → (y ≡ true → x ≡ true) → x ≡ y
 both_answers true y f g = sym (f refl)
 both_answers false true f g = g refl
 both_answers false false f g = refl
 
--- how much of an area is in a set
+-- the numbers of a run
 
-inside_from : (start len k : ℕ) → start ≤ k → k < start + len → inside k (record { start = start; len = len }) ≡ true
+pub inside_from : (start len k : ℕ) → start ≤ k → k < start + len → inside k (record { start = start; len = len }) ≡ true
 inside_from start len k low high = and_from (nat_le start k) (nat_lt k (start + len)) (le-leb start k low) (lt-ltb k (start + len) high)
 
-in_inside : (r : Run) (k : ℕ) → inside k r ≡ true → (r.start ≤ k) × (k < r.start + r.len)
+pub in_inside : (r : Run) (k : ℕ) → inside k r ≡ true → (r.start ≤ k) × (k < r.start + r.len)
 in_inside r k e = let parts = and_parts (nat_le r.start k) (nat_lt k (r.start + r.len)) e in (leb-true r.start k parts.0, ltb-true k (r.start + r.len) parts.1)
-
-module _ (set : ℕ → Bool) (r : Run) where
-  pub all_covered : (cover : Cover) → cover ≡ covers.All → IsCover set r cover → true ≡ all_pass set r.start r.len
-  all_covered covers.All e h = sym (all_pass_from set r.start r.len (λ k low high. h k (inside_from r.start r.len k low high)))
-  all_covered covers.None e h = absurd (cc)
-  all_covered covers.Part e h = absurd (cc)
-
-  pub not_all_covered : (cover : Cover) → (cover ≡ covers.All → ⊥) → 0 < r.len → IsCover set r cover → false ≡ all_pass set r.start r.len
-  not_all_covered covers.All e some h = absurd (e refl)
-  not_all_covered covers.None e some h =
-      sym (all_pass_none set r.start r.len r.start (omega arith) (omega (arith, some)) (h r.start (inside_from r.start r.len r.start (omega arith) (omega (arith, some)))))
-  not_all_covered covers.Part e some h =
-      let (k, own, other) = h.1 in
-      let at = in_inside r k own in
-      sym (all_pass_none set r.start r.len k at.0 at.1 other)
-
-  -- a number of the area that is in the set
-  some_covered : (cover : Cover) → (cover ≡ covers.None → ⊥) → 0 < r.len → IsCover set r cover → (k : ℕ) × (r.start ≤ k) × (k < r.start + r.len) × (set k ≡ true)
-  some_covered covers.All e some h =
-      let first = inside_from r.start r.len r.start (omega arith) (omega (arith, some)) in
-      (r.start, omega arith, omega (arith, some), h r.start first)
-  some_covered covers.None e some h = absurd (e refl)
-  some_covered covers.Part e some h =
-      let (k, own, its) = h.0 in
-      let at = in_inside r k own in
-      (k, at.0, at.1, its)
-
-  none_covered : (cover : Cover) → cover ≡ covers.None → IsCover set r cover → (k : ℕ) → r.start ≤ k → k < r.start + r.len → set k ≡ false
-  none_covered covers.All e h k low high = absurd (cc)
-  none_covered covers.None e h k low high = h k (inside_from r.start r.len k low high)
-  none_covered covers.Part e h k low high = absurd (cc)
 
 -- runs of pages in the regions
 
@@ -329,15 +297,15 @@ module _ (area pages : Run) (some : 0 < area.len) (start : pages.start ≡ area.
       pub has_no_others : all_pass (m.subpools.pages p) pages.start pages.len ≡ true → some_pass others pages.start pages.len ≡ false
       has_no_others has = ∥∥₁_elim sound (Bool-set _ _) (λ h. not_others_in h has)
 
-      pub is_all_taken : all_pass (m.subpools.pages p) pages.start pages.len ≡ true → (cover : Cover) → cover ≡ covers.None → IsCover (m.subpools.free p) area cover
-          → some_pass not_taken area.start area.len ≡ false
-      is_all_taken has cover e covered = ∥∥₁_elim sound (Bool-set _ _) (λ h. taken_in h has (none_covered (m.subpools.free p) area cover e covered))
+      pub is_all_taken : all_pass (m.subpools.pages p) pages.start pages.len ≡ true → NoneIn (m.subpools.free p) area → some_pass not_taken area.start area.len ≡ false
+      is_all_taken has taken =
+          ∥∥₁_elim sound (Bool-set _ _) (λ h. taken_in h has (λ k low high. taken k (inside_from area.start area.len k low high)))
 
-      pub is_free_in : all_pass (m.subpools.pages p) pages.start pages.len ≡ true → (cover : Cover) → (cover ≡ covers.None → ⊥) → IsCover (m.subpools.free p) area cover
-          → some_pass not_taken area.start area.len ≡ true
-      is_free_in has cover e covered =
-          let (k, low, high, is) = some_covered (m.subpools.free p) area cover e some covered in
-          ∥∥₁_elim sound (Bool-set _ _) (λ h. free_in h has k low high is)
+      pub is_free_in : all_pass (m.subpools.pages p) pages.start pages.len ≡ true → HasFree (m.subpools.free p) area → some_pass not_taken area.start area.len ≡ true
+      is_free_in has its =
+          let (k, within, is) = its in
+          let at = in_inside area k within in
+          ∥∥₁_elim sound (Bool-set _ _) (λ h. free_in h has k at.0 at.1 is)
 
       pub is_missing : all_pass (m.subpools.pages p) pages.start pages.len ≡ false → some_pass not_taken area.start area.len ≡ true
       is_missing e = ∥∥₁_elim sound (Bool-set _ _) (λ h. missing_in h e)

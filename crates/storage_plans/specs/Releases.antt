@@ -1,7 +1,8 @@
 -- The part of a release that depends on where its area lies. Assembler Services Guide, "Virtual storage management",
 -- "Subpool handling"; Assembler Services Reference, STORAGE, RELEASE, and FREEMAIN.
-use Rattle.std.specs.Prelude.{◌≡◌, ℕ, ◌*◌, Option, None, List, [], ◌∷◌, ◌++◌}
-use Rattle.run_set.specs.Runs.{Run}
+use Rattle.std.specs.Prelude.{◌≡◌, ℕ, ◌*◌, Bool, true, Option, None, List, [], ◌∷◌, ◌++◌}
+use Rattle.run_set.specs.Runs.{Run, inside, NoneIn, IsGap}
+use Rattle.run_set.specs.declared.run.Gap.{Gap}
 use Rattle.vsm_model.specs.declared.Subpool.{Subpool}
 use Rattle.vsm_model.specs.declared.causes.Cause.{Cause}
 use Rattle.vsm_model.specs.declared.causes.Cause.TheVariants.{NotInSubpool, OverlapsFree, OverlapsCells}
@@ -40,6 +41,15 @@ abbrev pub given_back_records : StorageState → Subpool → ℕ → ℕ → Lis
 given_back_records m p d count =
     let pages = emptied_pages m.subpools p d count in
     give_back_records p d count pages.start pages.len ++ register_records m ((15, 0) ∷ [])
+
+-- a doubleword of the area is free
+abbrev pub HasFree : (ℕ → Bool) → Run → Type 0
+HasFree free area = (d : ℕ) × (inside d area ≡ true) × (free d ≡ true)
+
+-- none is, and these are the free areas on both sides of it
+pub record AreSides (free : ℕ → Bool) (area : Run) (sides : Gap) : Type 0 where
+  pub taken : NoneIn free area
+  pub gap : IsGap free area.start sides
 
 -- The plan has these records.
 pub record IsGivenBack (m : StorageState) (found : GivenBack) (plan : StoragePlan) : Type 0 where

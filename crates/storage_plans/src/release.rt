@@ -1,13 +1,15 @@
 //! Plans of STORAGE RELEASE.
-ghost use Rattle.std.specs.Prelude.{◌≡◌, ◌+◌, ◌-◌, ◌*◌, ◌/◌, ◌^◌, ◌<◌, ◌≤◌, ◌&&◌, Bool, true, false, not, nat_le};
-ghost use Rattle.std.specs.Prelude.{None, Some, IfOk, IfErr, OnOk, IsTrue, [], ◌++◌};
+ghost use Rattle.std.specs.Prelude.{◌≡◌, ◌+◌, ◌-◌, ◌*◌, ◌/◌, ◌^◌, ◌<◌, ◌≤◌, ◌&&◌, Bool, true, false, not, nat_le, nat_lt};
+ghost use Rattle.std.specs.Prelude.{None, Some, IfNone, IfSome, IfOk, IfErr, OnOk, IsTrue, [], ◌++◌};
 ghost use Rattle.arrayvec.specs.ArrayVec.{array_vec_len};
+ghost use Rattle.run_set.specs.Runs.{inside};
 ghost use Rattle.vsm_model.specs.Regions.{doublewords, in_a_region, pages_for, settings_valid};
 ghost use Rattle.vsm_model.specs.declared.causes.Cause.TheVariants.{OverlapsCells};
 ghost use Rattle.vsm_model.specs.Releasing.{overlaps_cells};
 ghost use Rattle.vsm_model.specs.Search.{all_pass, some_pass, holds};
 ghost use Rattle.vsm_model.specs.Services.{release};
 ghost use Rattle.vsm_model.specs.Subpools.{same_subpool, seen_or_own};
+ghost use Rattle.subpool_storage.specs.Subpools.{Subpools};
 ghost use Rattle.storage_changes.specs.Meaning.{model_of};
 ghost use Rattle.storage_changes.specs.StorageActions.{area_records, emptied_pages, give_back_records};
 ghost use Rattle.storage_changes.specs.StorageActions.{returned_records};
@@ -15,7 +17,7 @@ ghost use Rattle.storage_changes.specs.StorageActions.{run_of};
 ghost use Rattle.storage_swap.specs.Storage.{state_of, Stand, IsFrameless};
 ghost use Rattle.storage_plans.specs.Places.{StandsAt, StandsSound};
 ghost use Rattle.storage_plans.specs.Plans.{IsPlanned};
-ghost use Rattle.storage_plans.specs.Releases.{IsGivenBack, area_cause, release_cause};
+ghost use Rattle.storage_plans.specs.Releases.{AreSides, HasFree, IsGivenBack, area_cause, release_cause};
 
 use crate::areas::check_number;
 use crate::plan::{
@@ -24,7 +26,7 @@ use crate::plan::{
 use crate::searches::pages_on;
 use cell_pool::laws::pools_are_one;
 use descriptor_queue::Page;
-use run_set::{Cover, Run};
+use run_set::{Around, Gap, Run};
 use storage_changes::tables::overlaps_are_met;
 use storage_changes::{ExtentRecord, PagesRecord, Record};
 use storage_swap::Parts;
@@ -38,6 +40,8 @@ pub(crate) struct GivenBack {
     pub(crate) subpool: Subpool,
     /// In doublewords, each of them taken storage of the subpool.
     pub(crate) area: Run,
+    /// The subpool's free areas on both sides of it.
+    pub(crate) sides: Gap,
 }
 
 /// The blank elements that a release needs at most.
@@ -87,15 +91,9 @@ fn has_pages(storage: &Parts, subpool: Subpool, pages: Run) -> bool
     requires range { pages.start + pages.len < 2 ^ 32 }
     ensures { result ≡ all_pass ((state_of storage.now).subpools.pages subpool) pages.start pages.len }
 {
-    for k in 0..pages.len {
-        if !storage
-            .subpools
-            .has_page(&storage.elements, subpool, pages.start + k)
-        {
-            return false;
-        }
-    }
-    true
+    storage
+        .subpools
+        .has_pages(&storage.elements, subpool, pages)
 }
 
 // Whether the page is another subpool's. A page has a frame exactly if some subpool has the page.
@@ -124,14 +122,51 @@ fn has_others(storage: &Parts, settings: Settings, subpool: Subpool, pages: Run)
     false
 }
 
-// Whether the area is the subpool's and taken, or the first cause that refuses to give it back.
-fn check_area(storage: &Parts, settings: Settings, subpool: Subpool, area: Run) -> Result<(), Cause>
+// Whether a free area, if it exists, begins before a doubleword.
+fn begins_before(free: Option<Run>, doubleword: u32) -> bool
+    ensures { result ≡ holds (λ r. nat_lt r.start doubleword) free }
+{
+    match free {
+        Some(run) => run.start < doubleword,
+        None => false,
+    }
+}
+
+// The subpool's free areas on both sides of the area; `None` if a doubleword of the area is free.
+fn free_sides(storage: &Parts, subpool: Subpool, area: Run) -> Option<Gap>
+    requires stands { Stand storage.now }
+    requires some { 0 < area.len }
+    requires range { area.start + area.len < 2 ^ 32 }
+    ensures sides { IfSome result (λ sides. AreSides ((state_of storage.now).subpools.free subpool) area sides) }
+    ensures free { IfNone result (HasFree ((state_of storage.now).subpools.free subpool) area) }
+{
+    let around = storage
+        .subpools
+        .around(&storage.elements, subpool, area.start);
+    let Around::Out(sides) = around else {
+        return None;
+    };
+    if begins_before(sides.after, area.start + area.len) {
+        return None;
+    }
+    Some(sides)
+}
+
+// The subpool's free areas on both sides of the area, which is the subpool's and taken, or the first cause that refuses
+// to give it back.
+fn check_area(
+    storage: &Parts,
+    settings: Settings,
+    subpool: Subpool,
+    area: Run,
+) -> Result<Gap, Cause>
     requires stands { StandsAt settings storage.now }
     requires frameless { IsFrameless storage.now }
     requires some { 0 < area.len }
     requires range { area.start + area.len ≤ 2 ^ 30 }
     ensures ok { OnOk result (area_cause settings (state_of storage.now) subpool area ≡ None) }
     ensures range { OnOk result (area.start + area.len ≤ 2 ^ 29) }
+    ensures sides { IfOk result (λ sides. AreSides ((state_of storage.now).subpools.free subpool) area sides) }
     ensures err { IfErr result (λ cause. area_cause settings (state_of storage.now) subpool area ≡ Some cause) }
 {
     let pages = pages_of(area);
@@ -144,9 +179,12 @@ fn check_area(storage: &Parts, settings: Settings, subpool: Subpool, area: Run) 
         }
         return Err(Cause::OverlapsFree);
     }
-    match storage.subpools.covers(&storage.elements, subpool, area) {
-        Cover::None => check_cells(storage, area),
-        _ => Err(Cause::OverlapsFree),
+    match free_sides(storage, subpool, area) {
+        Some(sides) => {
+            check_cells(storage, area)?;
+            Ok(sides)
+        }
+        None => Err(Cause::OverlapsFree),
     }
 }
 
@@ -180,6 +218,8 @@ fn find_given_back(storage: &Parts, settings: Settings, r: Release) -> Result<Gi
     ensures area { IfOk result (λ found. found.area ≡ run_of (r.address / 8) (doublewords r.length)) }
     ensures some { IfOk result (λ found. 0 < found.area.len) }
     ensures range { IfOk result (λ found. found.area.start + found.area.len ≤ 2 ^ 29) }
+    ensures sides { IfOk result (λ found. AreSides ((state_of storage.now).subpools.free found.subpool) found.area
+        found.sides) }
     ensures err { IfErr result (λ cause. release_cause settings (state_of storage.now) r ≡ Some cause) }
 {
     let number = check_number(r.number)?;
@@ -201,29 +241,32 @@ fn find_given_back(storage: &Parts, settings: Settings, r: Release) -> Result<Gi
         start: r.address / 8,
         len: r.length.div_ceil(8),
     };
-    check_area(storage, settings, subpool, area)?;
-    Ok(GivenBack { subpool, area })
+    let sides = check_area(storage, settings, subpool, area)?;
+    Ok(GivenBack {
+        subpool,
+        area,
+        sides,
+    })
 }
 
-// Whether each doubleword of the area, if it has any, is free storage of the subpool.
-fn is_free(storage: &Parts, subpool: Subpool, area: Run) -> bool
-    requires stands { Stand storage.now }
-    requires range { area.start + area.len ≤ 2 ^ 29 }
-    ensures { result ≡ all_pass ((state_of storage.now).subpools.free subpool) area.start area.len }
+// Whether each doubleword of the run, if it has any, is in the free area.
+fn is_part(run: Run, free: Option<Run>) -> bool
+    requires range { run.start + run.len < 2 ^ 32 }
+    ensures { result ≡ all_pass (λ d. holds (inside d) free) run.start run.len }
 {
-    area.len == 0
-        || match storage.subpools.covers(&storage.elements, subpool, area) {
-            Cover::All => true,
-            _ => false,
+    run.len == 0
+        || match free {
+            Some(area) => area.start <= run.start && run.start + run.len - area.start <= area.len,
+            None => false,
         }
 }
 
-// The pages that the area empties when it's given back.
-fn emptied(storage: &Parts, subpool: Subpool, area: Run) -> Run
-    requires stands { Stand storage.now }
+// The pages that the area empties when it's given back, between these free areas of its subpool.
+fn emptied(area: Run, sides: Gap) -> Run
     requires some { 0 < area.len }
     requires range { area.start + area.len ≤ 2 ^ 29 }
-    ensures value { result ≡ emptied_pages (state_of storage.now).subpools subpool area.start area.len }
+    ensures value { (m : Subpools) (p : Subpool) → AreSides (m.free p) area sides
+        → result ≡ emptied_pages m p area.start area.len }
     ensures range { result.start + result.len ≤ 2 ^ 20 }
 {
     let pages = pages_of(area);
@@ -237,8 +280,8 @@ fn emptied(storage: &Parts, subpool: Subpool, area: Run) -> Run
         start: end,
         len: PAGE_DOUBLEWORDS * (pages.start + pages.len) - end,
     };
-    let keeps_first = !is_free(storage, subpool, front);
-    let keeps_last = !is_free(storage, subpool, back);
+    let keeps_first = !is_part(front, sides.before);
+    let keeps_last = !is_part(back, sides.after);
     let first = pages.start + u32::from(keeps_first);
     let past = pages.start + pages.len - u32::from(keeps_last);
     Run {
@@ -287,7 +330,7 @@ fn push_given_back(records: &mut PlanRecords, found: GivenBack, pages: Run)
         ≡ give_back_records found.subpool found.area.start found.area.len pages.start pages.len }
     ensures few { array_vec_len records.new ≤ 6 }
 {
-    let GivenBack { subpool, area } = found;
+    let GivenBack { subpool, area, .. } = found;
     if pages.len == 0 {
         push_area(records, subpool, area, true);
         return;
@@ -307,9 +350,10 @@ fn give_back<'a>(storage: &Parts, found: GivenBack, room: &'a mut PlanRecords) -
     requires stands { Stand storage.now }
     requires some { 0 < found.area.len }
     requires range { found.area.start + found.area.len ≤ 2 ^ 29 }
+    requires sides { AreSides ((state_of storage.now).subpools.free found.subpool) found.area found.sides }
     ensures { IsGivenBack (state_of storage.now) found result }
 {
-    let pages = emptied(storage, found.subpool, found.area);
+    let pages = emptied(found.area, found.sides);
     room.clear();
     push_given_back(room, found, pages);
     push_return(room, storage, 0);

@@ -92,14 +92,6 @@ none_held s q h none i = times-none i (queue_ids s q) (false_if (among i (queue_
   bare : (n : ℕ) × (o : ℕ) × (p : Pool) × ((pool s q n o ≡ Some p) × (among i (ids_of s p.queues) ≡ true)) → ⊥
   bare w = none_some (pool s q w.0 w.1) w.2 (none w.0 w.1) w.3.0
 
--- a subpool that doesn't exist has neither pages nor free storage
-pub none_there : (s : Store) (q : SubpoolStorage) (p : Subpool) → Stands s q → is_there (subpools_of s q) p ≡ false → ((x : ℕ) → (subpools_of s q).pages p x ≡ false) × ((d : ℕ) → (subpools_of s q).free p d ≡ false)
-none_there s q p h gone =
-    let k = subpools_are_there s q h in (
-      λ x. false_if ((subpools_of s q).pages p x) (λ e. not_both (is_there (subpools_of s q) p) (k.2 p x e) gone),
-      λ d. false_if ((subpools_of s q).free p d) (λ e. not_both (is_there (subpools_of s q) p) (k.3 p d e) gone),
-    )
-
 -- a call on one storage leaves another that holds none of its elements
 pub beside_after : (s t : Store) (q r other : SubpoolStorage) (m : Subpools) → Stands s other → ((i : ℕ) → hold s q i + hold s other i ≤ 1) → Becomes s t q r m → Stands t other × ((i : ℕ) → hold t r i + hold t other i ≤ 1)
 beside_after s t q r other m h once b =

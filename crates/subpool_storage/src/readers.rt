@@ -1,19 +1,17 @@
-ghost use Rattle.std.specs.Prelude.{◌≡◌, ℕ, ◌+◌, ◌^◌, ◌<◌, ◌≤◌, true, false, IfSome, IfNone};
+ghost use Rattle.std.specs.Prelude.{◌≡◌, ℕ, ◌+◌, ◌^◌, ◌<◌, ◌≤◌, ◌↔◌, true, false, IfSome, IfNone, IsTrue};
 ghost use Rattle.vsm_elements.specs.Owners.{times};
-ghost use Rattle.run_set.specs.Runs.{IsCover};
+ghost use Rattle.run_set.specs.Runs.{AllIn, IsAround};
 ghost use Rattle.run_set.specs.Fits.{Fits, IsLeastFit, IsLongest};
 ghost use Rattle.descriptor_queue.specs.Extents.{extents as extents_in, has_page as extents_have, owned as extents_own};
 ghost use Rattle.descriptor_queue.specs.Extents.{IsExtents};
 ghost use Rattle.free_queue.specs.FreeQueue.{areas, is_free, owned as areas_own, IsFreeQueue};
-ghost use Rattle.subpool_set.specs.SubpoolSet.{IsSubpool, number_of, owner_of};
-ghost use Rattle.subpool_storage.specs.Subpools.{is_there};
 ghost use Rattle.subpool_storage.specs.Extents.{extents, free_areas};
 ghost use Rattle.subpool_storage.specs.SubpoolStorage.{subpools_of, hold, Stands};
 
 use crate::storage::SubpoolStorage;
-use descriptor_queue::{Extents, Page};
-use free_queue::{Area, Cover, FreeQueue};
-use subpool_set::{PoolId, Queues};
+use descriptor_queue::{Extents, Page, Run};
+use free_queue::{Area, Around, FreeQueue};
+use subpool_set::Queues;
 use vsm_elements::Elements;
 use vsm_model::Subpool;
 
@@ -34,29 +32,12 @@ impl SubpoolStorage {
         ensures held { (i : ℕ) → times i (extents_own elements.now result.extents) ≤ hold elements.now self.now i }
         ensures areas_held { (i : ℕ) → times i (areas_own elements.now result.free) ≤ hold elements.now self.now i }
     {
-        match self.find(elements, subpool) {
-            Some(id) => self.set.queues(elements, id),
+        match self.set.own(elements, subpool.owner, subpool.number) {
+            Some(own) => own.1,
             None => Queues {
                 extents: Extents::new(),
                 free: FreeQueue::new(),
             },
-        }
-    }
-
-    // The name of the subpool, if it exists.
-    fn find(&self, elements: &Elements, subpool: Subpool) -> Option<PoolId>
-        requires { Stands elements.now self.now }
-        ensures pool { IfSome result (λ id. IsSubpool elements.now self.now.set id) }
-        ensures number { IfSome result (λ id. number_of elements.now id ≡ subpool.number) }
-        ensures owner { IfSome result (λ id. owner_of elements.now id ≡ subpool.owner) }
-        ensures there { IfSome result (λ _. is_there (subpools_of elements.now self.now) subpool ≡ true) }
-        ensures absent { IfNone result (is_there (subpools_of elements.now self.now) subpool ≡ false) }
-    {
-        let id = self.set.visible(elements, subpool.owner, subpool.number)?;
-        if self.set.owner(elements, id) == subpool.owner {
-            Some(id)
-        } else {
-            None
         }
     }
 
@@ -104,13 +85,24 @@ impl SubpoolStorage {
             .contains(elements, page)
     }
 
-    /// Whether all, none or a part of the area is free storage of the subpool.
-    pub fn covers(&self, elements: &Elements, subpool: Subpool, area: Area) -> Cover
+    /// Whether each page of the run is the subpool's: one look-up, of the extent that has the first.
+    pub fn has_pages(&self, elements: &Elements, subpool: Subpool, run: Run) -> bool
         requires stands { Stands elements.now self.now }
-        requires range { (0 < area.len) × (area.start + area.len ≤ 2 ^ 29) }
-        ensures { IsCover ((subpools_of elements.now self.now).free subpool) area result }
+        requires range { run.start + run.len < 2 ^ 32 }
+        ensures { IsTrue result ↔ AllIn ((subpools_of elements.now self.now).pages subpool) run }
     {
-        self.queues(elements, subpool).free.covers(elements, area)
+        let queues = self.queues(elements, subpool);
+        queues.extents.covers(elements, run)
+    }
+
+    /// The free area of the subpool that has the doubleword, or the two between which it is: one look-up.
+    pub fn around(&self, elements: &Elements, subpool: Subpool, doubleword: u32) -> Around
+        requires { Stands elements.now self.now }
+        ensures { IsAround ((subpools_of elements.now self.now).free subpool) doubleword result }
+    {
+        self.queues(elements, subpool)
+            .free
+            .around(elements, doubleword)
     }
 
     /// The least doubleword on the boundary from which `len` doublewords of the region are free storage of the
