@@ -1,7 +1,6 @@
 -- A plan that was accepted, and the change that was made of it.
-use Rattle.std.proofs.Common.{◌≡◌, ℕ, true, Option, Some, None, List, ◌∷◌, ◌++◌, Err, sym, subst, refl, arith, Result, Ok, IsOk}
+use Rattle.std.proofs.Common.{◌≡◌, ℕ, List, ◌∷◌, ◌++◌, Err, sym, subst, refl, arith, Result, Ok, IsOk}
 use Rattle.std.proofs.Props.{props}
-use mathlib.Core.Bool.{Bool-set}
 use mathlib.Core.Logic.{∥∥₁_elim}
 use Rattle.vsm_model.specs.declared.limits.Settings.{Settings}
 use Rattle.vsm_model.specs.Names.{NamedState}
@@ -20,28 +19,18 @@ use Rattle.storage_swap.specs.ReservedFit.{reserve-others, reserve-apart, reserv
 use Rattle.vsm_machine.specs.Meaning.{state_in_place, settings_of}
 use Rattle.vsm_machine.specs.Planned.{IsIdFor, change_for, reply_of}
 use Rattle.vsm_machine.specs.Stays.{Stays}
-use Rattle.vsm_machine.specs.NameChanges.{NameStep}
-use Rattle.vsm_machine.specs.NameTable.{rows_of, knows}
+use Rattle.vsm_machine.specs.NameTable.{rows_of}
 use Rattle.vsm_machine.specs.declared.machine.Machine.{Machine}
 use Rattle.vsm_machine.specs.declared.machine.MachineChange.{MachineChange}
 use Rattle.vsm_machine.specs.declared.plans.Planned.{Planned}
 use Rattle.vsm_machine.specs.declared.refusals.Refusal.{Refusal}
-use Rattle.vsm_machine.specs.NameSteps.{CanStepBy, can_take_by, is_taken, takes, can_fit, stepped_by, undefines_none}
-use Rattle.vsm_machine.specs.Changes.{MachineState, named_of, shown, plain_of, means, step_of, storages, storages_at, storages_of, fit, overlay, StorageFits, Apart, Whole, machine_fits, machine_steps, DefineNone}
+use Rattle.vsm_machine.specs.NameSteps.{stepped_by, FitsTable}
+use Rattle.vsm_machine.specs.Changes.{MachineState, named_of, shown, plain_of, means, storages, storages_at, storages_of, fit, overlay, StorageFits, Apart, Whole, machine_fits, machine_steps, DefineNone}
 use Rattle.vsm_machine.specs.Machine.{Why, unknown_name, abended, statement_step}
-use Rattle.vsm_machine.specs.Planned.{difference_in, step_planned, CanCarryOut, IsChangeOf}
+use Rattle.vsm_machine.specs.Planned.{difference_in, CanCarryOut, IsChangeOf}
 use Rattle.vsm_machine.specs.Refusals.{refusal_for}
 use Rattle.bench_core.specs.Stands.{answer_to_apply}
 use Rattle.bench_core.proofs.Applied.{Readied, Reserved}
-
--- a step can be taken if its test says so
-step_taken : (names : List (List ℕ × ℕ)) (step : Option NameStep) → CanStepBy names (λ name. true) step → can_take_by names true step ≡ true
-step_taken names None h = refl
-step_taken names (Some step) h = is_taken names true step h
-
-taken_step : (names : List (List ℕ × ℕ)) (step : Option NameStep) → can_take_by names true step ≡ true → CanStepBy names (λ name. true) step
-taken_step names None h = tt
-taken_step names (Some step) h = takes names true step h
 
 Why-set : IsSet Why
 Why-set = hlevel props
@@ -52,12 +41,6 @@ module _ (m : MachineState) (x : Act) (p : Planned) (h : CanCarryOut m x p) (id 
 
   pub fits_of : StorageFits m.settings m.storage (change_for m.storage id p.plan)
   fits_of = ∥∥₁_elim (h.accepted id free) (hlevel (Fit-prop m.storage (change_for m.storage id p.plan), props)) (λ a. a.fits)
-
-  pub can_of : CanStepBy m.names (λ name. true) (step_planned p)
-  can_of = taken_step m.names (step_planned p) (∥∥₁_elim (h.accepted id free) (Bool-set _ _) (λ a. step_taken m.names (step_planned p) a.can))
-
-  pub gives_of : undefines_none (step_planned p) ≡ true
-  gives_of = ∥∥₁_elim (h.accepted id free) (Bool-set _ _) (λ a. a.gives)
 
 -- what is whole with a change before all is whole with it between the others
 whole_put : (xs ys : List RawChange) (c : RawChange) (p : Parts) → AreWhole p (c ∷ (xs ++ ys)) → AreWhole p (xs ++ c ∷ ys)
@@ -95,18 +78,19 @@ module _ (s r : Machine) (settings : settings_of r.storage ≡ settings_of s.sto
       apart = λ xs h. machine_steps.rest xs change r (made_apart xs h);
     }
 
-    made_fits : StorageFits (settings_of s.storage) (state_in_place s.storage) (change_for (state_in_place s.storage) is.id p.plan) → CanStepBy (rows_of r.names) (knows r.names) (step_of change) →
+    made_fits : StorageFits (settings_of s.storage) (state_in_place s.storage) (change_for (state_in_place s.storage) is.id p.plan) → FitsTable r.names change.name →
         fit (shown r) (means r change)
     made_fits h can = (
       subst (λ (d : StorageChange). StorageFits (settings_of r.storage) (state_in_place r.storage) d) (sym is.storage.meaning)
           (subst (λ (m : StorageState). StorageFits (settings_of r.storage) m (change_for (state_in_place s.storage) is.id p.plan)) (sym is.storage.shows)
           (subst (λ (c : Settings). StorageFits c (state_in_place s.storage) (change_for (state_in_place s.storage) is.id p.plan)) (sym settings) h)),
-      can_fit r.names (step_of change) can,
+      can.0,
+      can.1,
     )
 
     pub reserved_of : (x : Act) (ks us ls vs : List MachineChange) → ls ≡ ks → vs ≡ us → machine_fits ks s us → Whole s (ks ++ us) → DefineNone ks →
         CanCarryOut (shown s) x p →
-        (CanStepBy (rows_of s.names) (λ name. true) (step_planned p) → CanStepBy (rows_of r.names) (knows r.names) (step_of change)) →
+        FitsTable r.names change.name →
         Reserved ls vs s r change
     reserved_of x ks us ls vs l v f whole none a can =
         let fits : machine_fits ls s vs = subst (λ zs. machine_fits zs s vs) (sym l) (subst (λ zs. machine_fits ks s zs) (sym v) f) in
@@ -115,7 +99,7 @@ module _ (s r : Machine) (settings : settings_of r.storage ≡ settings_of s.sto
           fits = fits;
           none = subst DefineNone (sym l) none;
           readied = made_readied;
-          can = made_fits (fits_of (shown s) x p a is.id is.free) (can (can_of (shown s) x p a is.id is.free));
+          can = made_fits (fits_of (shown s) x p a is.id is.free) can;
           apart = made_apart (ls ++ vs) fits.1;
           whole = made_whole ls vs stands;
         }

@@ -1,16 +1,15 @@
 -- A change that is applied and kept.
-use Rattle.std.proofs.Common.{◌≡◌, ℕ, suc, ◌-◌, true, true≢false, Option, Some, None, List, [], ◌∷◌, ◌++◌, length, map, take, drop, sym, ◌∙◌, ap, subst, refl, arith, append_assoc}
+use Rattle.std.proofs.Common.{◌≡◌, ℕ, suc, ◌-◌, true, List, [], ◌∷◌, ◌++◌, length, map, take, drop, sym, ◌∙◌, ap, subst, refl, arith, append_assoc}
 use Rattle.std.proofs.lemmas.List.{append-nil, length_push}
-use Rattle.vsm_machine.specs.NameChanges.{NameStep, define, undefine, reword}
-use Rattle.vsm_machine.specs.NameTable.{knows}
+use Rattle.vsm_machine.specs.NameTable.{names_of}
 use Rattle.vsm_machine.specs.Meaning.{settings_of}
 use Rattle.storage_swap.specs.Swap as swap
 use Rattle.step_history.specs.Chain.{FitsBefore, ChainFits, chain_states}
 use Rattle.step_history.specs.Log.{Log, latest}
 use Rattle.step_history.specs.Single.{steps_next, steps_ready, steps_aside}
 use Rattle.step_history.specs.Trail.{trail_of, trail_kept}
-use Rattle.vsm_machine.specs.NameSteps.{is_ready, defines_none, undefines_none, same_ready}
-use Rattle.vsm_machine.specs.Changes.{MachineState, Difference, named_of, shown, plain_of, means, step_of, fit, overlay, Apart, Whole, CanSwap, Swaps, machine_fits, machine_states, machine_steps, machine_laws, same_meaning, DefineNone, UndefineNone}
+use Rattle.vsm_machine.specs.NameSteps.{defines_none, undefines_none}
+use Rattle.vsm_machine.specs.Changes.{MachineState, Difference, named_of, shown, plain_of, means, fit, overlay, Apart, Whole, CanSwap, Swaps, machine_fits, machine_states, machine_steps, machine_laws, same_meaning, same_without_names, DefineNone, UndefineNone}
 use Rattle.bench_core.specs.Stands.{bench_at, bench_as, bench_in}
 use Rattle.vsm_machine.specs.declared.machine.Machine.{Machine}
 use Rattle.vsm_machine.specs.declared.machine.MachineChange.{MachineChange}
@@ -30,32 +29,26 @@ apart_behind [] us s h = h
 apart_behind (k ∷ ks) us s h = apart_behind ks us s (machine_steps.rest (ks ++ us) k s h)
 
 module _ (s r : Machine) (same : Readied s r) where
-  kept_ready : (step : Option NameStep) → defines_none step ≡ true → is_ready r.names step ≡ is_ready s.names step
-  kept_ready None h = refl
-  kept_ready (Some (define name word)) h = absurd (true≢false (sym h))
-  kept_ready (Some (undefine name)) h = refl
-  kept_ready (Some (reword name word)) h = refl
-
-  first_means : (c : MachineChange) (cs : List MachineChange) → Apart s (c ∷ cs) → is_ready r.names (step_of c) ≡ is_ready s.names (step_of c) → means r c ≡ means s c
-  first_means c cs a = same_meaning s r c (same.others c (machine_laws.fewer (c ∷ []) cs s a))
+  first_other : (c : MachineChange) (cs : List MachineChange) → Apart s (c ∷ cs) → swap.means r.storage.parts.elements c.storage ≡ swap.means s.storage.parts.elements c.storage
+  first_other c cs a = same.others c (machine_laws.fewer (c ∷ []) cs s a)
 
   -- what is kept means the same
   pub kept_means : (ks : List MachineChange) → DefineNone ks → Apart s ks → map (means r) ks ≡ map (means s) ks
   kept_means [] h a = refl
   kept_means (k ∷ ks) h a =
-      let one = first_means k ks a (kept_ready (step_of k) h.0) in
+      let one = same_without_names s r k (first_other k ks a) h.0 in
       let rest = kept_means ks h.1 (machine_steps.rest ks k s a) in
       λ i. one i ∷ rest i
 
-  -- and everything does if the table holds the same names
-  all_means : ((name : List ℕ) → knows r.names name ≡ knows s.names name) → (cs : List MachineChange) → Apart s cs → map (means r) cs ≡ map (means s) cs
+  -- and everything does if the table holds the same names at the same places
+  all_means : names_of r.names ≡ names_of s.names → (cs : List MachineChange) → Apart s cs → map (means r) cs ≡ map (means s) cs
   all_means known [] a = refl
   all_means known (c ∷ cs) a =
-      let one = first_means c cs a (same_ready s.names r.names known (step_of c)) in
+      let one = same_meaning s r c (first_other c cs a) known in
       let rest = all_means known cs (machine_steps.rest cs c s a) in
       λ i. one i ∷ rest i
 
-  module _ (known : (name : List ℕ) → knows r.names name ≡ knows s.names name) (ks us : List MachineChange) (f : machine_fits ks s us) where
+  module _ (known : names_of r.names ≡ names_of s.names) (ks us : List MachineChange) (f : machine_fits ks s us) where
     all_kept : map (means r) ks ≡ map (means s) ks
     all_kept = all_means known ks (machine_laws.fewer ks us s f.1)
 
@@ -147,12 +140,12 @@ module _ (ks us : List MachineChange) (s r t : Machine) (change inverse : Machin
       ∙ newest_as named_of limit past (shown s) next
 
   -- what is kept now takes statements back
-  pub kept_directed : (limit : ℕ) (new : Log MachineChange) → undefines_none (step_of change) ≡ true → new.kept ≡ latest limit (ks ++ inverse ∷ []) → new.undone ≡ [] →
+  pub kept_directed : (limit : ℕ) (new : Log MachineChange) → undefines_none change.name ≡ true → new.kept ≡ latest limit (ks ++ inverse ∷ []) → new.undone ≡ [] →
       Directed new.kept new.undone
   kept_directed limit new gives kept undone = record {
     kept_define_none =
         subst DefineNone (sym kept)
-        (all_dropped (λ c. defines_none (step_of c) ≡ true) _ (ks ++ inverse ∷ [])
-        (all_push (λ c. defines_none (step_of c) ≡ true) ks inverse h.none (swap_defines_none r t change inverse w gives)));
+        (all_dropped (λ c. defines_none c.name ≡ true) _ (ks ++ inverse ∷ [])
+        (all_push (λ c. defines_none c.name ≡ true) ks inverse h.none (swap_defines_none r t change inverse w gives)));
     undone_undefine_none = subst UndefineNone (sym undone) tt;
   }

@@ -1,12 +1,11 @@
 -- A machine that moves along its history.
-use Rattle.std.proofs.Common.{◌≡◌, ℕ, zero, suc, ◌+◌, ◌≤◌, ◌↔◌, List, [], ◌∷◌, ◌++◌, length, drop, reverse, Option, Some, None, Result, Ok, Err, OnOk, OnErr, IfErr, IsOk, sym, ◌∙◌, ap, subst, refl, arith, inl, inr, true, true≢false}
+use Rattle.std.proofs.Common.{◌≡◌, ℕ, zero, suc, ◌+◌, ◌≤◌, ◌↔◌, List, [], ◌∷◌, ◌++◌, length, drop, reverse, Result, Ok, Err, OnOk, OnErr, IfErr, IsOk, sym, ◌∙◌, ap, subst, refl, arith, inl, inr, true, true≢false}
 use Rattle.std.proofs.lemmas.Bool.{cases_lt}
 use Rattle.std.proofs.lemmas.List.{length-map, length-reverse}
 use Rattle.vsm_model.specs.declared.limits.Settings.{Settings}
 use Rattle.std.specs.List.{AllByRecursion}
 use Rattle.vsm_model.specs.Standing.{Keeps, Back, Forward}
 use Rattle.vsm_machine.specs.Meaning.{settings_of}
-use Rattle.vsm_machine.specs.NameChanges.{NameStep, define, undefine, reword}
 use Rattle.vsm_machine.specs.NameTable.{rows_of}
 use Rattle.step_history.specs.Log.{Log}
 use Rattle.step_history.specs.Trail.{trail_of, trail_back, past_count, later_count}
@@ -14,8 +13,8 @@ use Rattle.step_history.specs.Walk.{Moment, moment, Times, StepsBack, StepsForwa
 use Rattle.step_history.specs.declared.too_far.TooFar.{TooFar}
 use Rattle.step_history.specs.declared.too_far.TooFarAhead.{TooFarAhead}
 use Rattle.vsm_machine.specs.Machine.{statement_step}
-use Rattle.vsm_machine.specs.NameSteps.{turned_by, defines_none, undefines_none}
-use Rattle.vsm_machine.specs.Changes.{named_of, shown, step_of, HasSameMemory, Swaps, Discards, machine_fits, machine_states, machine_laws, DefineNone, UndefineNone}
+use Rattle.vsm_machine.specs.NameSteps.{back_defines_none, back_undefines_none, defines_none, undefines_none}
+use Rattle.vsm_machine.specs.Changes.{named_of, shown, HasSameMemory, Swaps, Discards, machine_fits, machine_states, machine_laws, DefineNone, UndefineNone}
 use Rattle.bench_core.specs.Stands.{bench_at, answer_to_back, answer_to_forward}
 use Rattle.vsm_machine.specs.declared.machine.Machine.{Machine}
 use Rattle.vsm_machine.specs.declared.machine.MachineChange.{MachineChange}
@@ -40,23 +39,11 @@ all_dropped P (suc n) [] h = tt
 all_dropped P (suc n) (x ∷ xs) h = all_dropped P n xs h.1
 
 -- a step that is turned takes back what it did
-back_undefines_none : (names : List (List ℕ × ℕ)) (step : Option NameStep) → defines_none step ≡ true → undefines_none (turned_by names step) ≡ true
-back_undefines_none names None h = refl
-back_undefines_none names (Some (define name word)) h = absurd (true≢false (sym h))
-back_undefines_none names (Some (undefine name)) h = refl
-back_undefines_none names (Some (reword name word)) h = refl
+pub swap_undefines_none : (m n : Machine) (c d : MachineChange) → Swaps m c n d → defines_none c.name ≡ true → undefines_none d.name ≡ true
+swap_undefines_none m n c d w h = back_undefines_none m.names n.names (rows_of m.names) c.name d.name w.inverse_step h
 
-back_defines_none : (names : List (List ℕ × ℕ)) (step : Option NameStep) → undefines_none step ≡ true → defines_none (turned_by names step) ≡ true
-back_defines_none names None h = refl
-back_defines_none names (Some (define name word)) h = refl
-back_defines_none names (Some (undefine name)) h = absurd (true≢false (sym h))
-back_defines_none names (Some (reword name word)) h = refl
-
-pub swap_undefines_none : (m n : Machine) (c d : MachineChange) → Swaps m c n d → defines_none (step_of c) ≡ true → undefines_none (step_of d) ≡ true
-swap_undefines_none m n c d w h = ap undefines_none w.inverse_step ∙ back_undefines_none (rows_of m.names) (step_of c) h
-
-pub swap_defines_none : (m n : Machine) (c d : MachineChange) → Swaps m c n d → undefines_none (step_of c) ≡ true → defines_none (step_of d) ≡ true
-swap_defines_none m n c d w h = ap defines_none w.inverse_step ∙ back_defines_none (rows_of m.names) (step_of c) h
+pub swap_defines_none : (m n : Machine) (c d : MachineChange) → Swaps m c n d → undefines_none c.name ≡ true → defines_none d.name ≡ true
+swap_defines_none m n c d w h = back_defines_none m.names n.names (rows_of m.names) c.name d.name w.inverse_step h
 
 -- the kept changes take statements back, and the undone ones make them again
 pub record Directed (kept undone : List MachineChange) : Type 0 where
@@ -72,10 +59,10 @@ step_back p q step h =
     let c = step.change in
     let d = step.inverse in
     let kept : DefineNone (q.kept ++ c ∷ []) = subst DefineNone step.last h.kept_define_none in
-    let none = all_last (λ x. defines_none (step_of x) ≡ true) q.kept c kept in (
+    let none = all_last (λ x. defines_none x.name ≡ true) q.kept c kept in (
       step.swapped.settings,
       record {
-        kept_define_none = all_front (λ x. defines_none (step_of x) ≡ true) q.kept (c ∷ []) kept;
+        kept_define_none = all_front (λ x. defines_none x.name ≡ true) q.kept (c ∷ []) kept;
         undone_undefine_none = subst UndefineNone (sym step.first) (swap_undefines_none p.state q.state c d step.swapped none, h.undone_undefine_none);
       },
     )
@@ -88,7 +75,7 @@ step_forward p q step h =
     let defined = swap_defines_none p.state q.state c d step.swapped undone.0 in (
       step.swapped.settings,
       record {
-        kept_define_none = subst DefineNone (sym step.last) (all_push (λ x. defines_none (step_of x) ≡ true) p.kept d h.kept_define_none defined);
+        kept_define_none = subst DefineNone (sym step.last) (all_push (λ x. defines_none x.name ≡ true) p.kept d h.kept_define_none defined);
         undone_undefine_none = undone.1;
       },
     )

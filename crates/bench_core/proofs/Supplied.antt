@@ -1,11 +1,11 @@
 -- There is memory for a plan if there is memory for the state that the plain machine reaches.
-use Rattle.std.proofs.Common.{◌≡◌, ℕ, Option, Some, None, IsSome, IfSome, List, refl, subst, sym}
+use Rattle.std.proofs.Common.{ℕ, Option, Some, None, IsSome, IfSome, List}
 use Rattle.vsm_model.specs.Names.{word_of}
-use Rattle.vsm_model.proofs.Rows.{name_stands}
 use Rattle.macro_statements.specs.Requests.{Act}
 use Rattle.vsm_machine.specs.declared.names.NameTable.{NameTable}
 use Rattle.vsm_machine.specs.NameChanges.{NameStep, define, undefine, reword}
 use Rattle.vsm_machine.specs.NameTable.{rows_of, HasRoom}
+use Rattle.vsm_machine.proofs.TableRows.{last-stands}
 use Rattle.storage_changes.specs.Fresh.{FreshIsNew}
 use Rattle.vsm_machine.proofs.FreshLemmas.{plan_assigns, zero_is_free}
 use Rattle.vsm_machine.specs.Meaning.{state_in_place, settings_of}
@@ -21,9 +21,9 @@ use Rattle.bench_core.proofs.Accepted.{accepted_of, fits_of}
 room_for : (t : NameTable) (names : List (List ℕ × ℕ)) (step : Option NameStep)
     → ((name : List ℕ) → IsSome (word_of (stepped_by names step) name) → HasRoom t name) → IfSome (defined_by step) (HasRoom t)
 room_for t names None room = tt
-room_for t names (Some (define name word)) room = room name (subst IsSome (sym (name_stands names name word)) refl)
-room_for t names (Some (undefine name)) room = tt
-room_for t names (Some (reword name word)) room = tt
+room_for t names (Some (define place name word)) room = room name (last-stands names name word)
+room_for t names (Some undefine) room = tt
+room_for t names (Some (reword place word)) room = tt
 
 pub needs_no_more : FreshIsNew → (s : Machine) (x : Act) (p : Planned) → CanCarryOut (shown s) x p → IsSupplied s x → NeedsNoMore s p
 needs_no_more fresh_is_new s x p h supplied =

@@ -1,8 +1,7 @@
 //! Names are defined, get other words, and are undone and forgotten.
 
-ghost use Rattle.std.specs.Prelude.{◌≡◌, true};
-ghost use Rattle.vsm_machine.specs.NameChanges.{CanStep, name_of, step_in};
-ghost use Rattle.vsm_machine.specs.NameTable.{knows, rows_of};
+ghost use Rattle.std.specs.Prelude.{Some};
+ghost use Rattle.vsm_machine.specs.NameSteps.{FitsTable};
 
 use crate::checks::{holds, same};
 use std::process::Abort;
@@ -14,45 +13,25 @@ fn name(text: &str) -> Name {
 
 /// Takes the step, and leaves its inverse, which can be taken next.
 fn turn(table: &mut NameTable, change: &mut NameChange)
-    requires { CanStep (rows_of table.old) (knows table.old) (step_in change.old) }
-    ensures can { CanStep (rows_of table.new) (knows table.new) (step_in change.new) }
-    ensures there { knows table.new (name_of (step_in change.new)) ≡ true }
+    requires { FitsTable table.old (Some change.old) }
+    ensures { FitsTable table.new (Some change.new) }
 {
     table.swap(change);
 }
 
-/// Gives the name its word, and returns the change that undoes this.
+/// Gives the name its word, and returns the change that undoes this. Other undone names are forgotten.
 fn put(rt: &impl Abort, table: &mut NameTable, name: Name, word: u32) -> NameChange
-    ensures { CanStep (rows_of table.new) (knows table.new) (step_in result) }
+    ensures { FitsTable table.new (Some result) }
 {
     match table.reserve(name) {
         Ok(()) => {
-            let mut change = table.change_to(name, word);
+            table.forget_undone(Some(name));
+            let mut change = table.change_to(&name, word);
             turn(table, &mut change);
             change
         }
         Err(_) => panic!(rt; "no memory for a name"),
     }
-}
-
-/// The name that a change is about.
-fn name_in(change: &NameChange) -> Name
-    ensures { result.bytes ≡ name_of (step_in change.now) }
-{
-    match *change {
-        NameChange::Define { name, .. } => name,
-        NameChange::Undefine { name } => name,
-        NameChange::Reword { name, .. } => name,
-    }
-}
-
-/// Forgets the undone names except that of the change, which can still be taken.
-fn forget_others(table: &mut NameTable, change: &NameChange)
-    requires can { CanStep (rows_of table.old) (knows table.old) (step_in change.now) }
-    requires there { knows table.old (name_of (step_in change.now)) ≡ true }
-    ensures { CanStep (rows_of table.new) (knows table.new) (step_in change.now) }
-{
-    table.forget_undone(Some(name_in(change)));
 }
 
 /// The name is defined, undone and defined again.
@@ -73,7 +52,7 @@ fn reword_and_undo(rt: &impl Abort, table: &mut NameTable, area: Name) {
     turn(table, &mut change);
     same!(rt; table.word(&area), Some(0x6000));
     let back = NameChange::Reword {
-        name: area,
+        place: 0,
         word: 0x7000,
     };
     same!(rt; change, back);
@@ -88,23 +67,27 @@ fn names_are_defined_and_undone(rt: HostRuntime) {
     drop(table);
 }
 
-/// An undone name stays if the other undone ones are forgotten.
-fn keep_one_undone(rt: &impl Abort, table: &mut NameTable) {
-    let (area, buffer) = (name("AREA"), name("BUFFER"));
-    put(rt, table, area, 0x6000);
-    holds!(rt; table.reserve(name("THIRD")).is_ok());
-    let mut change = put(rt, table, buffer, 0x8000);
+/// The second name is defined and undone, and leaves its row to be defined.
+fn undo_second(rt: &impl Abort, table: &mut NameTable) {
+    put(rt, table, name("AREA"), 0x6000);
+    let mut change = put(rt, table, name("BUFFER"), 0x8000);
+    same!(rt; change, NameChange::Undefine);
     turn(table, &mut change);
     let again = NameChange::Define {
-        name: buffer,
+        place: 1,
         word: 0x8000,
     };
     same!(rt; change, again);
-    forget_others(table, &change);
-    turn(table, &mut change);
-    same!(rt; change, NameChange::Undefine { name: buffer });
+}
+
+/// An undone name stays if the other undone ones are forgotten.
+fn keep_one_undone(rt: &impl Abort, table: &mut NameTable) {
+    let (area, buffer) = (name("AREA"), name("BUFFER"));
+    undo_second(rt, table);
+    holds!(rt; table.reserve(name("THIRD")).is_ok());
+    put(rt, table, buffer, 0x9000);
     same!(rt; table.word(&area), Some(0x6000));
-    same!(rt; table.word(&buffer), Some(0x8000));
+    same!(rt; table.word(&buffer), Some(0x9000));
 }
 
 #[test]

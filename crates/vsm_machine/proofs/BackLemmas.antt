@@ -1,29 +1,20 @@
 -- A change that was exchanged with a machine can be exchanged back.
 use Rattle.std.proofs.Common.{sym, subst}
-use Rattle.std.proofs.lemmas.Bool.{and_parts}
 use Rattle.storage_swap.specs.Swap as swap
-use Rattle.vsm_machine.specs.NameTable.{rows_of}
 use Rattle.step_history.specs.Single.{steps_twice}
-use Rattle.vsm_machine.specs.NameSteps.{is_ready, can_take_by, can_step, can_fit}
 use Rattle.vsm_machine.specs.declared.machine.Machine.{Machine}
 use Rattle.vsm_machine.specs.declared.machine.MachineChange.{MachineChange}
-use Rattle.vsm_machine.specs.Changes.{MachineState, Difference, shown, means, step_of, fit, overlay, inverse, Apart}
+use Rattle.vsm_machine.specs.Changes.{MachineState, Difference, shown, means, fit, overlay, inverse, Apart}
 use Rattle.vsm_machine.specs.Changes.{CanSwap, Swaps, machine_steps}
 use Rattle.vsm_machine.specs.Laws.{SwapsLeadBack}
 
 -- a change that can be exchanged fits the state,
 can-fits : (m : Machine) (c : MachineChange) → CanSwap m c → fit (shown m) (means m c)
-can-fits m c h = (h.fits, can_fit m.names (step_of c) h.can)
+can-fits m c h = (h.fits, h.can.0, h.can.1)
 
 -- and one that fits it, and is ready for the storage, can be exchanged
 fits-can : (m : Machine) (c : MachineChange) → swap.Ready m.storage.parts c.storage → fit (shown m) (means m c) → CanSwap m c
-fits-can m c r f = record {
-  ready = r;
-  fits = f.0;
-  can = can_step m.names (step_of c)
-      (and_parts (can_take_by (rows_of m.names) (is_ready m.names (step_of c)) (step_of c))
-      (is_ready m.names (step_of c)) f.1).0;
-}
+fits-can m c r f = record { ready = r; fits = f.0; can = (f.1, f.2) }
 
 -- what was exchanged fits the state that it left
 back-fits : (m n : Machine) (c d : MachineChange) → fit (shown m) (means m c) → Swaps m c n d → fit (shown n) (means n d)

@@ -1,19 +1,21 @@
--- The entries of the table's map as rows: look-ups by a key, moves and writes.
-use Rattle.std.proofs.Common.{◌≡◌, ℕ, zero, suc, ◌+◌, ◌<◌, ◌≤◌, ◌==◌, Bool, true, false, cond, ◌&&◌, ◌||◌, not, nat_eq, if◌then◌else◌, Option, Some, None, is_some, List, [], ◌∷◌, ◌++◌, length, take, drop, map, get_or, insert, remove, position, refl, sym, ap, ◌∙◌, arith, inl, inr, true≢false, append_assoc}
+-- The entries of the table's map as rows: look-ups by a key, moves, and writes at a place.
+use Rattle.std.proofs.Common.{◌≡◌, ℕ, zero, suc, ◌+◌, ◌<◌, ◌≤◌, ◌==◌, Bool, true, false, cond, ◌&&◌, ◌||◌, not, nat_eq, Option, Some, None, is_some, List, [], ◌∷◌, ◌++◌, length, take, drop, map, get_or, insert, min, remove, position, slice_get, refl, sym, ap, ◌∙◌, arith, true≢false, append_assoc}
 use Rattle.std.specs.Option.{option_map_or}
 use Rattle.std.specs.Cmp.Lexicographic.{pointwise}
-use Rattle.std.specs.Map.{keys_of, lookup, set_value}
-use Rattle.std.proofs.lemmas.Bool.{cases_Bool, cond-true, cond-false}
+use Rattle.std.specs.Map.{keys_of, lookup, values_of}
 use Rattle.std.proofs.lemmas.Bool.Decides.{nat_tests}
-use Rattle.std.proofs.lemmas.List.{take_at, take-append-le, length-take-le, length_push, take-map, map-append}
+use Rattle.std.proofs.lemmas.List.{take_at, take-append-le, length-map, length-take, length-take-le, length_push, take-map, map-append}
+use Rattle.std.proofs.lemmas.List.{get_or-map, get_or-take}
+use Rattle.std.proofs.Math.Seq.{get_or-append_seam}
 use Rattle.std.proofs.lemmas.List.Quantifiers.{position-Some}
 use Rattle.std.proofs.lemmas.Option.{slice_get-get_or}
 use Rattle.arrayvec.specs.ArrayString.{ArrayString}
-use Rattle.indexmap.specs.IndexMap.{move_index}
-use Rattle.vsm_model.specs.Names.{same_name, word_of, with_name}
-use Rattle.vsm_machine.specs.NameTable.{row_of}
+use Rattle.indexmap.specs.IndexMap.{move_index, set_value_at}
+use Rattle.vsm_model.specs.Names.{same_name, word_of}
+use Rattle.vsm_machine.specs.declared.names.NameTable.{NameTable}
+use Rattle.vsm_machine.specs.NameTable.{all_rows, names_of, place_in, row_of, rows_of, with_word_at, word_at}
 use Rattle.vsm_machine.specs.SameName.{same_name-is}
-use Rattle.vsm_machine.proofs.TableRows.{word_of-within, word_of-behind, word_of-none, take-front, forgot-but, forgot-all}
+use Rattle.vsm_machine.proofs.TableRows.{word_of-within, word_of-behind, word_of-none, take-front, placed, forgot-but, forgot-all}
 
 abbrev Entry : Type 0
 Entry = ArrayString × ℕ
@@ -76,6 +78,15 @@ front-lacks key es n i at behind =
     word_of-behind (map row_of es) n key.bytes no_row (omega (arith, within, behind, length-rows es))
     (λ k b. test-is key es k no_key no_row (omega (arith, within, behind, b)) ∙ found.2 k (omega (arith, behind, b)))
 
+-- a name that is found in the front has its place there
+pub front-place : (key : ArrayString) (es : List Entry) (n i : ℕ) → position (same_key key) (keys_of es) ≡ Some i → i < n →
+    place_in (take n (map row_of es)) key.bytes ≡ Some i
+front-place key es n i at below =
+    let found = position-Some (same_key key) (keys_of es) i no_key at in
+    let within : i < length es = omega (arith, found.0, length-keys es) in
+    placed (map row_of es) n i key.bytes no_row below (omega (arith, within, length-rows es)) (test-is key es i no_key no_row within ∙ found.1)
+    (λ k b. test-is key es k no_key no_row (omega (arith, within, b)) ∙ found.2 k b)
+
 -- a name that isn't found isn't in the front
 pub front-none : (key : ArrayString) (es : List Entry) (n : ℕ) → lookup (same_key key) es ≡ None → word_of (take n (map row_of es)) key.bytes ≡ None
 front-none key es n none = word_of-none (map row_of es) n key.bytes (sym (lookup-is key es) ∙ none)
@@ -132,21 +143,23 @@ pub rows-moved : (es : List Entry) (n i : ℕ) → n ≤ i → i < length es →
 rows-moved es n i behind within =
     take-map row_of n (move_index es i n) ∙ ap (map row_of) (moved-front es i n no_entry behind within) ∙ sym (take-map row_of n es)
 
--- a write at a present key
-pub rows-written : (key : ArrayString) (es : List Entry) (word : ℕ) → is_some (word_of (map row_of es) key.bytes) ≡ true →
-    map row_of (set_value (same_key key) es word) ≡ with_name (map row_of es) key.bytes word
-rows-written key [] word known = absurd (true≢false (sym known))
-rows-written key (e ∷ es) word known =
-    elim (cases_Bool (same_name e.0.bytes key.bytes)) [
-      | inl same ↦
-          (λ i. map row_of (cond ((same_key-is key.bytes e.0.bytes ∙ same) i) ((e.0, word) ∷ es) (e ∷ set_value (same_key key) es word)))
-          ∙ sym (cond-true (same_name e.0.bytes key.bytes) ((e.0.bytes, word) ∷ map row_of es) (row_of e ∷ with_name (map row_of es) key.bytes word) same)
-      | inr other ↦
-          let rest : is_some (word_of (map row_of es) key.bytes) ≡ true = (λ i. is_some (if (sym other) i then Some e.1 else word_of (map row_of es) key.bytes)) ∙ known in
-          (λ i. map row_of (cond ((same_key-is key.bytes e.0.bytes ∙ other) i) ((e.0, word) ∷ es) (e ∷ set_value (same_key key) es word)))
-          ∙ ap (λ l. row_of e ∷ l) (rows-written key es word rest)
-          ∙ sym (cond-false (same_name e.0.bytes key.bytes) ((e.0.bytes, word) ∷ map row_of es) (row_of e ∷ with_name (map row_of es) key.bytes word) other)
-    ]
+-- a write at a place,
+pub rows-written : (es : List Entry) (place word : ℕ) → map row_of (set_value_at es place word) ≡ with_word_at (map row_of es) place word
+rows-written [] place word = refl
+rows-written (e ∷ es) zero word = refl
+rows-written (e ∷ es) (suc place) word = ap (λ l. row_of e ∷ l) (rows-written es place word)
+
+-- and what is read there
+pub word-read : (es : List Entry) (place word : ℕ) → slice_get (values_of es) place ≡ Some word → word ≡ word_at (map row_of es) place
+word-read [] place word e = absurd (nothing word e)
+  where
+    nothing : (word : ℕ) → ◌≡◌ {A = Option ℕ} None (Some word) → ⊥
+    nothing word e = cc
+word-read (e ∷ es) zero word is = inside e.1 word is
+  where
+    inside : (old word : ℕ) → ◌≡◌ {A = Option ℕ} (Some old) (Some word) → word ≡ old
+    inside old word is = cc
+word-read (e ∷ es) (suc place) word is = word-read es place word is
 
 -- the rows of the first entries
 pub rows-kept : (es new : List Entry) (m n : ℕ) → m ≤ n → new ≡ take n es → take m (map row_of new) ≡ take m (map row_of es)
@@ -154,6 +167,35 @@ rows-kept es new m n a is = ap (λ l. take m (map row_of l)) is ∙ ap (take m) 
 
 pub all-kept : (es new : List Entry) (n : ℕ) → new ≡ take n es → map row_of new ≡ take n (map row_of es)
 all-kept es new n is = ap (map row_of) is ∙ sym (take-map row_of n es)
+
+-- the next row stays next
+pub next-kept : (es new : List Entry) (n : ℕ) (row : List ℕ × ℕ) → new ≡ take (n + 1) es → take (n + 1) (map row_of es) ≡ take n (map row_of es) ++ row ∷ [] →
+    take (n + 1) (map row_of new) ≡ take n (map row_of new) ++ row ∷ []
+next-kept es new n row is next =
+    rows-kept es new (n + 1) (n + 1) (omega arith) is ∙ next ∙ ap (λ l. l ++ row ∷ []) (sym (rows-kept es new n (n + 1) (omega arith) is))
+
+-- and its name is at its place
+pub next-named : (rows : List (List ℕ × ℕ)) (n : ℕ) (name : List ℕ) (word : ℕ) → n ≤ length rows → take (n + 1) rows ≡ take n rows ++ (name, word) ∷ [] →
+    (n < length rows) × (get_or (map (λ row. row.0) rows) n [] ≡ name)
+next-named rows n name word a next =
+    let front = length-take-le n rows a in
+    let long : length (take (n + 1) rows) ≡ n + 1 = ap length next ∙ length_push (take n rows) (name, word) ∙ ap (λ k. k + 1) front in
+    let most : length (take (n + 1) rows) ≡ min (n + 1) (length rows) = length-take (n + 1) rows in
+    let within : n < length rows = omega (arith, long, most) in (
+      within,
+      get_or-map (λ row. row.0) rows n no_row [] within
+          ∙ ap (λ row. row.0) (sym (get_or-take (n + 1) rows n no_row (omega arith)) ∙ ap (λ l. get_or l n no_row) next
+          ∙ ap (λ k. get_or (take n rows ++ (name, word) ∷ []) k no_row) (sym front)
+          ∙ get_or-append_seam (take n rows) (name, word) [] no_row),
+    )
+
+-- as many rows are defined as the table says
+pub defined-length : (t : NameTable) → length (rows_of t) ≡ t.defined
+defined-length t = length-take-le t.defined (all_rows t) (omega (arith, t.within, length-rows t.table.entries))
+
+-- the names are as many as the entries
+pub names-length : (t : NameTable) → length (names_of t) ≡ length t.table.entries
+names-length t = length-map (all_rows t) (λ row. row.0) ∙ length-rows t.table.entries
 
 -- the names that are left once all are forgotten except the defined ones and the next,
 pub left-with-next : (es new : List Entry) (n : ℕ) (rows : List (List ℕ × ℕ)) (known : List ℕ → Bool) (name : List ℕ) (word : ℕ) → new ≡ take (n + 1) es →

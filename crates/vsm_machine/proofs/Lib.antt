@@ -1,5 +1,6 @@
 pub mod Entries
 pub mod TableRows
+pub mod TableSteps
 pub mod Planning
 mod FirstCause
 mod BackLemmas

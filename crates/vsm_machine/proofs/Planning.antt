@@ -1,13 +1,13 @@
 -- A plan of a service is a plan of the statement that asks for it.
 use mathlib.Core.Logic.{∥∥₁_map}
-use Rattle.std.proofs.Common.{◌≡◌, ℕ, ◌+◌, ◌*◌, ◌≤◌, Bool, true, false, ◌||◌, if◌then◌else◌, Option, Some, None, is_some, List, refl, sym, ap, ◌∙◌, subst}
+use Rattle.std.proofs.Common.{◌≡◌, ℕ, ◌+◌, ◌*◌, ◌≤◌, Bool, true, ◌||◌, Option, Some, None, List, refl, sym, ap, ◌∙◌, subst}
 use Rattle.vsm_model.specs.declared.causes.Cause.{Cause}
 use Rattle.vsm_model.specs.declared.causes.Family.{Family}
 use Rattle.vsm_model.specs.declared.replies.Reply.{Reply}
 use Rattle.vsm_model.specs.declared.replies.Reply.TheVariants.{Obtained, Returned, Cell, Attached, Turn, Stored}
 use Rattle.vsm_model.specs.Codes.{completion_code}
 use Rattle.vsm_model.specs.Forms.{with_code}
-use Rattle.vsm_model.specs.Names.{named, names_after, is_one_too_many, same_name, word_of}
+use Rattle.vsm_model.specs.Names.{named, names_after, is_one_too_many, same_name}
 use Rattle.vsm_model.specs.Standing as outcome
 use Rattle.vsm_model.specs.Standing.{Outcome, Accepted, Refused}
 use Rattle.vsm_model.specs.State.{State}
@@ -19,13 +19,12 @@ use Rattle.storage_changes.specs.Meaning.{model_of, IsSound}
 use Rattle.storage_core.specs.Planned.{Assigns, IsAccepted, change_for, elements_needed, fresh_pages, reply_of}
 use Rattle.storage_core.specs.Planned as planned
 use Rattle.storage_core.proofs.FramesBrought.{assigns_frames}
-use Rattle.vsm_machine.specs.NameChanges.{define, reword, step_to}
-use Rattle.vsm_machine.specs.StepsBack.{step_to_can, step_to_rows}
+use Rattle.vsm_machine.specs.StepsBack.{step_to_gives, step_to_rows}
 use Rattle.vsm_machine.specs.SameName.{same_name-self}
 use Rattle.vsm_machine.specs.declared.plans.Planned.{Planned}
 use Rattle.vsm_machine.specs.declared.refusals.Refusal.{Refusal}
 use Rattle.vsm_machine.specs.declared.refusals.Refusal.TheVariants.{Abend}
-use Rattle.vsm_machine.specs.NameSteps.{stepped_by, CanStepBy, undefines_none}
+use Rattle.vsm_machine.specs.NameSteps.{stepped_by, GivesBy}
 use Rattle.vsm_machine.specs.Changes.{MachineState, named_of}
 use Rattle.vsm_machine.specs.Machine.{Why, abended, or_abend, served, service_asked, name_asked, family_asked, statement_step}
 use Rattle.vsm_machine.specs.Planned.{step_for, step_planned, weight_served, IsAcceptedBy, CanCarryOut}
@@ -54,40 +53,19 @@ names_stepped names (Some name) (Attached task) = refl
 names_stepped names (Some name) (Turn task) = refl
 names_stepped names (Some name) Stored = refl
 
-can_step : (names : List (List ℕ × ℕ)) (name : Option (List ℕ)) (reply : Reply) → CanStepBy names (λ name. true) (step_for names name reply)
-can_step names None (Obtained address length) = tt
-can_step names None (Cell address) = tt
-can_step names None (Returned code) = tt
-can_step names None (Attached task) = tt
-can_step names None (Turn task) = tt
-can_step names None Stored = tt
-can_step names (Some name) (Obtained address length) = step_to_can names (λ name. true) name address refl
-can_step names (Some name) (Cell address) = step_to_can names (λ name. true) name address refl
-can_step names (Some name) (Returned code) = tt
-can_step names (Some name) (Attached task) = tt
-can_step names (Some name) (Turn task) = tt
-can_step names (Some name) Stored = tt
-
-to_undefines_none : (names : List (List ℕ × ℕ)) (name : List ℕ) (word : ℕ) → undefines_none (Some (step_to names name word)) ≡ true
-to_undefines_none names name word =
-    elim (is_some (word_of names name)) as (λ b. undefines_none (Some (if b then reword name word else define name word)) ≡ true) [
-      | true ↦ refl
-      | false ↦ refl
-    ]
-
-gives : (names : List (List ℕ × ℕ)) (name : Option (List ℕ)) (reply : Reply) → undefines_none (step_for names name reply) ≡ true
-gives names None (Obtained address length) = refl
-gives names None (Cell address) = refl
-gives names None (Returned code) = refl
-gives names None (Attached task) = refl
-gives names None (Turn task) = refl
-gives names None Stored = refl
-gives names (Some name) (Obtained address length) = to_undefines_none names name address
-gives names (Some name) (Cell address) = to_undefines_none names name address
-gives names (Some name) (Returned code) = refl
-gives names (Some name) (Attached task) = refl
-gives names (Some name) (Turn task) = refl
-gives names (Some name) Stored = refl
+gives : (names : List (List ℕ × ℕ)) (name : Option (List ℕ)) (reply : Reply) → GivesBy names (step_for names name reply)
+gives names None (Obtained address length) = tt
+gives names None (Cell address) = tt
+gives names None (Returned code) = tt
+gives names None (Attached task) = tt
+gives names None (Turn task) = tt
+gives names None Stored = tt
+gives names (Some name) (Obtained address length) = step_to_gives names name address
+gives names (Some name) (Cell address) = step_to_gives names name address
+gives names (Some name) (Returned code) = tt
+gives names (Some name) (Attached task) = tt
+gives names (Some name) (Turn task) = tt
+gives names (Some name) Stored = tt
 
 -- a service that is accepted stays accepted with its name and in its form
 formed_accepted : (family : Family) (service : Service) (names : List (List ℕ × ℕ)) (name : Option (List ℕ)) (o : Outcome State Reply Cause) → outcome.IsAccepted o →
@@ -109,8 +87,6 @@ module _ (m : MachineState) (x : Act) (service : Service) (is : Some service ≡
             ∙ ap (λ o. or_abend (with_code (family_asked x) service (named m.names (name_asked x) o))) carried.accepted
             ∙ (λ i. Accepted (record { storage = model_of (storage.overlay m.storage (change_for m.storage id p.plan)); names = names i }) reply);
         fits = record { fits = carried.fits; before = sound; after = ∣ carried.sound ∣₁; frames = assigns_frames m.storage id p.plan assigns };
-        can = subst (CanStepBy m.names (λ name. true)) (sym named_by) (can_step m.names (name_asked x) reply);
-        gives = ap undefines_none named_by ∙ gives m.names (name_asked x) reply;
       }
 
   pub carried_by : (p : Planned) → planned.CanCarryOut m.settings (is_one_too_many m.names (name_asked x)) m.storage service p.plan →
@@ -121,6 +97,7 @@ module _ (m : MachineState) (x : Act) (service : Service) (is : Some service ≡
         (formed_accepted (family_asked x) service m.names (name_asked x) (step m.settings (is_one_too_many m.names (name_asked x)) (model_of m.storage) service) carried.accepts);
     accepted = λ id free. ∥∥₁_map (carried.accepted id free) (λ a. accepted_by p id a sound (carried.assigned id) named_by);
     can = carried.can;
+    gives = subst (GivesBy m.names) (sym named_by) (gives m.names (name_asked x) (reply_of p.plan));
     light = subst (λ o. elements_needed m.storage p.plan ≤ 32 + 8 * weight_served m.storage o) is carried.light;
     assigned = carried.assigned;
     only = carried.only;

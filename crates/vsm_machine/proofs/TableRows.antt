@@ -1,11 +1,12 @@
 -- The first rows of a table, its front: what they say of a name, and how they change with the table.
-use Rattle.std.proofs.Common.{◌≡◌, ℕ, zero, suc, ◌+◌, ◌-◌, ◌<◌, ◌≤◌, Bool, true, false, not, ◌&&◌, ◌||◌, if◌then◌else◌, Some, None, is_some, List, [], ◌∷◌, ◌++◌, length, take, get_or, refl, sym, ap, ◌∙◌, arith, inl, inr, true≢false}
-use Rattle.std.proofs.lemmas.Bool.{cases_Bool, cond-true, cond-false}
-use Rattle.std.proofs.lemmas.List.{take_at, length-take-le, length_push}
-use Rattle.vsm_model.specs.Names.{same_name, word_of, with_name}
-use Rattle.vsm_machine.specs.NameChanges.{without_name, IsLast}
+use Rattle.std.proofs.Common.{◌≡◌, ℕ, zero, suc, ◌<◌, ◌≤◌, Bool, true, false, not, ◌&&◌, ◌||◌, if◌then◌else◌, Some, None, is_some, IsSome, List, [], ◌∷◌, ◌++◌, length, map, take, get_or, refl, sym, ap, ◌∙◌, arith}
+use Rattle.std.specs.Option.{option_map}
+use Rattle.std.proofs.lemmas.Bool.{cond-true, cond-false}
+use Rattle.std.proofs.lemmas.List.{length-take-le}
+use Rattle.vsm_model.specs.Names.{same_name, word_of}
+use Rattle.vsm_machine.specs.NameTable.{place_in, row_at, with_word_at}
 use Rattle.vsm_machine.specs.SameName.{same_name-self, same_name-is}
-use Rattle.vsm_machine.specs.StepsBack.{first_is_other, with_name-new, word_of-last, without_name-last}
+use Rattle.vsm_machine.specs.StepsBack.{first_is_other}
 
 abbrev Rows : Type 0
 Rows = List (List ℕ × ℕ)
@@ -16,21 +17,6 @@ take-front zero n xs a = refl
 take-front (suc m) zero xs a = absurd (omega arith)
 take-front (suc m) (suc n) [] a = refl
 take-front (suc m) (suc n) (x ∷ xs) a = ap (λ l. x ∷ l) (take-front m n xs (omega arith))
-
--- a name of the front has the same word in all rows
-pub word_of-front : (rows : Rows) (n : ℕ) (name : List ℕ) → is_some (word_of (take n rows) name) ≡ true → word_of (take n rows) name ≡ word_of rows name
-word_of-front rows zero name some = absurd (true≢false (sym some))
-word_of-front [] (suc n) name some = refl
-word_of-front (row ∷ rows) (suc n) name some =
-    elim (cases_Bool (same_name row.0 name)) [
-      | inl same ↦ cond-true (same_name row.0 name) (Some row.1) (word_of (take n rows) name) same ∙ sym (cond-true (same_name row.0 name) (Some row.1) (word_of rows name) same)
-      | inr other ↦
-          let rest : is_some (word_of (take n rows) name) ≡ true = (λ i. is_some (if (sym other) i then Some row.1 else word_of (take n rows) name)) ∙ some in
-          ap (λ o. if same_name row.0 name then Some row.1 else o) (word_of-front rows n name rest)
-    ]
-
-pub known-front : (rows : Rows) (n : ℕ) (name : List ℕ) → is_some (word_of (take n rows) name) ≡ true → is_some (word_of rows name) ≡ true
-known-front rows n name some = ap is_some (sym (word_of-front rows n name some)) ∙ some
 
 -- a name that the rows lack, the front lacks
 pub word_of-none : (rows : Rows) (n : ℕ) (name : List ℕ) → word_of rows name ≡ None → word_of (take n rows) name ≡ None
@@ -73,6 +59,10 @@ knows-more (row ∷ rows) name other word =
       | false ↦ knows-more rows name other word
     ]
 
+-- the last name stands for a word
+pub last-stands : (rows : Rows) (name : List ℕ) (word : ℕ) → IsSome (word_of (rows ++ (name, word) ∷ []) name)
+last-stands rows name word = knows-more rows name name word ∙ ap (λ b. b || is_some (word_of rows name)) (same_name-self name)
+
 -- a name that is already in the rows is no other name
 pub knows-again : (rows : Rows) (name other : List ℕ) → is_some (word_of rows name) ≡ true →
     is_some (word_of rows other) ≡ (same_name name other || is_some (word_of rows other))
@@ -82,56 +72,44 @@ knows-again rows name other known =
       | false ↦ λ _. refl
     ] refl
 
--- another word for a name: the same names
-pub knows-with_name : (rows : Rows) (name other : List ℕ) (word : ℕ) → is_some (word_of rows name) ≡ true →
-    is_some (word_of (with_name rows name word) other) ≡ is_some (word_of rows other)
-knows-with_name [] name other word known = absurd (true≢false (sym known))
-knows-with_name (row ∷ rows) name other word known =
-    elim (same_name row.0 name) as (λ b. is_some (if b then Some row.1 else word_of rows name) ≡ true →
-    is_some (word_of (if b then (row.0, word) ∷ rows else row ∷ with_name rows name word) other) ≡ is_some (word_of (row ∷ rows) other)) [
-      | true ↦ λ _. elim (same_name row.0 other) as (λ c. is_some (if c then Some word else word_of rows other) ≡ is_some (if c then Some row.1 else word_of rows other)) [ true ↦ refl | false ↦ refl ]
-      | false ↦ λ rest. elim (same_name row.0 other) as (λ c. is_some (if c then Some row.1 else word_of (with_name rows name word) other) ≡ is_some (if c then Some row.1 else word_of rows other)) [
-        | true ↦ refl
-        | false ↦ knows-with_name rows name other word rest
-      ]
-    ] known
+-- another word at a place of the front,
+pub take-with_word : (n : ℕ) (rows : Rows) (place word : ℕ) → take n (with_word_at rows place word) ≡ with_word_at (take n rows) place word
+take-with_word zero rows place word = refl
+take-with_word (suc n) [] place word = refl
+take-with_word (suc n) (row ∷ rows) zero word = refl
+take-with_word (suc n) (row ∷ rows) (suc place) word = ap (λ l. row ∷ l) (take-with_word n rows place word)
 
--- another word for a name of the front
-pub take-with_name : (rows : Rows) (n : ℕ) (name : List ℕ) (word : ℕ) → is_some (word_of (take n rows) name) ≡ true →
-    take n (with_name rows name word) ≡ with_name (take n rows) name word
-take-with_name rows zero name word known = absurd (true≢false (sym known))
-take-with_name [] (suc n) name word known = absurd (true≢false (sym known))
-take-with_name (row ∷ rows) (suc n) name word known =
-    elim (same_name row.0 name) as (λ b. is_some (if b then Some row.1 else word_of (take n rows) name) ≡ true →
-    take (suc n) (if b then (row.0, word) ∷ rows else row ∷ with_name rows name word) ≡ (if b then (row.0, word) ∷ take n rows else row ∷ with_name (take n rows) name word)) [
-      | true ↦ λ _. refl
-      | false ↦ λ rest. ap (λ l. row ∷ l) (take-with_name rows n name word rest)
-    ] known
+-- or after all rows,
+with_word-behind : (rows : Rows) (place word : ℕ) → length rows ≤ place → with_word_at rows place word ≡ rows
+with_word-behind [] place word h = refl
+with_word-behind (row ∷ rows) zero word h = absurd (omega (arith, h))
+with_word-behind (row ∷ rows) (suc place) word h = ap (λ l. row ∷ l) (with_word-behind rows place word (omega (arith, h)))
 
--- the last row gets its word
-with_name-last : (rows : Rows) (name : List ℕ) (old word : ℕ) → word_of rows name ≡ None → with_name (rows ++ (name, old) ∷ []) name word ≡ rows ++ (name, word) ∷ []
-with_name-last [] name old word none = cond-true (same_name name name) ((name, word) ∷ []) ((name, old) ∷ with_name [] name word) (same_name-self name)
-with_name-last (row ∷ rows) name old word none =
-    let parts = first_is_other (same_name row.0 name) row.1 (word_of rows name) none in
-    cond-false (same_name row.0 name) ((row.0, word) ∷ (rows ++ (name, old) ∷ [])) (row ∷ with_name (rows ++ (name, old) ∷ []) name word) parts.0
-    ∙ ap (λ l. row ∷ l) (with_name-last rows name old word parts.1)
+-- or next to the front, leaves the front,
+pub front-with_word : (n : ℕ) (rows : Rows) (word : ℕ) → n ≤ length rows → take n (with_word_at rows n word) ≡ take n rows
+front-with_word n rows word a = take-with_word n rows n word ∙ with_word-behind (take n rows) n word (omega (arith, length-take-le n rows a))
 
--- A name is defined: its row is next, and gets its word.
-pub rows-defined : (all later : Rows) (n : ℕ) (name : List ℕ) (old word : ℕ) → word_of (take n all) name ≡ None → take (n + 1) all ≡ take n all ++ (name, old) ∷ [] →
-    later ≡ with_name all name word → take (n + 1) later ≡ with_name (take n all) name word
-rows-defined all later n name old word none next is =
-    let known : is_some (word_of (take (n + 1) all) name) ≡ true = ap (λ l. is_some (word_of l name)) next ∙ ap is_some (word_of-last (take n all) name old none) in
-    ap (take (n + 1)) is ∙ take-with_name all (n + 1) name word known ∙ ap (λ l. with_name l name word) next
-    ∙ with_name-last (take n all) name old word none ∙ sym (with_name-new (take n all) name word none)
+-- and the names.
+pub names-with_word : (rows : Rows) (place word : ℕ) → map (λ row. row.0) (with_word_at rows place word) ≡ map (λ row. row.0) rows
+names-with_word [] place word = refl
+names-with_word (row ∷ rows) zero word = refl
+names-with_word (row ∷ rows) (suc place) word = ap (λ l. row.0 ∷ l) (names-with_word rows place word)
 
--- The last name is undefined: the rows before it are left.
-pub rows-undefined : (all : Rows) (n : ℕ) (name : List ℕ) → n ≤ length all → IsLast (take n all) name → take (n - 1) all ≡ without_name (take n all) name
-rows-undefined all n name a last =
-    let front : length (take n all) ≡ n = length-take-le n all a in
-    let long : length (take n all) ≡ length last.0 + 1 = ap length last.2 ∙ length_push last.0 (name, last.1) in
-    let end : length last.0 ≡ n - 1 = omega arith in
-    sym (take-front (n - 1) n all (omega arith)) ∙ ap (take (n - 1)) last.2 ∙ take_at last.0 ((name, last.1) ∷ []) (n - 1) end
-    ∙ sym (ap (λ l. without_name l name) last.2 ∙ without_name-last last.0 name last.1 last.3)
+-- the next row gets its word, and is one of the front
+pub rows-defined : (all : Rows) (n word : ℕ) → n < length all → take (suc n) (with_word_at all n word) ≡ take n all ++ ((row_at all n).0, word) ∷ []
+rows-defined [] n word h = absurd (omega (arith, h))
+rows-defined (row ∷ rows) zero word h = refl
+rows-defined (row ∷ rows) (suc n) word h = ap (λ l. row ∷ l) (rows-defined rows n word (omega (arith, h)))
+
+-- the place of a name that a row of the front has, and none before it
+pub placed : (rows : Rows) (n i : ℕ) (name : List ℕ) (d : List ℕ × ℕ) → i < n → i < length rows → same_name (get_or rows i d).0 name ≡ true →
+    ((k : ℕ) → k < i → same_name (get_or rows k d).0 name ≡ false) → place_in (take n rows) name ≡ Some i
+placed rows zero i name d a b is first = absurd (omega arith)
+placed [] (suc n) i name d a b is first = absurd (omega arith)
+placed (row ∷ rows) (suc n) zero name d a b is first = cond-true (same_name row.0 name) (Some 0) (option_map suc (place_in (take n rows) name)) is
+placed (row ∷ rows) (suc n) (suc i) name d a b is first =
+    cond-false (same_name row.0 name) (Some 0) (option_map suc (place_in (take n rows) name)) (first 0 (omega arith))
+    ∙ ap (option_map suc) (placed rows n i name d (omega arith) (omega arith) is (λ k c. first (suc k) (omega arith)))
 
 pub or-false : (b : Bool) → b ≡ (b || false)
 or-false true = refl

@@ -1,11 +1,10 @@
 -- The changes of a machine: a change of its storage, and at most one name with its other word. A swap exchanges them
 -- with those of the machine.
-use Rattle.std.specs.Prelude.{◌≡◌, ℕ, Bool, true, ◌&&◌, Option, List, [], ◌∷◌, ◌++◌, map, refl}
+use Rattle.std.specs.Prelude.{◌≡◌, ℕ, Bool, true, Option, List, [], ◌∷◌, ◌++◌, map, slice_index_or, refl}
 use Rattle.std.specs.Option.{option_map}
 use Rattle.std.specs.List.{AllByRecursion}
 use Rattle.std.proofs.Common.{sym, subst, ap}
 use Rattle.std.proofs.Props.{props}
-use Rattle.std.proofs.lemmas.Bool.{and_parts, and_from}
 use Rattle.std.proofs.lemmas.List.{map-append}
 use Rattle.vsm_model.specs.declared.limits.Settings.{Settings}
 use Rattle.vsm_model.specs.Names.{NamedState}
@@ -27,15 +26,15 @@ use Rattle.storage_core.proofs.GivenFrames.{frames_back}
 use Rattle.step_history.specs.Laws.{ReversibleLaws}
 use Rattle.step_history.specs.Single.{SingleSteps, steps_fit, steps_states, steps_laws}
 use Rattle.step_history.specs.Chain.{FitsBefore, FitsAfter, start}
-use Rattle.vsm_machine.specs.NameTable.{rows_of, knows}
-use Rattle.vsm_machine.specs.NameChanges.{NameStep, step_in}
-use Rattle.vsm_machine.specs.NameSteps.{is_ready, stepped_by, turned_by, CanStepBy, can_take_by, defines_none}
-use Rattle.vsm_machine.specs.NameSteps.{undefines_none, name_fits_back, name_leads_back, name_turns_back, can_step}
-use Rattle.vsm_machine.specs.NameSteps.{same_ready}
+use Rattle.vsm_machine.specs.NameTable.{names_of, rows_of}
+use Rattle.vsm_machine.specs.NameChanges.{NameStep, step_in, step_by}
+use Rattle.vsm_machine.specs.NameSteps.{is_ready, is_ready_in, stepped_by, turned_by, CanStepBy, CanStepBy-prop}
+use Rattle.vsm_machine.specs.NameSteps.{FitsTable, defines_none, undefines_none, name_fits_back, name_leads_back}
+use Rattle.vsm_machine.specs.NameSteps.{name_turns_back, step_without, ready_without}
+use Rattle.vsm_machine.specs.declared.names.NameTable.{NameTable}
 use Rattle.vsm_machine.specs.declared.machine.Machine.{Machine}
 use Rattle.vsm_machine.specs.declared.machine.MachineChange.{MachineChange}
 use mathlib.Core.HLevel.{×_prop, Unit-prop}
-use mathlib.Core.Bool.{Bool-set}
 
 -- What a machine means: its settings, the state of its storage in place, and its names with their words.
 pub record MachineState : Type 0 where
@@ -58,12 +57,12 @@ named_of m = record { storage = model_of m.storage; names = m.names }
 abbrev pub plain_of : Machine → NamedState
 plain_of m = named_of (shown m)
 
--- the step of the name that a change has, if it has one
-abbrev pub step_of : MachineChange → Option NameStep
-step_of c = option_map step_in c.name
+-- the step of the name that a change has in this table, if it has one
+abbrev pub step_of : NameTable → MachineChange → Option NameStep
+step_of t c = option_map (step_in t) c.name
 
 -- What a change means: the change of the storage, and the step of a name. A name that it defines must already be in the
--- machine's table.
+-- machine's table, at the place that the change says.
 pub record Difference : Type 0 where
   pub storage : StorageChange
   pub step : Option NameStep
@@ -72,8 +71,8 @@ pub record Difference : Type 0 where
 abbrev pub means : Machine → MachineChange → Difference
 means m c = record {
   storage = swap.means m.storage.parts.elements c.storage;
-  step = step_of c;
-  known = is_ready m.names (step_of c);
+  step = step_of m.names c;
+  known = is_ready m.names c.name;
 }
 
 -- A change of the storage fits, leads from a sound state to a sound one, and has frames only for pages that it leaves
@@ -86,7 +85,7 @@ pub record StorageFits (settings : Settings) (m : StorageState) (d : StorageChan
 
 -- A difference fits a state if its two parts do; it leads to another state, from which its inverse leads back.
 abbrev pub fit : MachineState → Difference → Type 0
-fit m d = StorageFits m.settings m.storage d.storage × ((can_take_by m.names d.known d.step && d.known) ≡ true)
+fit m d = StorageFits m.settings m.storage d.storage × CanStepBy m.names d.step × (d.known ≡ true)
 
 abbrev pub overlay : MachineState → Difference → MachineState
 overlay m d = record {
@@ -118,17 +117,17 @@ pub record CanSwap (m : Machine) (c : MachineChange) : Type 0 where
   pub ready : swap.Ready m.storage.parts c.storage
   pub fits : StorageFits (settings_of m.storage) (state_in_place m.storage)
       (swap.means m.storage.parts.elements c.storage)
-  pub can : CanStepBy (rows_of m.names) (knows m.names) (step_of c)
+  pub can : FitsTable m.names c.name
 
 -- The change of the storage is exchanged with it, and the step of the name is taken and turned; the table holds the
--- same names.
+-- same names at the same places.
 pub record Swaps (m : Machine) (c : MachineChange) (n : Machine) (d : MachineChange) : Type 0 where
   pub storage : swap.Swaps m.storage.parts c.storage n.storage.parts d.storage
   pub settings : settings_of n.storage ≡ settings_of m.storage
-  pub names : rows_of n.names ≡ stepped_by (rows_of m.names) (step_of c)
-  pub inverse_step : step_of d ≡ turned_by (rows_of m.names) (step_of c)
-  pub same : (name : List ℕ) → knows n.names name ≡ knows m.names name
-  pub ready : is_ready n.names (step_of d) ≡ true
+  pub names : rows_of n.names ≡ stepped_by (rows_of m.names) (step_of m.names c)
+  pub inverse_step : step_of n.names d ≡ turned_by (rows_of m.names) (step_of m.names c)
+  pub same : names_of n.names ≡ names_of m.names
+  pub ready : is_ready n.names d.name ≡ true
 
 -- no element and no frame was made, and the same numbers are spare
 abbrev pub HasSameMemory : Machine → Machine → Type 0
@@ -148,15 +147,10 @@ machine_states = steps_states fit overlay shown means Apart
 
 -- A kept change defines no name, since it takes a statement back; and an undone one makes no name undefined.
 abbrev pub DefineNone : List MachineChange → Type 0
-DefineNone cs = AllByRecursion (λ c. defines_none (step_of c) ≡ true) cs
+DefineNone cs = AllByRecursion (λ c. defines_none c.name ≡ true) cs
 
 abbrev pub UndefineNone : List MachineChange → Type 0
-UndefineNone cs = AllByRecursion (λ c. undefines_none (step_of c) ≡ true) cs
-
--- the two facts of the names of a difference that fits
-names_fit : (m : MachineState) (d : Difference) → fit m d
-    → (can_take_by m.names d.known d.step ≡ true) × (d.known ≡ true)
-names_fit m d f = and_parts (can_take_by m.names d.known d.step) d.known f.1
+UndefineNone cs = AllByRecursion (λ c. undefines_none c.name ≡ true) cs
 
 fits_back : (m : MachineState) (d : Difference) → fit m d → fit (overlay m d) (inverse m d)
 fits_back m d f =
@@ -167,27 +161,41 @@ fits_back m d f =
         after = subst (λ (s : StorageState). ∥ IsSound m.settings s ∥₁) (sym back.1) f.0.before;
         frames = frames_back m.storage d.storage f.0.fits f.0.frames;
       },
-      and_from (can_take_by (stepped_by m.names d.step) true (turned_by m.names d.step)) true
-          (name_fits_back m.names d.known d.step (names_fit m d f).0) refl,
+      name_fits_back m.names d.step f.1,
+      refl,
     )
 
 leads_back : (m : MachineState) (d : Difference) → fit m d → overlay (overlay m d) (inverse m d) ≡ m
 leads_back m d f =
     let back = changes_lead_back m.storage d.storage f.0.fits in
-    let named = name_leads_back m.names d.known d.step (names_fit m d f).0 in
+    let named = name_leads_back m.names d.step f.1 in
     λ i. record { settings = m.settings; storage = back.1 i; names = named i }
 
 turns_back : (m : MachineState) (d : Difference) → fit m d → inverse (overlay m d) (inverse m d) ≡ d
 turns_back m d f =
     let back = changes_lead_back m.storage d.storage f.0.fits in
-    let named = name_turns_back m.names d.known d.step (names_fit m d f).0 in
-    λ i. record { storage = back.2 i; step = named i; known = sym (names_fit m d f).1 i }
+    let named = name_turns_back m.names d.step f.1 in
+    λ i. record { storage = back.2 i; step = named i; known = sym f.2 i }
 
--- a change means the same if its change of the storage does and the table is equally ready for it
+-- a change means the same if its change of the storage does, and the table has the same names at the same places,
 pub same_meaning : (m n : Machine) (c : MachineChange)
     → swap.means n.storage.parts.elements c.storage ≡ swap.means m.storage.parts.elements c.storage
-    → is_ready n.names (step_of c) ≡ is_ready m.names (step_of c) → means n c ≡ means m c
-same_meaning m n c e f = λ i. record { storage = e i; step = step_of c; known = f i }
+    → names_of n.names ≡ names_of m.names → means n c ≡ means m c
+same_meaning m n c e f = λ i. record {
+  storage = e i;
+  step = option_map (step_by (λ place. slice_index_or (f i) place [])) c.name;
+  known = is_ready_in (f i) c.name;
+}
+
+-- or if it defines no name
+pub same_without_names : (m n : Machine) (c : MachineChange)
+    → swap.means n.storage.parts.elements c.storage ≡ swap.means m.storage.parts.elements c.storage
+    → defines_none c.name ≡ true → means n c ≡ means m c
+same_without_names m n c e none = λ i. record {
+  storage = e i;
+  step = step_without m.names n.names c.name none i;
+  known = ready_without m.names n.names c.name none i;
+}
 
 -- the changes of the storage of a list with one in its middle
 pub storages_at : (xs ys : List MachineChange) (c : MachineChange)
@@ -203,7 +211,7 @@ machine_steps = record {
   can = λ m c f h. record {
     ready = (storage_steps.can m.storage.parts c.storage f.0.fits h).ready;
     fits = f.0;
-    can = can_step m.names (step_of c) (names_fit (shown m) (means m c) f).0;
+    can = (f.1, f.2);
   };
   swap_shows = λ m n c d w. (λ i. record {
     settings = w.settings i;
@@ -214,7 +222,7 @@ machine_steps = record {
   swap_others = λ m n c d x h w.
       same_meaning m n x
       (storage_steps.swap_others m.storage.parts n.storage.parts c.storage d.storage x.storage h w.storage)
-      (same_ready m.names n.names w.same (step_of x));
+      w.same;
   swap_apart = λ m n c d xs h w.
       storage_steps.swap_apart m.storage.parts n.storage.parts c.storage d.storage (storages xs) h w.storage;
   swap_whole = λ xs ys c d m n h w.
@@ -228,7 +236,7 @@ machine_steps = record {
   });
   discard_others = λ m n c x h w.
       same_meaning m n x (storage_steps.discard_others m.storage.parts n.storage.parts c.storage x.storage h w.storage)
-      (ap (λ t. is_ready t (step_of x)) w.names);
+      (ap names_of w.names);
   discard_apart = λ m n c xs h w.
       storage_steps.discard_apart m.storage.parts n.storage.parts c.storage (storages xs) h w.storage;
   discard_whole = λ xs ys c m n h w.
@@ -253,7 +261,7 @@ StorageFits-prop : (settings : Settings) (m : StorageState) (d : StorageChange) 
 StorageFits-prop settings m d = hlevel (Fit-prop m d, props)
 
 fit-prop : (m : MachineState) (d : Difference) → IsProp (fit m d)
-fit-prop m d = ×_prop (StorageFits-prop m.settings m.storage d.storage) (Bool-set _ _)
+fit-prop m d = hlevel (StorageFits-prop m.settings m.storage d.storage, CanStepBy-prop m.names d.step, props)
 
 fits_before_prop : (ds : List Difference) (m : MachineState) → IsProp (FitsBefore fit overlay ds m)
 fits_before_prop [] m = Unit-prop

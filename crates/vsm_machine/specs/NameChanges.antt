@@ -1,64 +1,58 @@
 -- How the names with their words change, one step at a time, and how each step is taken back.
-use Rattle.std.specs.Prelude.{◌≡◌, ℕ, Bool, true, not, if◌then◌else◌, Option, Some, None, is_some, List, [], ◌∷◌, ◌++◌}
-use Rattle.std.specs.Prelude.{filter}
-use Rattle.vsm_model.specs.Names.{same_name, word_of, with_name}
+use Rattle.std.specs.Prelude.{◌≡◌, ℕ, ◌-◌, ◌<◌, None, List, [], ◌∷◌, ◌++◌, slice_index_or, length, take}
+use Rattle.std.specs.Option.{option_map_or}
+use Rattle.vsm_model.specs.Names.{word_of}
+use Rattle.vsm_machine.specs.NameTable.{names_of, place_in, row_at, with_word_at, word_at}
+use Rattle.vsm_machine.specs.declared.names.NameTable.{NameTable}
 use Rattle.vsm_machine.specs.declared.name_changes.NameChange.{NameChange}
 use Rattle.vsm_machine.specs.declared.name_changes.NameChange.TheVariants.{Define, Undefine, Reword}
 
--- one step of the names
+-- one step of the names, by their places
 pub data NameStep : Type 0 where
-  -- the name is defined, with this word, after the others
-  define : List ℕ → ℕ → NameStep
-  -- the name, which is the last, is no longer defined
-  undefine : List ℕ → NameStep
-  -- the name, which is defined, stands for this word
-  reword : List ℕ → ℕ → NameStep
+  -- the name is defined at this place, after the others, with this word
+  define : ℕ → List ℕ → ℕ → NameStep
+  -- the last name is no longer defined
+  undefine : NameStep
+  -- the name at this place, which is defined, stands for this word
+  reword : ℕ → ℕ → NameStep
 
--- what a change of the code says
-abbrev pub step_in : NameChange → NameStep
-step_in (Define name word) = define name.bytes word
-step_in (Undefine name) = undefine name.bytes
-step_in (Reword name word) = reword name.bytes word
+-- what a change of the code says, if these names are at the places
+abbrev pub step_by : (ℕ → List ℕ) → NameChange → NameStep
+step_by names (Define place word) = define place (names place) word
+step_by names Undefine = undefine
+step_by names (Reword place word) = reword place word
 
--- the name that a step is about
-abbrev pub name_of : NameStep → List ℕ
-name_of (define name word) = name
-name_of (undefine name) = name
-name_of (reword name word) = name
-
--- all rows except those of the name
-abbrev pub without_name : List (List ℕ × ℕ) → List ℕ → List (List ℕ × ℕ)
-without_name names name = filter (λ row. not (same_name row.0 name)) names
-
--- the word, or 0 if there is none
-abbrev pub word_or_zero : Option ℕ → ℕ
-word_or_zero (Some word) = word
-word_or_zero None = 0
+-- what it says in a table
+abbrev pub step_in : NameTable → NameChange → NameStep
+step_in t change = step_by (λ place. slice_index_or (names_of t) place []) change
 
 -- the names after a step
 abbrev pub stepped : List (List ℕ × ℕ) → NameStep → List (List ℕ × ℕ)
-stepped names (define name word) = with_name names name word
-stepped names (undefine name) = without_name names name
-stepped names (reword name word) = with_name names name word
+stepped names (define place name word) = names ++ (name, word) ∷ []
+stepped names undefine = take (length names - 1) names
+stepped names (reword place word) = with_word_at names place word
 
 -- the step that takes back a step that was taken from these names
 abbrev pub turned : List (List ℕ × ℕ) → NameStep → NameStep
-turned names (define name word) = undefine name
-turned names (undefine name) = define name (word_or_zero (word_of names name))
-turned names (reword name word) = reword name (word_or_zero (word_of names name))
+turned names (define place name word) = undefine
+turned names undefine =
+    define (length names - 1) (row_at names (length names - 1)).0 (word_at names (length names - 1))
+turned names (reword place word) = reword place (word_at names place)
 
--- the name is the last of the names, and occurs only there
-abbrev pub IsLast : List (List ℕ × ℕ) → List ℕ → Type 0
-IsLast names name =
-    (front : List (List ℕ × ℕ)) × (word : ℕ) × (names ≡ front ++ (name, word) ∷ []) × (word_of front name ≡ None)
+-- A step can be taken from these names: a name is defined at the first place after them, there is a last one to be
+-- undefined, and a name with a new word is one of them.
+abbrev pub CanStep : List (List ℕ × ℕ) → NameStep → Type 0
+CanStep names (define place name word) = place ≡ length names
+CanStep names undefine = 0 < length names
+CanStep names (reword place word) = place < length names
 
--- A step can be taken from these names, if the table holds those that are known: a name that is defined wasn't before,
--- and is known; a name that is undefined is the last; and a name with a new word is defined.
-abbrev pub CanStep : List (List ℕ × ℕ) → (List ℕ → Bool) → NameStep → Type 0
-CanStep names known (define name word) = (word_of names name ≡ None) × (known name ≡ true)
-CanStep names known (undefine name) = IsLast names name
-CanStep names known (reword name word) = is_some (word_of names name) ≡ true
+-- A step gives a name a word: one that isn't defined, after the others, or one of these.
+abbrev pub Gives : List (List ℕ × ℕ) → NameStep → Type 0
+Gives names (define place name word) = (place ≡ length names) × (word_of names name ≡ None)
+Gives names undefine = ⊥
+Gives names (reword place word) = place < length names
 
 -- the step after which the name stands for the word
 abbrev pub step_to : List (List ℕ × ℕ) → List ℕ → ℕ → NameStep
-step_to names name word = if is_some (word_of names name) then reword name word else define name word
+step_to names name word =
+    option_map_or (λ place. reword place word) (place_in names name) (define (length names) name word)

@@ -1,19 +1,24 @@
 -- The step of a name that a change of a machine has, if it has one.
-use Rattle.std.specs.Prelude.{◌≡◌, ℕ, Bool, true, false, not, ◌&&◌, ◌==◌, if◌then◌else◌, Option, Some, None, is_some}
-use Rattle.std.specs.Prelude.{List, [], ◌∷◌, ◌++◌, length, refl}
-use Rattle.std.proofs.Common.{sym, ap, ◌∙◌, inl, inr, arith, true≢false}
-use Rattle.std.proofs.lemmas.Bool.{and_parts, and_from, eqb-true, cases_Bool, cond-true, cond-false}
-use Rattle.vsm_model.specs.Names.{same_name, word_of}
+use Rattle.std.specs.Prelude.{◌≡◌, ℕ, Bool, true, false, nat_lt, Option, Some, None, List, length, refl}
+use Rattle.std.specs.Option.{option_map}
+use Rattle.std.proofs.Common.{ap, sym, true≢false}
+use Rattle.std.proofs.Props.{props}
+use mathlib.Core.HLevel.{Unit-prop}
 use Rattle.vsm_machine.specs.declared.names.NameTable.{NameTable}
-use Rattle.vsm_machine.specs.NameTable.{rows_of, knows}
-use Rattle.vsm_machine.specs.NameChanges.{NameStep, define, undefine, reword, stepped, turned, IsLast, CanStep}
-use Rattle.vsm_machine.specs.SameName.{same_name-self, same_name-is}
-use Rattle.vsm_machine.specs.StepsBack.{first_is_other, step_back_fits, step_leads_back, step_turns_back}
+use Rattle.vsm_machine.specs.declared.name_changes.NameChange.{NameChange}
+use Rattle.vsm_machine.specs.declared.name_changes.NameChange.TheVariants.{Define, Undefine, Reword}
+use Rattle.vsm_machine.specs.NameTable.{names_of, rows_of}
+use Rattle.vsm_machine.specs.NameChanges.{NameStep, define, undefine, reword, step_in, stepped, turned, CanStep, Gives}
+use Rattle.vsm_machine.specs.StepsBack.{step_back_fits, step_leads_back, step_turns_back}
 
--- the table holds the name that is to be defined, if one is
-abbrev pub is_ready : NameTable → Option NameStep → Bool
-is_ready t (Some (define name word)) = knows t name
-is_ready t _ = true
+-- these names have the one that is to be defined, if one is
+abbrev pub is_ready_in : List (List ℕ) → Option NameChange → Bool
+is_ready_in names (Some (Define place word)) = nat_lt place (length names)
+is_ready_in names _ = true
+
+-- the table holds it
+abbrev pub is_ready : NameTable → Option NameChange → Bool
+is_ready t change = is_ready_in (names_of t) change
 
 -- the names once the step is taken, if there is one,
 abbrev pub stepped_by : List (List ℕ × ℕ) → Option NameStep → List (List ℕ × ℕ)
@@ -26,124 +31,114 @@ turned_by names None = None
 turned_by names (Some step) = Some (turned names step)
 
 -- the step can be taken, if there is one
-abbrev pub CanStepBy : List (List ℕ × ℕ) → (List ℕ → Bool) → Option NameStep → Type 0
-CanStepBy names known None = Unit {0}
-CanStepBy names known (Some step) = CanStep names known step
+abbrev pub CanStepBy : List (List ℕ × ℕ) → Option NameStep → Type 0
+CanStepBy names None = Unit {0}
+CanStepBy names (Some step) = CanStep names step
 
--- the name is the last of the names, and occurs only there
-abbrev pub is_last : List (List ℕ × ℕ) → List ℕ → Bool
-is_last [] name = false
-is_last (row ∷ rows) name = if same_name row.0 name then length rows == 0 else is_last rows name
+-- it gives a name a word
+abbrev pub GivesBy : List (List ℕ × ℕ) → Option NameStep → Type 0
+GivesBy names None = Unit {0}
+GivesBy names (Some step) = Gives names step
 
--- the step can be taken from these names, given whether a name that it defines is known
-abbrev pub can_take : List (List ℕ × ℕ) → Bool → NameStep → Bool
-can_take names known (define name word) = not (is_some (word_of names name)) && known
-can_take names known (undefine name) = is_last names name
-can_take names known (reword name word) = is_some (word_of names name)
-
-abbrev pub can_take_by : List (List ℕ × ℕ) → Bool → Option NameStep → Bool
-can_take_by names known None = true
-can_take_by names known (Some step) = can_take names known step
+-- A change fits a table: the name that it defines is in the table, at the first place after the defined ones; the one
+-- that it leaves undone is the last of these; the one that it rewords is one of these. So the undone names are in the
+-- order in which the changes that define them come.
+abbrev pub FitsTable : NameTable → Option NameChange → Type 0
+FitsTable t change = CanStepBy (rows_of t) (option_map (step_in t) change) × (is_ready t change ≡ true)
 
 -- A kept change defines no name, since it takes a statement back; and an undone one makes no name undefined.
-abbrev pub defines_none : Option NameStep → Bool
-defines_none (Some (define name word)) = false
+abbrev pub defines_none : Option NameChange → Bool
+defines_none (Some (Define place word)) = false
 defines_none _ = true
 
-abbrev pub undefines_none : Option NameStep → Bool
-undefines_none (Some (undefine name)) = false
+abbrev pub undefines_none : Option NameChange → Bool
+undefines_none (Some Undefine) = false
 undefines_none _ = true
 
-last_is : (rows : List (List ℕ × ℕ)) (name : List ℕ) → is_last rows name ≡ true → IsLast rows name
-last_is [] name e = absurd (true≢false (sym e))
-last_is (row ∷ rows) name e =
-    elim (cases_Bool (same_name row.0 name)) [
-      | inl same ↦
-          let last = sym (cond-true (same_name row.0 name) (length rows == 0) (is_last rows name) same) ∙ e in
-          let none : rows ≡ [] = length-zero rows (eqb-true (length rows) 0 last) in
-          let is = same_name-is row.0 name same in
-          ([], row.1, (λ i. (is i, row.1) ∷ none i), refl)
-      | inr other ↦
-          let last = sym (cond-false (same_name row.0 name) (length rows == 0) (is_last rows name) other) ∙ e in
-          let more = last_is rows name last in
-          let word = cond-false (same_name row.0 name) (Some row.1) (word_of more.0 name) other ∙ more.3 in
-          (row ∷ more.0, more.1, ap (λ l. row ∷ l) more.2, word)
-    ]
-  where
-    length-zero : (xs : List (List ℕ × ℕ)) → length xs ≡ 0 → xs ≡ []
-    length-zero [] l = refl
-    length-zero (x ∷ xs) l = absurd (omega (arith, l))
+some_step : (step : NameStep) → ◌≡◌ {A = Option NameStep} (Some step) None → ⊥
+some_step step e = cc
 
-is_the_last : (rows : List (List ℕ × ℕ)) (name : List ℕ) (word : ℕ) → word_of rows name ≡ None
-    → is_last (rows ++ (name, word) ∷ []) name ≡ true
-is_the_last [] name word none = cond-true (same_name name name) true false (same_name-self name)
-is_the_last (row ∷ rows) name word none =
-    let parts = first_is_other (same_name row.0 name) row.1 (word_of rows name) none in
-    cond-false (same_name row.0 name) (length (rows ++ (name, word) ∷ []) == 0)
-    (is_last (rows ++ (name, word) ∷ []) name) parts.0
-    ∙ is_the_last rows name word parts.1
+undefine_isnt_define : {place word : ℕ} {name : List ℕ} → Some undefine ≡ Some (define place name word) → ⊥
+undefine_isnt_define e = cc
 
-no_word : (o : Option ℕ) → not (is_some o) ≡ true → o ≡ None
-no_word None e = refl
-no_word (Some word) e = absurd (true≢false (sym e))
+undefine_isnt_reword : {place word : ℕ} → Some undefine ≡ Some (reword place word) → ⊥
+undefine_isnt_reword e = cc
 
--- what the test of a step says
-pub takes : (names : List (List ℕ × ℕ)) (known : Bool) (step : NameStep) → can_take names known step ≡ true
-    → CanStep names (λ name. known) step
-takes names known (define name word) e =
-    let parts = and_parts (not (is_some (word_of names name))) known e in
-    (no_word (word_of names name) parts.0, parts.1)
-takes names known (undefine name) e = last_is names name e
-takes names known (reword name word) e = e
+define_isnt_reword : {place word at other : ℕ} {name : List ℕ} → Some (define place name word) ≡ Some (reword at other) → ⊥
+define_isnt_reword e = cc
 
-pub is_taken : (names : List (List ℕ × ℕ)) (known : Bool) (step : NameStep) → CanStep names (λ name. known) step
-    → can_take names known step ≡ true
-is_taken names known (define name word) can =
-    and_from (not (is_some (word_of names name))) known (ap (λ o. not (is_some o)) can.0) can.1
-is_taken names known (undefine name) can = ap (λ l. is_last l name) can.2 ∙ is_the_last can.0 name can.1 can.3
-is_taken names known (reword name word) can = can
+-- a change that defines no name says the same in each table,
+pub step_without : (t u : NameTable) (change : Option NameChange) → defines_none change ≡ true
+    → option_map (step_in u) change ≡ option_map (step_in t) change
+step_without t u None h = refl
+step_without t u (Some (Define place word)) h = absurd (true≢false (sym h))
+step_without t u (Some Undefine) h = refl
+step_without t u (Some (Reword place word)) h = refl
+
+-- and each is ready for it
+pub ready_without : (t u : NameTable) (change : Option NameChange) → defines_none change ≡ true
+    → is_ready u change ≡ is_ready t change
+ready_without t u None h = refl
+ready_without t u (Some (Define place word)) h = absurd (true≢false (sym h))
+ready_without t u (Some Undefine) h = refl
+ready_without t u (Some (Reword place word)) h = refl
+
+-- a change that takes back one that defines no name makes none undefined,
+pub back_undefines_none : (t u : NameTable) (names : List (List ℕ × ℕ)) (change back : Option NameChange)
+    → option_map (step_in u) back ≡ turned_by names (option_map (step_in t) change) → defines_none change ≡ true
+    → undefines_none back ≡ true
+back_undefines_none t u names change None e h = refl
+back_undefines_none t u names change (Some (Define place word)) e h = refl
+back_undefines_none t u names change (Some (Reword place word)) e h = refl
+back_undefines_none t u names None (Some Undefine) e h = absurd (some_step undefine e)
+back_undefines_none t u names (Some (Define place word)) (Some Undefine) e h = absurd (true≢false (sym h))
+back_undefines_none t u names (Some Undefine) (Some Undefine) e h = absurd (undefine_isnt_define e)
+back_undefines_none t u names (Some (Reword place word)) (Some Undefine) e h = absurd (undefine_isnt_reword e)
+
+-- and one that takes back one that makes none undefined defines none
+pub back_defines_none : (t u : NameTable) (names : List (List ℕ × ℕ)) (change back : Option NameChange)
+    → option_map (step_in u) back ≡ turned_by names (option_map (step_in t) change) → undefines_none change ≡ true
+    → defines_none back ≡ true
+back_defines_none t u names change None e h = refl
+back_defines_none t u names change (Some Undefine) e h = refl
+back_defines_none t u names change (Some (Reword place word)) e h = refl
+back_defines_none t u names None (Some (Define place word)) e h = absurd (some_step (define place _ word) e)
+back_defines_none t u names (Some (Define at old)) (Some (Define place word)) e h = absurd (undefine_isnt_define (sym e))
+back_defines_none t u names (Some Undefine) (Some (Define place word)) e h = absurd (true≢false (sym h))
+back_defines_none t u names (Some (Reword at old)) (Some (Define place word)) e h = absurd (define_isnt_reword e)
+
+CanStep-prop : (names : List (List ℕ × ℕ)) (step : NameStep) → IsProp (CanStep names step)
+CanStep-prop names (define place name word) = hlevel props
+CanStep-prop names undefine = hlevel props
+CanStep-prop names (reword place word) = hlevel props
+
+-- a step can be taken in one way at most
+pub CanStepBy-prop : (names : List (List ℕ × ℕ)) (step : Option NameStep) → IsProp (CanStepBy names step)
+CanStepBy-prop names None = Unit-prop
+CanStepBy-prop names (Some step) = CanStep-prop names step
+
+-- a change that gives a name a word makes no name undefined
+pub gives_undefines_none : (t : NameTable) (names : List (List ℕ × ℕ)) (change : Option NameChange)
+    → GivesBy names (option_map (step_in t) change) → undefines_none change ≡ true
+gives_undefines_none t names None h = refl
+gives_undefines_none t names (Some (Define place word)) h = refl
+gives_undefines_none t names (Some Undefine) h = absurd h
+gives_undefines_none t names (Some (Reword place word)) h = refl
 
 -- the step that takes a step back can be taken from where that led,
-pub name_fits_back : (names : List (List ℕ × ℕ)) (known : Bool) (step : Option NameStep)
-    → can_take_by names known step ≡ true → can_take_by (stepped_by names step) true (turned_by names step) ≡ true
-name_fits_back names known None h = refl
-name_fits_back names known (Some step) h =
-    is_taken _ true _ (step_back_fits names (λ name. known) (λ name. true) step (takes names known step h) refl)
+pub name_fits_back : (names : List (List ℕ × ℕ)) (step : Option NameStep) → CanStepBy names step
+    → CanStepBy (stepped_by names step) (turned_by names step)
+name_fits_back names None h = tt
+name_fits_back names (Some step) h = step_back_fits names step h
 
 -- leads back,
-pub name_leads_back : (names : List (List ℕ × ℕ)) (known : Bool) (step : Option NameStep)
-    → can_take_by names known step ≡ true → stepped_by (stepped_by names step) (turned_by names step) ≡ names
-name_leads_back names known None h = refl
-name_leads_back names known (Some step) h = step_leads_back names (λ name. known) step (takes names known step h)
+pub name_leads_back : (names : List (List ℕ × ℕ)) (step : Option NameStep) → CanStepBy names step
+    → stepped_by (stepped_by names step) (turned_by names step) ≡ names
+name_leads_back names None h = refl
+name_leads_back names (Some step) h = step_leads_back names step h
 
 -- and is taken back by the step itself.
-pub name_turns_back : (names : List (List ℕ × ℕ)) (known : Bool) (step : Option NameStep)
-    → can_take_by names known step ≡ true → turned_by (stepped_by names step) (turned_by names step) ≡ step
-name_turns_back names known None h = refl
-name_turns_back names known (Some step) h =
-    ap Some (step_turns_back names (λ name. known) step (takes names known step h))
-
--- a step that fits can be taken by the table,
-pub can_step : (t : NameTable) (step : Option NameStep) → can_take_by (rows_of t) (is_ready t step) step ≡ true
-    → CanStepBy (rows_of t) (knows t) step
-can_step t None h = tt
-can_step t (Some (define name word)) h = takes (rows_of t) (knows t name) (define name word) h
-can_step t (Some (undefine name)) h = takes (rows_of t) true (undefine name) h
-can_step t (Some (reword name word)) h = h
-
--- and one that can be taken by the table fits
-pub can_fit : (t : NameTable) (step : Option NameStep) → CanStepBy (rows_of t) (knows t) step
-    → (can_take_by (rows_of t) (is_ready t step) step && is_ready t step) ≡ true
-can_fit t None h = refl
-can_fit t (Some (define name word)) h =
-    and_from _ (knows t name) (is_taken (rows_of t) (knows t name) (define name word) h) h.1
-can_fit t (Some (undefine name)) h = and_from _ true (is_taken (rows_of t) true (undefine name) h) refl
-can_fit t (Some (reword name word)) h = and_from _ true h refl
-
--- tables that hold the same names are ready for the same steps
-pub same_ready : (t u : NameTable) → ((name : List ℕ) → knows u name ≡ knows t name) → (step : Option NameStep)
-    → is_ready u step ≡ is_ready t step
-same_ready t u same None = refl
-same_ready t u same (Some (define name word)) = same name
-same_ready t u same (Some (undefine name)) = refl
-same_ready t u same (Some (reword name word)) = refl
+pub name_turns_back : (names : List (List ℕ × ℕ)) (step : Option NameStep) → CanStepBy names step
+    → turned_by (stepped_by names step) (turned_by names step) ≡ step
+name_turns_back names None h = refl
+name_turns_back names (Some step) h = ap Some (step_turns_back names step h)

@@ -5,8 +5,9 @@
 //! [`MachineChange`] of the plan, with all the memory that it needs; and the machine's `swap` applies the change and
 //! leaves its inverse.
 //!
-//! A [`NameTable`] holds the names that are defined now and those of statements that were undone. A [`NameChange`] is
-//! one step of a statement: [`NameTable::swap`] takes it and leaves its inverse.
+//! A [`NameTable`] holds the names that are defined now and, after them, those of statements that were undone, in the
+//! order in which they would be defined again. A [`NameChange`] is one step of a statement, by places of the table:
+//! [`NameTable::swap`] takes it and leaves its inverse.
 #![tactic(auto)]
 
 mod causes;
@@ -24,7 +25,7 @@ pub use machine::{Machine, MachineChange};
 pub use name_changes::NameChange;
 pub use names::NameTable;
 pub use operand_texts::Name;
-pub use plans::{Planned, plan_of, reserve};
+pub use plans::{NamePlan, Planned, plan_of, reserve};
 pub use refusals::{NewFault, Refusal};
 pub use services::service_of;
 pub use storage_core::{PlanRecords, Reply, Settings, Storage};

@@ -1,9 +1,9 @@
 //! What the history moves back and forward.
-ghost use Rattle.std.specs.Prelude.{◌≡◌, ℕ, true, List};
+ghost use Rattle.std.specs.Prelude.{◌≡◌, true};
 ghost use Rattle.std.specs.Option.{option_map};
-ghost use Rattle.vsm_machine.specs.NameTable.{rows_of, knows};
+ghost use Rattle.vsm_machine.specs.NameTable.{names_of, rows_of};
 ghost use Rattle.vsm_machine.specs.NameChanges.{step_in};
-ghost use Rattle.vsm_machine.specs.NameSteps.{stepped_by, turned_by, CanStepBy, is_ready};
+ghost use Rattle.vsm_machine.specs.NameSteps.{stepped_by, turned_by, is_ready, FitsTable};
 
 use crate::name_changes::NameChange;
 use crate::names::NameTable;
@@ -30,11 +30,12 @@ pub struct MachineChange {
 
 /// Takes the step of a name, if there is one, and leaves its inverse.
 fn swap_name(names: &mut NameTable, change: &mut Option<NameChange>)
-    requires { CanStepBy (rows_of names.old) (knows names.old) (option_map step_in change.old) }
-    ensures rows { rows_of names.new ≡ stepped_by (rows_of names.old) (option_map step_in change.old) }
-    ensures turned { option_map step_in change.new ≡ turned_by (rows_of names.old) (option_map step_in change.old) }
-    ensures same { (name : List ℕ) → knows names.new name ≡ knows names.old name }
-    ensures ready { is_ready names.new (option_map step_in change.new) ≡ true }
+    requires { FitsTable names.old change.old }
+    ensures rows { rows_of names.new ≡ stepped_by (rows_of names.old) (option_map (step_in names.old) change.old) }
+    ensures turned { option_map (step_in names.new) change.new
+        ≡ turned_by (rows_of names.old) (option_map (step_in names.old) change.old) }
+    ensures same { names_of names.new ≡ names_of names.old }
+    ensures ready { is_ready names.new change.new ≡ true }
 {
     if let Some(step) = change {
         names.swap(step);

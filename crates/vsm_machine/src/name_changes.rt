@@ -1,14 +1,12 @@
 //! The steps by which a table of names changes.
 
-use operand_texts::Name;
-
-/// One step of the names with their words.
+/// One step of the names with their words, by places of the table, from 0.
 #[derive(Clone, Copy, Debug, PartialEq, Eq)]
 pub enum NameChange {
-    /// The name is defined, with this word, after the others.
-    Define { name: Name, word: u32 },
-    /// The name, which is the last one, is no longer defined.
-    Undefine { name: Name },
-    /// The name, which is defined, stands for this word.
-    Reword { name: Name, word: u32 },
+    /// The name at this place, the first after the defined ones, is defined with this word.
+    Define { place: usize, word: u32 },
+    /// The last defined name is no longer defined.
+    Undefine,
+    /// The name at this place, which is defined, stands for this word.
+    Reword { place: usize, word: u32 },
 }

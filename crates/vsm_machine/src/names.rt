@@ -12,8 +12,9 @@ const MOST_NAMES: usize = 1024;
 
 /// The names of a bench with their words.
 ///
-/// Those that are defined are first, in the order in which they were defined, then those of undone statements, in no
-/// particular order. These stay, so that doing a statement again inserts nothing.
+/// Those that are defined are first, in the order in which they were defined, then those of undone statements, in the
+/// order in which they would be defined again. These stay, so that doing a statement again inserts nothing, and each
+/// change names its row by its place.
 #[derive(Drop)]
 pub struct NameTable {
     table: IndexMap<Name, u32>,
@@ -23,13 +24,13 @@ pub struct NameTable {
 
 impl NameTable {
     ghost use Rattle.std.specs.Prelude.{◌≡◌, ℕ, ◌<◌, ◌^◌, ◌&&◌, ◌||◌, not, false, true, is_some, [], List, length};
-    ghost use Rattle.std.specs.Prelude.{nat_le, None, IsOk, OnOk, OnErr, IfSome, IsTrue};
+    ghost use Rattle.std.specs.Prelude.{nat_le, None, Some, IsOk, OnOk, OnErr, IfSome, IsTrue};
     ghost use Rattle.std.specs.Prelude.{option_map, slice_get};
     ghost use Rattle.vsm_model.specs.Names.{same_name, word_of, with_name};
-    ghost use Rattle.vsm_machine.specs.NameChanges.{CanStep, IsLast, name_of, step_in, step_to, stepped, turned};
-    ghost use Rattle.vsm_machine.specs.NameChanges.{without_name};
-    ghost use Rattle.vsm_machine.specs.NameChanges.{word_or_zero};
-    ghost use Rattle.vsm_machine.specs.NameTable.{all_rows, is_own, knows, row_of, rows_of, HasRoom, IsNext};
+    ghost use Rattle.vsm_machine.specs.NameChanges.{step_by, step_in, step_to, stepped, turned};
+    ghost use Rattle.vsm_machine.specs.NameSteps.{is_ready, FitsTable};
+    ghost use Rattle.vsm_machine.specs.NameTable.{all_rows, is_own, knows, names_of, row_of, rows_of, HasRoom, IsNext};
+    ghost use Rattle.vsm_machine.specs.NameTable.{place_in, word_at, with_word_at};
 
     /// A table with no name. This takes no memory.
     pub fn new(alloc: Global) -> NameTable
@@ -81,12 +82,31 @@ impl NameTable {
     }
 
     /// The change after which the name stands for `word`: a defined name keeps its place, any other becomes the last.
-    pub fn change_to(&self, name: Name, word: u32) -> NameChange
-        ensures { step_in result ≡ step_to (rows_of self.now) name.bytes word }
+    pub fn change_to(&self, name: &Name, word: u32) -> NameChange
+        ensures { step_by (λ place. name.now.bytes) result ≡ step_to (rows_of self.now) name.now.bytes word }
     {
-        match self.word(&name) {
-            Some(_) => NameChange::Reword { name, word },
-            None => NameChange::Define { name, word },
+        match self.place_of(name) {
+            Some(place) => NameChange::Reword { place, word },
+            None => NameChange::Define {
+                place: self.defined,
+                word,
+            },
+        }
+    }
+
+    // The place of a name, if it is defined.
+    fn place_of(&self, name: &Name) -> Option<usize>
+        ensures { result ≡ place_in (rows_of self.now) name.now.bytes }
+    {
+        match self.table.get_index_of(name) {
+            Some(index) => {
+                if index < self.defined {
+                    Some(index)
+                } else {
+                    None
+                }
+            }
+            None => None,
         }
     }
 
@@ -96,7 +116,7 @@ impl NameTable {
         ensures rows { rows_of self.new ≡ rows_of self.old }
         ensures ok { OnOk result ((other : List ℕ)
             → knows self.new other ≡ (same_name name.bytes other || knows self.old other)) }
-        ensures err { OnErr result ((other : List ℕ) → knows self.new other ≡ knows self.old other) }
+        ensures err { OnErr result (names_of self.new ≡ names_of self.old) }
         ensures needless { HasRoom self.old name.bytes → IsOk result }
     {
         if self.table.contains_key(&name) {
@@ -109,12 +129,14 @@ impl NameTable {
     }
 
     /// Takes every undone name out of the table except `own`, so that the table holds the defined names and, if it held
-    /// it, `own`. Nothing is inserted.
+    /// it, `own`, which is then the next one after them if it isn't defined. Nothing is inserted.
     pub fn forget_undone(&mut self, own: Option<Name>)
         ensures rows { rows_of self.new ≡ rows_of self.old }
         ensures own { IfSome own (λ name. knows self.old name.bytes ≡ true → knows self.new name.bytes ≡ true) }
         ensures others { (other : List ℕ) → knows self.new other
             ≡ (is_some (word_of (rows_of self.old) other) || (is_own own other && knows self.old other)) }
+        ensures next { IfSome own (λ name. word_of (rows_of self.old) name.bytes ≡ None
+            → knows self.old name.bytes ≡ true → IsNext self.new name.bytes) }
     {
         match own {
             None => self.table.truncate(self.defined),
@@ -128,73 +150,43 @@ impl NameTable {
         }
     }
 
-    /// Takes the step, and leaves its inverse in `change`. This takes no memory, and no name leaves the table.
+    /// Takes the step, and leaves its inverse in `change`, which fits the table then. This takes no memory, and each name
+    /// keeps its place in the table.
     pub fn swap(&mut self, change: &mut NameChange)
-        requires { CanStep (rows_of self.old) (knows self.old) (step_in change.old) }
-        ensures rows { rows_of self.new ≡ stepped (rows_of self.old) (step_in change.old) }
-        ensures turned { step_in change.new ≡ turned (rows_of self.old) (step_in change.old) }
-        ensures same { (name : List ℕ) → knows self.new name ≡ knows self.old name }
-        ensures there { knows self.old (name_of (step_in change.old)) ≡ true }
+        requires { FitsTable self.old (Some change.old) }
+        ensures rows { rows_of self.new ≡ stepped (rows_of self.old) (step_in self.old change.old) }
+        ensures turned { step_in self.new change.new ≡ turned (rows_of self.old) (step_in self.old change.old) }
+        ensures same { names_of self.new ≡ names_of self.old }
+        ensures ready { is_ready self.new (Some change.new) ≡ true }
     {
         *change = self.step(*change);
     }
 
     // Takes the step, and returns its inverse.
     fn step(&mut self, change: NameChange) -> NameChange
-        requires { CanStep (rows_of self.old) (knows self.old) (step_in change) }
-        ensures rows { rows_of self.new ≡ stepped (rows_of self.old) (step_in change) }
-        ensures turned { step_in result ≡ turned (rows_of self.old) (step_in change) }
-        ensures same { (name : List ℕ) → knows self.new name ≡ knows self.old name }
-        ensures there { knows self.old (name_of (step_in change)) ≡ true }
+        requires { FitsTable self.old (Some change) }
+        ensures rows { rows_of self.new ≡ stepped (rows_of self.old) (step_in self.old change) }
+        ensures turned { step_in self.new result ≡ turned (rows_of self.old) (step_in self.old change) }
+        ensures same { names_of self.new ≡ names_of self.old }
+        ensures ready { is_ready self.new (Some result) ≡ true }
     {
         match change {
-            NameChange::Define { name, word } => {
-                self.define(&name, word);
-                NameChange::Undefine { name }
+            NameChange::Define { place, word } => {
+                self.exchange(place, word);
+                self.defined += 1;
+                NameChange::Undefine
             }
-            NameChange::Undefine { name } => {
-                let word = self.undefine(&name);
-                NameChange::Define { name, word }
+            NameChange::Undefine => {
+                self.defined -= 1;
+                let place = self.defined;
+                let word = self.exchange(place, 0);
+                NameChange::Define { place, word }
             }
-            NameChange::Reword { name, word } => {
-                let word = self.reword(&name, word);
-                NameChange::Reword { name, word }
+            NameChange::Reword { place, word } => {
+                let word = self.exchange(place, word);
+                NameChange::Reword { place, word }
             }
         }
-    }
-
-    // Defines a name that the table holds, and that isn't defined, after the others.
-    fn define(&mut self, name: &Name, word: u32)
-        requires new { word_of (rows_of self.old) name.now.bytes ≡ None }
-        requires known { knows self.old name.now.bytes ≡ true }
-        ensures rows { rows_of self.new ≡ with_name (rows_of self.old) name.now.bytes word }
-        ensures same { (other : List ℕ) → knows self.new other ≡ knows self.old other }
-    {
-        self.put_next(name);
-        self.exchange(name, word);
-        self.defined += 1;
-    }
-
-    // Leaves the last name undone, and returns its word.
-    fn undefine(&mut self, name: &Name) -> u32
-        requires { IsLast (rows_of self.old) name.now.bytes }
-        ensures rows { rows_of self.new ≡ without_name (rows_of self.old) name.now.bytes }
-        ensures word { result ≡ word_or_zero (word_of (rows_of self.old) name.now.bytes) }
-        ensures same { (other : List ℕ) → knows self.new other ≡ knows self.old other }
-    {
-        let word = self.word(name);
-        self.defined -= 1;
-        word.unwrap_or(0)
-    }
-
-    // Gives a defined name its word, and returns the one that it had.
-    fn reword(&mut self, name: &Name, word: u32) -> u32
-        requires { is_some (word_of (rows_of self.old) name.now.bytes) ≡ true }
-        ensures rows { rows_of self.new ≡ with_name (rows_of self.old) name.now.bytes word }
-        ensures word { result ≡ word_or_zero (word_of (rows_of self.old) name.now.bytes) }
-        ensures same { (other : List ℕ) → knows self.new other ≡ knows self.old other }
-    {
-        self.exchange(name, word)
     }
 
     // Brings an undone name to the first place after the defined ones. Returns whether it is undone.
@@ -221,18 +213,21 @@ impl NameTable {
         }
     }
 
-    // Gives a name that the table holds its word there, and returns the one that it had.
-    fn exchange(&mut self, name: &Name, word: u32) -> u32
-        requires { knows self.old name.now.bytes ≡ true }
-        ensures rows { all_rows self.new ≡ with_name (all_rows self.old) name.now.bytes word }
+    // Gives the name at a place this word, and returns the one that it had.
+    fn exchange(&mut self, place: usize, word: u32) -> u32
+        requires { place < index_map_len self.old.table }
+        ensures rows { all_rows self.new ≡ with_word_at (all_rows self.old) place word }
         ensures defined { self.new.defined ≡ self.old.defined }
         ensures len { index_map_len self.new.table ≡ index_map_len self.old.table }
-        ensures old { result ≡ word_or_zero (word_of (all_rows self.old) name.now.bytes) }
+        ensures fits { index_map_len self.new.table < 2 ^ 63 }
+        ensures old { result ≡ word_at (all_rows self.old) place }
     {
-        match self.table.get_mut(name) {
-            Some(place) => {
-                let old = *place;
-                *place = word;
+        // The length shows that one more than a place fits.
+        let _len = self.table.len();
+        match self.table.get_index_mut(place) {
+            Some(here) => {
+                let old = *here;
+                *here = word;
                 old
             }
             None => 0,

@@ -1,5 +1,5 @@
 //! What a statement will do to a machine, found by only reading, and the change that does it.
-ghost use Rattle.std.specs.Prelude.{◌≡◌, ℕ, ◌≤◌, true, List, IfOk, IfSome, IsOk, OnErr, OnOk};
+ghost use Rattle.std.specs.Prelude.{◌≡◌, ◌≤◌, IfOk, IfSome, IsOk, OnErr};
 ghost use Rattle.std.specs.Option.{option_map};
 ghost use Rattle.vsm_model.specs.Names.{is_one_too_many};
 ghost use Rattle.storage_core.specs.Meaning.{state_in_place, settings_of};
@@ -7,11 +7,11 @@ ghost use Rattle.storage_core.specs.Planned.{CanBeReserved, elements_needed, pag
 ghost use Rattle.storage_core.specs.Memory.{Makes};
 ghost use Rattle.storage_core.specs.Stays.{Stays};
 ghost use Rattle.macro_statements.specs.Requests.{act_in, IsValidAct};
-ghost use Rattle.vsm_machine.specs.NameTable.{rows_of, knows, HasRoom};
+ghost use Rattle.vsm_machine.specs.NameTable.{names_of, rows_of, HasRoom};
 ghost use Rattle.vsm_machine.specs.NameChanges.{step_in};
-ghost use Rattle.vsm_machine.specs.NameSteps.{CanStepBy};
-ghost use Rattle.vsm_machine.specs.Changes.{shown, step_of};
-ghost use Rattle.vsm_machine.specs.Planned.{step_for, step_planned, defined_by, IsPlanned, IsChangeOf};
+ghost use Rattle.vsm_machine.specs.NameSteps.{FitsTable, GivesBy};
+ghost use Rattle.vsm_machine.specs.Changes.{shown};
+ghost use Rattle.vsm_machine.specs.Planned.{step_for, plan_step, step_planned, defined_by, IsPlanned, IsChangeOf};
 ghost use Rattle.vsm_machine.specs.Supplies.{NeedsNoMore};
 
 use crate::machine::{Machine, MachineChange};
@@ -25,14 +25,23 @@ use operand_texts::Name;
 use std::alloc::AllocError;
 use storage_core::{Plan, PlanRecords, Reply};
 
-/// What an accepted statement will do: the plan of its service, and the step of the name that gets the address of the
+/// A name of a statement, and the change that gives it the address of the area.
+#[derive(Clone, Copy)]
+pub struct NamePlan<'a> {
+    /// The name, which the change defines, or which is already defined.
+    pub name: &'a Name,
+    /// Its change.
+    pub change: NameChange,
+}
+
+/// What an accepted statement will do: the plan of its service, and the change of the name that gets the address of the
 /// area.
 #[derive(Drop)]
 pub struct Planned<'a> {
     /// The plan of the service.
     pub plan: Plan<'a>,
-    /// The step of the name; `None` if the statement names none.
-    pub name: Option<NameChange>,
+    /// The change of the name; `None` if the statement names none.
+    pub name: Option<NamePlan<'a>>,
 }
 
 /// Whether the name is new, and the most names are already defined.
@@ -45,15 +54,15 @@ pub(crate) fn is_one_too_many(names: &NameTable, name: Option<&Name>) -> bool
     }
 }
 
-/// The step of the name that gets the address, if there is one and an area or a cell was obtained.
-fn name_change(names: &NameTable, name: Option<&Name>, reply: Reply) -> Option<NameChange>
-    ensures { option_map step_in result ≡ step_for (rows_of names.now) (option_map (λ n. n.now.bytes) name.entry)
-        reply }
+/// The change of the name that gets the address, if there is one and an area or a cell was obtained.
+fn name_plan<'a>(names: &NameTable, name: Option<&'a Name>, reply: Reply) -> Option<NamePlan<'a>>
+    ensures { plan_step result ≡ step_for (rows_of names.now) (option_map (λ n. n.now.bytes) name.entry) reply }
 {
     match (name, reply) {
-        (Some(name), Reply::Obtained { address, .. } | Reply::Cell(address)) => {
-            Some(names.change_to(*name, address))
-        }
+        (Some(name), Reply::Obtained { address, .. } | Reply::Cell(address)) => Some(NamePlan {
+            name,
+            change: names.change_to(name, address),
+        }),
         (None, _)
         | (Some(_), Reply::Returned(_) | Reply::Attached(_) | Reply::Turn(_) | Reply::Stored) =>
             None,
@@ -78,7 +87,7 @@ pub fn plan_of<'a>(
     let full = is_one_too_many(&machine.names, name);
     match machine.storage.plan(service, full, room) {
         Ok(plan) => {
-            let name = name_change(&machine.names, name, plan.reply());
+            let name = name_plan(&machine.names, name, plan.reply());
             Ok(Planned { plan, name })
         }
         Err(cause) => {
@@ -88,37 +97,31 @@ pub fn plan_of<'a>(
     }
 }
 
-/// The name that a step defines, if it defines one.
-fn new_name(change: &Option<NameChange>) -> Option<Name>
-    ensures { option_map (λ name. name.bytes) result ≡ defined_by (option_map step_in change.now) }
-{
-    match change {
-        Some(NameChange::Define { name, .. }) => Some(*name),
-        _ => None,
-    }
-}
-
-/// Puts a new name after all others of the table, and takes the names of undone statements out of it; if there is no
-/// memory for the new one, all names stay.
-fn make_ready(names: &mut NameTable, new: Option<Name>) -> Result<(), AllocError>
+/// The change of a planned name, once the table is ready for it: a new name is the next one after the defined ones, and
+/// the names of undone statements are taken out. If there is no memory for a new one, all names stay.
+fn make_ready(
+    names: &mut NameTable,
+    plan: Option<NamePlan<'_>>,
+) -> Result<Option<NameChange>, AllocError>
+    requires { GivesBy (rows_of names.old) (plan_step plan) }
     ensures rows { rows_of names.new ≡ rows_of names.old }
-    ensures ok { OnOk result (IfSome new (λ name. knows names.new name.bytes ≡ true)) }
-    ensures err { OnErr result ((name : List ℕ) → knows names.new name ≡ knows names.old name) }
-    ensures needless { IfSome new (λ name. HasRoom names.old name.bytes) → IsOk result }
+    ensures step { IfOk result (λ change. option_map (step_in names.new) change ≡ plan_step plan.entry) }
+    ensures fits { IfOk result (λ change. FitsTable names.new change) }
+    ensures err { OnErr result (names_of names.new ≡ names_of names.old) }
+    ensures needless { IfSome (defined_by (plan_step plan.entry)) (λ name. HasRoom names.old name) → IsOk result }
 {
-    match new {
-        Some(name) => match names.reserve(name) {
-            Ok(()) => {
-                names.forget_undone(Some(name));
-                Ok(())
-            }
-            Err(fault) => Err(fault),
-        },
-        None => {
-            names.forget_undone(None);
-            Ok(())
+    let Some(planned) = plan else {
+        names.forget_undone(None);
+        return Ok(None);
+    };
+    match planned.change {
+        NameChange::Define { .. } => {
+            names.reserve(*planned.name)?;
+            names.forget_undone(Some(*planned.name));
         }
+        NameChange::Undefine | NameChange::Reword { .. } => names.forget_undone(None),
     }
+    Ok(Some(planned.change))
 }
 
 /// The change that carries out a plan, with all the memory that it needs: the storage's, and last room for a new name.
@@ -130,30 +133,26 @@ fn make_ready(names: &mut NameTable, new: Option<Name>) -> Result<(), AllocError
 /// room for the name that is defined, if one is. At most a block of elements is made beyond those that the change
 /// takes, and no frame beyond those of its pages, whatever the answer: they stay as spare ones.
 pub fn reserve(machine: &mut Machine, planned: &Planned<'_>) -> Result<MachineChange, AllocError>
-    requires { CanBeReserved (state_in_place machine.old.storage) planned.now.plan }
+    requires fits { CanBeReserved (state_in_place machine.old.storage) planned.now.plan }
+    requires gives { GivesBy (rows_of machine.old.names) (step_planned planned.now) }
     ensures is { IfOk result (λ c. IsChangeOf machine.old planned.now machine.new c) }
     ensures settings { settings_of machine.new.storage ≡ settings_of machine.old.storage }
     ensures rows { rows_of machine.new.names ≡ rows_of machine.old.names }
-    ensures can { IfOk result (λ c. CanStepBy (rows_of machine.old.names) (λ name. true) (step_planned planned.now)
-        → CanStepBy (rows_of machine.new.names) (knows machine.new.names) (step_of c)) }
+    ensures can { IfOk result (λ c. FitsTable machine.new.names c.name) }
     ensures stays { OnErr result (Stays machine.old.storage.parts machine.new.storage.parts) }
-    ensures same { OnErr result ((name : List ℕ) → knows machine.new.names name ≡ knows machine.old.names name) }
+    ensures same { OnErr result (names_of machine.new.names ≡ names_of machine.old.names) }
     ensures needless { elements_needed (state_in_place machine.old.storage) planned.now.plan
         ≤ machine.old.storage.parts.elements.spare → NeedsNoMore machine.old planned.now → IsOk result }
     ensures made { Makes machine.old.storage.parts machine.new.storage.parts
-        (elements_needed (state_in_place machine.old.storage) planned.now.plan)
-        (pages_assigned planned.now.plan) }
+        (elements_needed (state_in_place machine.old.storage) planned.now.plan) (pages_assigned planned.now.plan) }
 {
     let Planned { plan, name } = planned;
     let storage = match machine.storage.reserve(plan) {
         Ok(storage) => storage,
         Err(fault) => return Err(fault),
     };
-    match make_ready(&mut machine.names, new_name(name)) {
-        Ok(()) => Ok(MachineChange {
-            storage,
-            name: *name,
-        }),
+    match make_ready(&mut machine.names, *name) {
+        Ok(name) => Ok(MachineChange { storage, name }),
         Err(fault) => {
             machine.storage.discard(storage);
             Err(fault)

@@ -19,11 +19,11 @@ returns-in-Ok c =
     let m = shown c.args.machine.now in
     let service = service_in c.in-Some.service in
     carried_by m (act_in c.args.statement.now) service c.in-Some.ensures.is
-    (record { plan = c.in-Ok.plan; name = c.name_change-name.result })
+    (record { plan = c.in-Ok.plan; name = c.name_plan-name.result })
     (subst (λ (full : Bool). IsPlanned (settings_of s) full (state_in_place s) service (Ok c.in-Ok.plan))
     (c.is_one_too_many-full.ensures ∙ ap (is_one_too_many m.names) c.name_of-name.ensures) c.in-Ok.ensures)
     (is_sound s)
-    (c.name_change-name.ensures ∙ ap (λ n. step_for m.names n c.reply.result) c.name_of-name.ensures ∙ ap (step_for m.names (name_asked (act_in c.args.statement.now))) c.reply.ensures)
+    (c.name_plan-name.ensures ∙ ap (λ n. step_for m.names n c.reply.result) c.name_of-name.ensures ∙ ap (step_for m.names (name_asked (act_in c.args.statement.now))) c.reply.ensures)
 
 pub returns-in-Err : goal.returns-in-Err
 returns-in-Err c =

@@ -3,18 +3,22 @@ use Rattle.std.proofs.lemmas.List.{append-nil}
 use Rattle.vsm_machine.specs.Meaning.{settings_of}
 use Rattle.vsm_model.specs.Names.{NamedState}
 use Rattle.vsm_model.specs.Standing.{Bench, Accepted}
-use Rattle.vsm_machine.specs.NameSteps.{undefines_none}
-use Rattle.vsm_machine.specs.Changes.{Whole, DefineNone, UndefineNone, shown, plain_of, named_of, machine_fits, machine_states}
+use Rattle.vsm_machine.specs.NameSteps.{gives_undefines_none, GivesBy}
+use Rattle.vsm_machine.specs.NameTable.{rows_of}
+use Rattle.vsm_machine.specs.Changes.{Whole, DefineNone, UndefineNone, plain_of, named_of, machine_fits, machine_states}
 use Rattle.bench_core.specs.Stands.{bench_of, bench_at}
-use Rattle.bench_core.proofs.Accepted.{reserved_of, accepted_as, stays_readied, gives_of, failed_isnt_ok}
+use Rattle.bench_core.proofs.Accepted.{reserved_of, accepted_as, stays_readied, failed_isnt_ok}
 use Rattle.bench_core.proofs.Applied.{can_swap, applied_fits, applied_apart, applied_whole, applied_settings, kept_bench, kept_directed, next, unchanged_bench, unchanged_fits}
 use Rattle.vsm_machine.proofs.MakingLemmas.{makes_in_all, made_none, makes_wanting}
 use Rattle.bench_core.proofs.Supplied.{needs_no_more}
 use Rattle.bench_core.proofs.Moves.{discards_settings}
 use Rattle.bench_core.proofs.bench.Bench.carry_out.Goals as goal
 
-pub reserve-requires : goal.reserve-requires
-reserve-requires c = c.requires.1.can
+pub reserve-requires-clause-fits : goal.reserve-requires-clause-fits
+reserve-requires-clause-fits c = c.requires.1.can
+
+pub reserve-requires-clause-gives : goal.reserve-requires-clause-gives
+reserve-requires-clause-gives c = c.requires.1.gives
 
 -- if there is no memory, all is as it was
 
@@ -102,7 +106,7 @@ invariant_of-self-2 c =
     let n = c.push_reserved.new.self in
     let kept = c.push_reserved.ensures in
     let settings = discards_settings _ t u kept.discarded ∙ applied_settings h.kept h.undone b.machine r t change d reserved c.swap.ensures in
-    let gives : undefines_none _ ≡ _ = ap undefines_none made.is.step ∙ gives_of (shown b.machine) c.requires.0 c.args.planned.now c.requires.1 made.is.id made.is.free in
+    let gives = gives_undefines_none r.names (rows_of b.machine.names) change.name (subst (GivesBy (rows_of b.machine.names)) (sym made.is.step) c.requires.1.gives) in
     let directed = kept_directed h.kept h.undone b.machine r t change d reserved c.swap.ensures h.limit n gives kept.kept kept.undone in
     let whole : Whole u n.kept = kept.whole (applied_whole h.kept h.undone b.machine r t change d reserved c.swap.ensures) in
     record {

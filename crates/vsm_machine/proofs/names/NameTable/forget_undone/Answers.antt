@@ -1,9 +1,9 @@
 -- What is cut off is after the defined names and, if it is undone, the one that is kept.
-use Rattle.std.proofs.Common.{◌≡◌, ◌+◌, ◌&&◌, ◌||◌, not, true, is_some, map, IfSome, ap, sym, subst, ◌∙◌, arith}
+use Rattle.std.proofs.Common.{◌≡◌, ℕ, ◌+◌, ◌&&◌, ◌||◌, not, true, true≢false, None, is_some, [], ◌∷◌, ◌++◌, map, take, IfSome, ap, sym, subst, ◌∙◌, arith}
 use Rattle.std.proofs.lemmas.Bool.{and_parts}
 use Rattle.vsm_model.specs.Names.{word_of}
 use Rattle.vsm_machine.specs.NameTable.{row_of, rows_of, knows, is_own}
-use Rattle.vsm_machine.proofs.Entries.{rows-kept, all-kept, left-with-next, left-without}
+use Rattle.vsm_machine.proofs.Entries.{rows-kept, all-kept, next-kept, left-with-next, left-without}
 use Rattle.vsm_machine.specs.SameName.{same_name-self}
 use Rattle.vsm_machine.proofs.TableRows.{or-false, own-kept}
 use Rattle.vsm_machine.proofs.names.NameTable.forget_undone.Goals as goal
@@ -47,6 +47,17 @@ returns-then-put_next-clause-others c other =
     left-with-next s.table.entries new s.defined (rows_of t) (knows t) name next.0 c.truncate-then-put_next.ensures.entries next.1 c.put_next.ensures.rows known other
     ∙ ap (λ o. is_some (word_of (rows_of t) other) || (is_own o other && knows t other)) (sym c.in-Some.is)
 
+pub returns-then-put_next-clause-next : goal.returns-then-put_next-clause-next
+returns-then-put_next-clause-next c =
+    let t = c.args.self.now in
+    let s = c.put_next.new.self in
+    let new = c.truncate-then-put_next.new.self.entries in
+    let name = c.in-Some.name.bytes in
+    let next = c.put_next.ensures.next c.if-put_next.true in
+    subst (λ o. IfSome o (λ own. word_of (rows_of t) own.bytes ≡ None → knows t own.bytes ≡ true
+    → (word : ℕ) × (take (s.defined + 1) (map row_of new) ≡ take s.defined (map row_of new) ++ (own.bytes, word) ∷ []))) (sym c.in-Some.is)
+    (λ none known. (next.0, next-kept s.table.entries new s.defined (name, next.0) c.truncate-then-put_next.ensures.entries next.1))
+
 pub returns-else-put_next-clause-rows : goal.returns-else-put_next-clause-rows
 returns-else-put_next-clause-rows c =
     let s = c.put_next.new.self in
@@ -72,3 +83,15 @@ returns-else-put_next-clause-others c other =
     let none = sym c.if-put_next.false ∙ c.put_next.ensures.undone in
     left-without s.table.entries new s.defined (rows_of t) (knows t) name c.truncate-else-put_next.ensures.entries c.put_next.ensures.rows none other
     ∙ ap (λ o. is_some (word_of (rows_of t) other) || (is_own o other && knows t other)) (sym c.in-Some.is)
+
+-- it would be undone
+pub returns-else-put_next-clause-next : goal.returns-else-put_next-clause-next
+returns-else-put_next-clause-next c =
+    let t = c.args.self.now in
+    let s = c.put_next.new.self in
+    let new = c.truncate-else-put_next.new.self.entries in
+    let name = c.in-Some.name.bytes in
+    let other = sym c.if-put_next.false ∙ c.put_next.ensures.undone in
+    subst (λ o. IfSome o (λ own. word_of (rows_of t) own.bytes ≡ None → knows t own.bytes ≡ true
+    → (word : ℕ) × (take (s.defined + 1) (map row_of new) ≡ take s.defined (map row_of new) ++ (own.bytes, word) ∷ []))) (sym c.in-Some.is)
+    (λ none known. absurd (true≢false (sym (other ∙ (λ i. not (is_some (none i)) && known i)))))
