@@ -169,14 +169,16 @@ const probe = {
     return [...canvas.getImageData(0, 0, 1, 1).data].slice(0, 3);
   },
 
-  /** The strips in sight in which nothing is framed: their pages, boxes, and the colours of taken and of free. */
-  strips: () => [...document.querySelectorAll('.page svg.strip')]
-    .filter(it => probe.inSight(it) && !it.querySelector('.granted')).map(it => {
+  /** The box of a page's strip, which is brought into sight, and the colours of taken and of free; null if it can't be
+      seen. */
+  strip(number) {
+    const it = document.querySelector(`.page[data-page="${number}"] svg.strip`);
+    if (it && !probe.inSight(it)) it.scrollIntoView({ block: 'center' });
+    if (!it?.checkVisibility() || !probe.inSight(it)) return null;
     const { left, top, width, height } = it.getBoundingClientRect();
     const colours = ['.taken', '.free'].map(kind => probe.screenColour(getComputedStyle(it.querySelector(kind)).fill));
-    const place = [left + scrollX, top + scrollY, width, height];
-    return [+it.closest('.page').dataset.page, place, ...colours];
-  }),
+    return [[left + scrollX, top + scrollY, width, height], ...colours];
+  },
 
   /** Whether all of an element is in sight: in the window, and in each box that cuts it. */
   inSight(element) {
@@ -235,6 +237,16 @@ const probe = {
     it.remove();
     return found;
   }),
+
+  /** The pictures of control bytes in the script: the text of each, and its width in letters. */
+  controls() {
+    const range = document.createRange();
+    return [...document.querySelectorAll('.line .control')].map(it => {
+      range.selectNodeContents(it.closest('.line').querySelector('.number').firstChild);
+      const letter = range.getBoundingClientRect().width / range.toString().length;
+      return [it.textContent, Math.round(100 * it.getBoundingClientRect().width / letter) / 100];
+    });
+  },
 
   /** The lines of the script: number, rows of the text, its mark in column 72 and where that ends, and its reply. */
   async column() {

@@ -78,7 +78,7 @@ ODD: dict[str, bytes] = {
     "one line": b" STORAGE OBTAIN,LENGTH=8",
     "only comments": b"* a\n*\n\n",
     "the end of an element": b"* </script><script>document.title = 'x'</script> <!-- ]]>\n MAP </script>\n",
-    "bytes above 127": b"* \xc4\xe9\xff\x00\x07\x1b\r\n STORAGE OBTAIN,LENGTH=8,ADDR=P \xe4\r\n PEEK P,8\r\n",
+    "bytes above 127": b"* \xc4\xe9\xff\x00\x07\x1b\x7f\r\n STORAGE OBTAIN,LENGTH=8,ADDR=P \xe4\r\n PEEK P,8\r\n",
     "ends within a statement": b" STORAGE OBTAIN,LENGTH=8\n STORAGE OBTAIN,".ljust(96) + b"X",
     "ends within remarks": b" STORAGE OBTAIN,LENGTH=8".ljust(71) + b"X\n",
     "areas that are granted again": AGAIN,
@@ -108,7 +108,10 @@ def try_odd(trials: Trials, browser: Browser, program: str, folder: Path) -> Non
         trials.equal("the title", browser.evaluate("document.title"), f"{name}.vsm · vsm")
         lines = [line.decode("latin-1") for line in split_lines(script)]
         shown = browser.evaluate("[...document.querySelectorAll('.line .text')].map(it => it.textContent)")
-        trials.equal("the script's text", shown[: len(lines)], [shown_line(line.rstrip()) for line in lines])
+        wanted = [shown_line(line.rstrip()) for line in lines]
+        trials.equal("the script's text", shown[: len(lines)], wanted)
+        pictures = [[it, 1] for it in re.findall("[\u2400-\u2421]", "".join(wanted))]
+        trials.equal("pictures as wide as a letter", browser.evaluate(probed("controls()")), pictures)
     path = TOP / "examples" / "cell-pools.vsm"
     part = made(program, path, folder / "a part.html", "--first", "8", "--last", "20")
     try_page(trials, browser, part, keys=False, looks=False)
