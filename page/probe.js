@@ -192,15 +192,15 @@ const probe = {
     return right > left && bottom > top && left >= a - 1 && top >= b - 1 && right <= c + 1 && bottom <= d + 1;
   },
 
-  /** What of a step is in sight: the answer, the drawing of the chosen page (null if there is none), a row of it, and
-      what the statement changed, whose text this has too. */
+  /** What of a step is in sight: the answer, the drawing of the chosen page (null if there is none), and what the
+      statement changed, whose text this has too. */
   sight() {
     const of = part => {
       const it = document.querySelector(part);
       return it && it.checkVisibility() ? probe.inSight(it) : null;
     };
     return {
-      answer: of('.said strong'), lens: of('.lens svg'), row: of('.page[aria-pressed=true]'), what: of('.said .what'),
+      answer: of('.said strong'), lens: of('.lens svg'), what: of('.said .what'),
       text: document.querySelector('.said .what')?.textContent ?? '',
     };
   },

@@ -32,4 +32,4 @@ export function shownLine(line) {
 
 /** A shown text in parts, in which each picture is as wide as a letter: in few fonts it is that by itself. */
 export const inColumns = text =>
-  text.split(PICTURE).map(it => PICTURE.test(it) ? make('span', { class: 'control' }, it) : it);
+  text.split(PICTURE).map((it, k) => k % 2 ? make('span', { class: 'control', title: 'a control byte' }, it) : it);

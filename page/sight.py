@@ -17,8 +17,8 @@ HEIGHT, FAINT = 0.94, 0.18  # of the curves' greatest value; how strong a free b
 MOST_STRIPS = 6
 MOST_PICTURES = 20  # of a strip, until it doesn't move
 WHOLE = ((1440, 900), (1366, 768), (1280, 720), (1024, 768))  # the answer and the chosen page are in sight
-LOW = (853, 480)  # the answer, and a row or the chosen page are, at any statement
-MOST_LINES, MOST_ANSWER = 4, 100  # of a statement, and characters of an answer, with all in sight in larger windows
+MOST_LINES, MOST_ANSWER = 4, 100  # if the statement has at most these lines, and the answer these characters
+LOW = (853, 480)  # here they are at any statement
 MOST_STEPS = 24  # of a page that are looked at in each window
 MOST_COURSE, MOST_ROWS = 300, 48  # steps and pages of a course whose rows are single pages
 # The course is drawn after the rest; until then it may move what is below.
@@ -171,6 +171,10 @@ def signed_bytes(text: str) -> int:
     return sum(int(it.replace("−", "-")) for it, next_ in pairs if it[0] in "+−" and next_.startswith("byte"))
 
 
+def has_storage(state: Map) -> bool:
+    return state.low_assigned + state.high_assigned > 0
+
+
 def try_in_sight(trials: Trials, browser: Browser, page: Page) -> None:
     """At each step the answer, the chosen page and what has changed are in sight."""
     lines = page.data["script"].split("\n")
@@ -181,14 +185,13 @@ def try_in_sight(trials: Trials, browser: Browser, page: Page) -> None:
     for width, height in (*WHOLE, LOW):
         browser.size(width, height)
         browser.settle()
-        is_low = (width, height) == LOW
-        looked_at = steps if is_low else short
+        looked_at = steps if (width, height) == LOW else short
         found = list(zip(looked_at, browser.evaluate(probed(f"at({json.dumps(looked_at)}, probe.sight)"))))
-        out = {"answers": [step for step, it in found if it["answer"] is False],
-               "changes": [step for step, it in found if bool(page.changes(step)) != (it["what"] is True)],
-               "storage": [step for step, it in found if it["lens"] is False and not (is_low and it["row"])]}
+        out = {"answers": [step for step, it in found if not it["answer"]],
+               "changes": [step for step, it in found if page.changes(step) != (it["what"] is True)],
+               "storage": [step for step, it in found if not it["lens"] and has_storage(page.map_at(step))]}
         for what, hidden in out.items():
-            trials.equal(f"{width} x {height}: steps whose {what} no line or row in sight shows", hidden, [])
+            trials.equal(f"{width} x {height}: steps whose {what} are out of sight", hidden, [])
         if width == WHOLE[0][0]:
             try_texts(trials, page, found)
     browser.size(1440, 900)
