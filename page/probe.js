@@ -258,7 +258,7 @@ const probe = {
         const mark = line.querySelector('.mark'), rows = [...line.querySelectorAll('.text .row')];
         found.set(+line.querySelector('.number').textContent, [
           rows.map(it => it.textContent), mark?.textContent ?? '', mark?.getBoundingClientRect().right ?? 0,
-          line.querySelector('.reply').textContent, rows.findIndex(it => it.classList.contains('remarks')),
+          line.querySelector('.reply').textContent,
         ]);
       }
       if (at + box.clientHeight >= box.scrollHeight) return [...found].sort((a, b) => a[0] - b[0]);

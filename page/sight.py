@@ -3,6 +3,8 @@ and the answer with the chosen page and what has changed, in windows from a proj
 from __future__ import annotations
 
 import json
+import re
+from itertools import accumulate
 from typing import Any
 
 from chromium import Browser
@@ -10,7 +12,7 @@ from expected import GRANTED, PAGE, Page, totals
 from on_page import STILL, probed, step_of
 from pixels import Colour, distance, pixels_of
 from trials import Trials
-from vsmtools.lines import LAST_COLUMN, statements
+from vsmtools.lines import LAST_COLUMN, statements, unquoted
 from vsmtools.maps import Map
 
 HEIGHT, FAINT = 0.94, 0.18  # of the curves' greatest value; how strong a free byte is in the course
@@ -137,12 +139,29 @@ def try_course(trials: Trials, browser: Browser, page: Page) -> None:
         trials.want("a click on the course goes there", abs(step_of(browser) - page.steps / 2) <= 1, step_of(browser))
 
 
+def remarks_at(line: str) -> int:
+    """Where the remarks of a statement's first line begin; 0 if it has none."""
+    text = line[:LAST_COLUMN].rstrip()
+    operation = re.match(r"\S* +(\S+) *", text)
+    if not operation:
+        return 0
+    at = operation.end()
+    if operation[1].upper() not in ("MAP", "ENDTASK"):
+        at = next((place for place, char in unquoted(text, at) if char == " "), len(text))
+    return len(text) - len(text[at:].lstrip()) if text[at:].strip() else 0
+
+
+def is_torn(rows: list[str], remarks: int) -> bool:
+    """Whether a line of several rows has remarks that don't begin one of them."""
+    return remarks > 0 and len(rows) > 1 and remarks not in accumulate(map(len, rows))
+
+
 def try_column(trials: Trials, browser: Browser, page: Page) -> None:
     """The script at two widths: column 72 is in one column and in no row of its own, remarks aren't torn from their
     first word, and a reply is after the statement's last line."""
     lines = page.data["script"].split("\n")
     extents = statements([line.encode("latin-1") for line in lines])
-    ends = {it.last for it in extents}
+    firsts, ends = {it.first for it in extents}, {it.last for it in extents}
     within = {number for it in extents for number in range(it.first, it.last + 1)}
     for width, height in WHOLE[:2]:
         browser.size(width, height)
@@ -153,8 +172,7 @@ def try_column(trials: Trials, browser: Browser, page: Page) -> None:
                 and any(len(row.strip()) == 1 and row.strip() == ends_of[number] for row in it[0])]
         trials.equal(f"{width} wide: lines whose column 72 has a row of its own", lone, [])
         trials.want(f"{width} wide: column 72 is one column", len({round(it[1][2]) for it in found if it[1][1]}) <= 1)
-        torn = [it[0] for it in found if it[0] in within and len(it[1][0]) > 1 and it[1][4] < 0
-                and len(it[1][0][0].strip()) < 30 and "," not in it[1][0][1]]
+        torn = [number for number, it in found if number in firsts and is_torn(it[0], remarks_at(lines[number - 1]))]
         trials.equal(f"{width} wide: remarks that are torn", torn, [])
         if width == 1440:
             two = [it[0] for it in found if it[0] in within and len(it[1][0]) > 1]
