@@ -1,7 +1,11 @@
 // What a program's module needs of its host; the same in a browser's worker and in node.
 
 /** A text's characters as bytes; each has to be below 256. */
-export const latin = text => Uint8Array.from(text, it => it.charCodeAt(0));
+export function latin(text) {
+  const bytes = new Uint8Array(text.length);
+  for (let k = 0; k < text.length; k++) bytes[k] = text.charCodeAt(k);
+  return bytes;
+}
 
 /** Bytes as a text, one character for each. (A TextDecoder has no such encoding: its latin1 differs.) */
 export function latinText(bytes) {
