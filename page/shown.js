@@ -1,4 +1,5 @@
 // A script's text as it's shown. The data have one character for each byte.
+import { latin } from './bytes.js';
 import { make } from './elements.js';
 
 const COLUMNS = 71; // before the one whose character continues a statement
@@ -10,7 +11,7 @@ const decoder = new TextDecoder('utf-8', { fatal: true });
 /** Bytes above 127 as letters if they are UTF-8. */
 function decoded(text) {
   try {
-    return decoder.decode(Uint8Array.from(text, it => it.charCodeAt(0)));
+    return decoder.decode(latin(text));
   } catch {
     return text;
   }
