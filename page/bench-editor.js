@@ -11,8 +11,8 @@ function linesIn(text) {
   return count;
 }
 
-/** `edited` is called at each edit, and calls `show`; `chosen` with the line whose reply is clicked; `refused` with what
-    a large paste would make of the script: it says whether that's refused. */
+/** `edited` is called at each edit, and calls `show`; `chosen` with the line whose reply is clicked; `refused` with
+    what a large paste would make of the script: it says whether that's refused. */
 export function editorOf(parts, edited, chosen, refused) {
   const { area, numbers, replies, now, caret, marks } = parts;
   const lineHeight = () => parseFloat(getComputedStyle(area).lineHeight);

@@ -209,6 +209,16 @@ const probe = {
   taken: () => Object.fromEntries([...document.querySelectorAll('.by-line tr')].filter(it => it.querySelector('td'))
     .map(it => [it.cells[0].textContent, +it.cells[1].textContent.replaceAll(',', '')])),
 
+  /** The cells of cell pools: in use, free, and next ones; and how many of their groups aren't in window.before, of how
+      many. */
+  cells() {
+    const boxes = kind => [...document.querySelectorAll(`.extent path[class="${kind}"]`)]
+      .reduce((sum, it) => sum + it.getAttribute('d').split('M').length - 1, 0);
+    const groups = [...document.querySelectorAll('.extent g')];
+    return [boxes('cell'), boxes('freecell'), boxes('freecell next'),
+      groups.filter(it => !window.before?.has(it)).length, groups.length];
+  },
+
   /** The curves: what each path reaches, as a share of the drawing's height, and the texts of what they reach. */
   curves: () => ({
     most: Object.fromEntries([...document.querySelectorAll('.curves path')].map(it =>

@@ -94,8 +94,9 @@ export function saidPart(view) {
     stop();
     const text = view.step ? view.textOfStatement(view.step) : '';
     const shown = text.split('\n').map(it => shownLine(it.slice(0, BEFORE_MARK).trimEnd())).join('\n');
+    const parts = () => view.step > view.told ? question() : answer(text);
     if (!view.step) element.replaceChildren(...start());
-    else element.replaceChildren(make('pre', {}, ...inColumns(shown)), ...view.step > view.told ? question() : answer(text));
+    else element.replaceChildren(make('pre', {}, ...inColumns(shown)), ...parts());
     element.append(...warning());
   }
   return { element, draw, close: () => stop() };

@@ -4,7 +4,7 @@ import { make } from './elements.js';
 
 const COLUMNS = 71; // before the one whose character continues a statement
 const HIDDEN = /[\0-\x1f\x7f-\x9f\u200b-\u200f\u2028-\u202e\u2060-\u2069\ufeff]/g;
-const SIGN = '\ufffd', PICTURES = 0x2400, PICTURE_OF_DELETE = '\u2421';
+const SIGN = '\ufffd', DELETE = '\x7f', PICTURES = 0x2400, PICTURE_OF_DELETE = '\u2421';
 const PICTURE = /([\u2400-\u2421])/;
 const decoder = new TextDecoder('utf-8', { fatal: true });
 
@@ -18,7 +18,8 @@ function decoded(text) {
 }
 
 /** The picture of a control byte; a sign for what has none. */
-const signOf = it => it < ' ' ? String.fromCharCode(PICTURES + it.charCodeAt(0)) : it === '\x7f' ? PICTURE_OF_DELETE : SIGN;
+const signOf = it =>
+  it === DELETE ? PICTURE_OF_DELETE : it < ' ' ? String.fromCharCode(PICTURES + it.charCodeAt(0)) : SIGN;
 
 /** A line as it's shown: as UTF-8 if it is that, with column 72 in its place; with pictures of control bytes, and a
     sign for each letter that has no width or changes the order of others. */

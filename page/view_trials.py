@@ -72,6 +72,8 @@ BY_A_GET = b"""\
  CPOOL GET,CPID=CP
  CPOOL GET,CPID=CP
 """
+MANY_CELLS = 1000
+CELLS = f" CPOOL BUILD,PCELLCT={MANY_CELLS},CSIZE=8,CPID=CP,SP=1\n".encode() + b" CPOOL GET,CPID=CP\n" * 3
 ODD: dict[str, bytes] = {
     "an extent that a GET makes": BY_A_GET,
     "no line": b"",
@@ -188,6 +190,19 @@ def try_ends(trials: Trials, browser: Browser, page: Path) -> None:
                 break
             browser.settle()
         trials.equal(f"the end of the area of line {step}", browser.evaluate(end), f" {text}")
+
+
+def try_cells(trials: Trials, browser: Browser, page: Path) -> None:
+    """A cell pool's drawing has each cell, and a step draws only those near a changed one anew."""
+    browser.open(f"{page.resolve().as_uri()}#2", READY)
+    browser.settle()
+    drawn = probed("cells()")
+    trials.equal("the cells after a GET", browser.evaluate(drawn)[:3], [1, MANY_CELLS - 2, 1])
+    browser.evaluate("window.before = new Set(document.querySelectorAll('.extent g'))")
+    browser.key("ArrowRight")
+    *kinds, fresh, all_of = browser.evaluate(drawn)
+    trials.equal("and after another one", kinds, [2, MANY_CELLS - 3, 1])
+    trials.want("few cells are drawn anew", fresh == 1 and all_of > 4, (fresh, all_of))
 
 
 def damaged(text: str) -> dict[str, str]:
@@ -307,6 +322,10 @@ def try_all(trials: Trials, browser: Browser, programs: Programs) -> None:
         script.write_bytes(ENDS)
         trials.subject = script.name
         try_ends(trials, browser, made(program, script, folder / "ends.html"))
+        script = folder / "cells.vsm"
+        script.write_bytes(CELLS)
+        trials.subject = script.name
+        try_cells(trials, browser, made(program, script, folder / "cells.html"))
         made_by, told = hashlib.sha256(Path(program).read_bytes()).hexdigest(), Page.of(pages[0]).data["program"]
         is_proved = subprocess.run([TOP / "prove", "--check", program]).returncode == 0 and "unproved" not in program
         trials.want("the foot says by its sum whether the program is proved",
