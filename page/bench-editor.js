@@ -5,15 +5,16 @@ import { make } from './elements.js';
 const ABOVE = 10, LEFT = 8; // pixels above the first line and before each, as in bench.css
 const LARGE = 10_000; // characters of a text that may make the script too long
 
-/** `edited` is called at each edit, `chosen` with the line whose reply is clicked, `refused` with what a large paste
-    would make of the script: it says whether that's refused. */
+function linesIn(text) {
+  let count = 1;
+  for (let at = text.indexOf('\n'); at >= 0; at = text.indexOf('\n', at + 1)) count++;
+  return count;
+}
+
+/** `edited` is called at each edit, and calls `show`; `chosen` with the line whose reply is clicked; `refused` with
+    what a large paste would make of the script: it says whether that's refused. */
 export function editorOf(parts, edited, chosen, refused) {
   const { area, numbers, replies, now, caret, marks } = parts;
-  const lines = () => {
-    let count = 1;
-    for (let at = area.value.indexOf('\n'); at >= 0; at = area.value.indexOf('\n', at + 1)) count++;
-    return count;
-  };
   const lineHeight = () => parseFloat(getComputedStyle(area).lineHeight);
   const none = () => undefined;
   let count = 1, told = none, present = [0, 0], faults = [];
@@ -41,17 +42,13 @@ export function editorOf(parts, edited, chosen, refused) {
     now.style.height = `${(to - from + 1) * line}px`;
   }
   function drawCaret() {
-    const before = area.value.slice(0, area.selectionStart), line = before.split('\n').length;
-    caret.textContent = `line ${line}, column ${before.length - before.lastIndexOf('\n')}`;
-  }
-  function changed() {
-    count = lines();
-    drawBeside();
-    drawCaret();
+    const before = area.value.slice(0, area.selectionStart);
+    caret.textContent = `line ${linesIn(before)}, column ${before.length - before.lastIndexOf('\n')}`;
   }
   area.addEventListener('input', () => {
+    count = linesIn(area.value);
     edited();
-    changed();
+    drawCaret();
   });
   /** A large text that is pasted or dropped is judged before the field has to hold it. */
   function judge(event, data) {
@@ -76,7 +73,9 @@ export function editorOf(parts, edited, chosen, refused) {
       told = none;
       present = [0, 0];
       faults = [];
-      changed();
+      count = linesIn(area.value);
+      drawBeside();
+      drawCaret();
     },
     /** Shows replies, by a function of the line, and marks faults and the lines of the present statement; these are
         scrolled to if they have moved. */

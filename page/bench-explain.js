@@ -1,9 +1,9 @@
 // The panel that explains the present statement, and the faults of a script, by the module of vsm-explain.
 import { bytesOf, gunzipped } from './bench-keep.js';
 import { runnerOf } from './bench-runner.js';
+import { latin } from './bytes.js';
 import { make } from './elements.js';
 import { placesIn, shell } from './explain-questions.js';
-import { latin } from './module-host.js';
 
 const SETTLING = 50; // milliseconds from a step until its questions are asked, so that those passed by aren't
 const MOST_SHOWN = 2 ** 20; // characters of an answer

@@ -1,6 +1,6 @@
 // Scripts with their options as links hold them.
 import { MOST_BYTES } from './bench-script.js';
-import { latin, latinText } from './module-host.js';
+import { latin, latinText } from './bytes.js';
 
 export const MOST_LINK = 32 * 1024; // characters of the address
 export const NAMES = ['low', 'high', 'residence', 'history'];

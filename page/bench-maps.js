@@ -1,6 +1,7 @@
 // What vsm-view does, on bytes: a script with a MAP before each statement and after the last.
+import { latin, latinText } from './bytes.js';
 import { Run } from './map.js';
-import { joinedBytes, latin, latinText } from './module-host.js';
+import { joinedBytes } from './module-host.js';
 
 const LINE_FEED = 10, BLANK = 32, BYTES_IN_ROW = 16, MOST_PEEKS = 200_000, MOST_MAPS = 4 * 2 ** 20;
 const POKED = /^\S* +POKE +([^ ,]+),(X'[0-9A-F]*)?/i;

@@ -36,7 +36,7 @@ export function editedAt(at, now = Date.now()) {
 export class OwnScripts {
   /** `storage` returns the browser's storage; that, and each use of it, may throw. */
   constructor(storage, now = Date.now) {
-    Object.assign(this, { storage, now, id: null, seen: '' });
+    Object.assign(this, { storage, now, id: null, seen: '', read: { text: null, found: null } });
     this.moveOld();
   }
 
@@ -49,8 +49,12 @@ export class OwnScripts {
     }
   }
 
+  /** An entry; that of the last one is kept as long as its text is the same, since each step asks for it. */
   get(id) {
-    return this.tried(it => ownOf(parsed(it.getItem(KEY + id)), id), null);
+    const text = this.tried(it => it.getItem(KEY + id), null);
+    if (text === null) return null;
+    if (this.read.text !== text || this.read.found?.id !== id) this.read = { text, found: ownOf(parsed(text), id) };
+    return this.read.found;
   }
 
   /** All of them, the last edited one first. */
@@ -76,12 +80,12 @@ export class OwnScripts {
   /** Keeps a script in this window's entry: in a new one if it has none, or if another window has written that one,
       which `isOther` says. Nothing is dropped for it: `isFull` says that there is no room for one more. */
   write(own) {
-    const kept = this.id === null ? null : this.get(this.id), content = contentOf(own);
-    if (kept && contentOf(kept) === content && kept.name === own.name) {
+    const kept = this.id === null ? null : this.get(this.id), content = contentOf(own), had = kept && contentOf(kept);
+    if (kept && had === content && kept.name === own.name) {
       this.seen = content;
       return { isKept: true };
     }
-    const isOther = kept !== null && contentOf(kept) !== this.seen && contentOf(kept) !== content;
+    const isOther = kept !== null && had !== this.seen && had !== content;
     if ((!kept || isOther) && this.all().length >= MOST_OWN) return { isKept: false, isFull: true };
     if (this.id === null || isOther) this.id = `${this.now()} ${Math.random()}`;
     const isKept = this.put({ ...own, id: this.id, at: this.now() });

@@ -1,7 +1,7 @@
 // The worker of the bench: it runs a script, and then again with maps put in, and reports its progress.
 import { answersOf, bytesSeen, isSameRun, peeksOf, rowsToPeek, withLines } from './bench-maps.js';
 import { ranOver, reasonOf, TooMuch } from './bench-run.js';
-import { latin } from './module-host.js';
+import { latin } from './bytes.js';
 
 const PAUSE = 100; // milliseconds between two reports of progress
 const MOST_OUTPUT = 128 * 2 ** 20; // bytes: what the page can go through without a long pause

@@ -8,8 +8,8 @@ import { editedAt, MOST_OWN, OwnScripts } from './bench-own.js';
 import { ownList } from './bench-own-list.js';
 import { runnerOf } from './bench-runner.js';
 import { editorText, faultOfScript, optionsIn } from './bench-script.js';
+import { latin, latinText } from './bytes.js';
 import { make } from './elements.js';
-import { latin, latinText } from './module-host.js';
 import { kindOf } from './replies.js';
 import { showRun } from './view.js';
 

@@ -33,12 +33,17 @@ def decoded(text: str) -> str:
         return text
 
 
+def sign_of(found: re.Match[str]) -> str:
+    code = ord(found[0])
+    return chr(0x2400 + code) if code < 32 else "\u2421" if code == 127 else "\ufffd"
+
+
 def shown_line(line: str) -> str:
-    """A line of a script as a page shows it: UTF-8 as letters, column 72 in its place, a sign for control bytes."""
+    """A line of a script as a page shows it: UTF-8 as letters, column 72 in its place, pictures of control bytes."""
     front, rest = decoded(line[:71]), line[71:]
     is_cut = front == line[:71] and re.search(r"[\x80-\xff]", front)
     text = decoded(line) if is_cut or not rest else front.ljust(71) + decoded(rest)
-    return HIDDEN.sub("\ufffd", text)
+    return HIDDEN.sub(sign_of, text)
 
 
 @dataclass

@@ -1,7 +1,7 @@
 // The worker that explains: it runs vsm-explain once for each question about a script.
 import { ranOver, reasonOf } from './bench-run.js';
+import { latinText } from './bytes.js';
 import { whoAsked } from './explain-questions.js';
-import { latinText } from './module-host.js';
 
 const MOST_OUTPUT = 16 * 2 ** 20; // bytes
 const encoder = new TextEncoder();

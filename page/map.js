@@ -1,4 +1,6 @@
 // What vsm printed for a script with inserted maps, and the states that these maps show.
+import { latin } from './bytes.js';
+
 export const PAGE = 4096;
 const COLOURS = 8;
 
@@ -10,8 +12,7 @@ async function textOf(data) {
   if (typeof data?.script !== 'string') throw new Sentence('This page is damaged: it has no data of a run.');
   if (typeof data.text === 'string') return data.text;
   try {
-    const bytes = Uint8Array.from(atob(data.output), it => it.charCodeAt(0));
-    const stream = new Blob([bytes]).stream().pipeThrough(new DecompressionStream('gzip'));
+    const stream = new Blob([latin(atob(data.output))]).stream().pipeThrough(new DecompressionStream('gzip'));
     return new TextDecoder('latin1').decode(await new Response(stream).arrayBuffer());
   } catch {
     throw new Sentence('This page is damaged: what vsm printed can’t be unpacked.');

@@ -1,15 +1,5 @@
 // What a program's module needs of its host; the same in a browser's worker and in node.
 
-/** A text's characters as bytes; each has to be below 256. */
-export const latin = text => Uint8Array.from(text, it => it.charCodeAt(0));
-
-/** Bytes as a text, one character for each. (A TextDecoder has no such encoding: its latin1 differs.) */
-export function latinText(bytes) {
-  let text = '';
-  for (let at = 0; at < bytes.length; at += 0x8000) text += String.fromCharCode(...bytes.subarray(at, at + 0x8000));
-  return text;
-}
-
 /** Pieces of bytes, joined. */
 export function joinedBytes(pieces) {
   const whole = new Uint8Array(pieces.reduce((sum, it) => sum + it.length, 0));

@@ -3,7 +3,8 @@
 // number of bytes read of the script. Its own arguments are the module and the program's name.
 import fs from 'node:fs';
 import readline from 'node:readline';
-import { latin, latinText, runProgram } from './module-host.js';
+import { latin, latinText } from './bytes.js';
+import { runProgram } from './module-host.js';
 
 const FOLDER = 100, FIRST_FILE = 101;
 const program = new WebAssembly.Module(fs.readFileSync(process.argv[2])), programName = latin(process.argv[3]);

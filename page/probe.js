@@ -169,14 +169,16 @@ const probe = {
     return [...canvas.getImageData(0, 0, 1, 1).data].slice(0, 3);
   },
 
-  /** The strips in sight in which nothing is framed: their pages, boxes, and the colours of taken and of free. */
-  strips: () => [...document.querySelectorAll('.page svg.strip')]
-    .filter(it => probe.inSight(it) && !it.querySelector('.granted')).map(it => {
+  /** The box of a page's strip, which is brought into sight, and the colours of taken and of free; null if it can't be
+      seen. */
+  strip(number) {
+    const it = document.querySelector(`.page[data-page="${number}"] svg.strip`);
+    if (it && !probe.inSight(it)) it.scrollIntoView({ block: 'center' });
+    if (!it?.checkVisibility() || !probe.inSight(it)) return null;
     const { left, top, width, height } = it.getBoundingClientRect();
     const colours = ['.taken', '.free'].map(kind => probe.screenColour(getComputedStyle(it.querySelector(kind)).fill));
-    const place = [left + scrollX, top + scrollY, width, height];
-    return [+it.closest('.page').dataset.page, place, ...colours];
-  }),
+    return [[left + scrollX, top + scrollY, width, height], ...colours];
+  },
 
   /** Whether all of an element is in sight: in the window, and in each box that cuts it. */
   inSight(element) {
@@ -190,15 +192,15 @@ const probe = {
     return right > left && bottom > top && left >= a - 1 && top >= b - 1 && right <= c + 1 && bottom <= d + 1;
   },
 
-  /** What of a step is in sight: the answer, the drawing of the chosen page (null if there is none), a row of it, and
-      what the statement changed, whose text this has too. */
+  /** What of a step is in sight: the answer, the drawing of the chosen page (null if there is none), and what the
+      statement changed, whose text this has too. */
   sight() {
     const of = part => {
       const it = document.querySelector(part);
       return it && it.checkVisibility() ? probe.inSight(it) : null;
     };
     return {
-      answer: of('.said strong'), lens: of('.lens svg'), row: of('.page[aria-pressed=true]'), what: of('.said .what'),
+      answer: of('.said strong'), lens: of('.lens svg'), what: of('.said .what'),
       text: document.querySelector('.said .what')?.textContent ?? '',
     };
   },
@@ -206,6 +208,16 @@ const probe = {
   /** What is still taken, by line: texts and bytes. */
   taken: () => Object.fromEntries([...document.querySelectorAll('.by-line tr')].filter(it => it.querySelector('td'))
     .map(it => [it.cells[0].textContent, +it.cells[1].textContent.replaceAll(',', '')])),
+
+  /** The cells of cell pools: in use, free, and next ones; and how many of their groups aren't in window.before, of how
+      many. */
+  cells() {
+    const boxes = kind => [...document.querySelectorAll(`.extent path[class="${kind}"]`)]
+      .reduce((sum, it) => sum + it.getAttribute('d').split('M').length - 1, 0);
+    const groups = [...document.querySelectorAll('.extent g')];
+    return [boxes('cell'), boxes('freecell'), boxes('freecell next'),
+      groups.filter(it => !window.before?.has(it)).length, groups.length];
+  },
 
   /** The curves: what each path reaches, as a share of the drawing's height, and the texts of what they reach. */
   curves: () => ({
@@ -236,6 +248,16 @@ const probe = {
     return found;
   }),
 
+  /** The pictures of control bytes in the script: the text of each, and its width in letters. */
+  controls() {
+    const range = document.createRange();
+    return [...document.querySelectorAll('.line .control')].map(it => {
+      range.selectNodeContents(it.closest('.line').querySelector('.number').firstChild);
+      const letter = range.getBoundingClientRect().width / range.toString().length;
+      return [it.textContent, Math.round(100 * it.getBoundingClientRect().width / letter) / 100];
+    });
+  },
+
   /** The lines of the script: number, rows of the text, its mark in column 72 and where that ends, and its reply. */
   async column() {
     const box = document.querySelector('.script'), found = new Map();
@@ -246,7 +268,7 @@ const probe = {
         const mark = line.querySelector('.mark'), rows = [...line.querySelectorAll('.text .row')];
         found.set(+line.querySelector('.number').textContent, [
           rows.map(it => it.textContent), mark?.textContent ?? '', mark?.getBoundingClientRect().right ?? 0,
-          line.querySelector('.reply').textContent, rows.findIndex(it => it.classList.contains('remarks')),
+          line.querySelector('.reply').textContent,
         ]);
       }
       if (at + box.clientHeight >= box.scrollHeight) return [...found].sort((a, b) => a[0] - b[0]);

@@ -178,7 +178,7 @@ test('a line as it’s shown', () => {
   const bytes = text => String.fromCharCode(...new TextEncoder().encode(text));
   assert.equal(shownLine(bytes('* größer')), '* größer');
   assert.equal(shownLine('* \xe4\xff'), '* \xe4\xff');
-  assert.equal(shownLine('a\x07\x1bb'), 'a\ufffd\ufffdb');
+  assert.equal(shownLine('a\x07\x1bb\x7f\x80'), 'a\u2407\u241bb\u2421\ufffd');
   const long = bytes(' MAP  ä').padEnd(71) + 'X';
   assert.deepEqual([shownLine(long).length, shownLine(long).at(71)], [72, 'X']);
   assert.equal(shownLine(bytes('* \u202e')), '* \ufffd');

@@ -128,7 +128,6 @@ export function regionsPart(view) {
     drawRegion(sections[0], HIGH / PAGE, state.highOf, state.high);
     drawRegion(sections[1], LOW / PAGE, state.lowOf, state.low);
     element.parentElement.classList.toggle('full', element.querySelectorAll('.page').length > MANY_ROWS);
-    reveal();
   }
   /** To the page this many rows further, if a row has the focus. */
   function move(row, by) {
@@ -136,5 +135,5 @@ export function regionsPart(view) {
     if (next) view.choose(+next.dataset.page);
   }
   const focus = () => element.querySelector(`[data-page="${view.chosen}"]`)?.focus({ preventScroll: false });
-  return { element, draw, move, focus };
+  return { element, draw, drawn: reveal, move, focus };
 }

@@ -3,7 +3,7 @@ import { inSlices } from './course.js';
 import { count, make } from './elements.js';
 import { meaningOf } from './meanings.js';
 import { kindOf } from './replies.js';
-import { shownLine } from './shown.js';
+import { inColumns, shownLine } from './shown.js';
 import { changedLine } from './summary.js';
 import { endOfArea } from './taken.js';
 
@@ -17,6 +17,7 @@ export function spoken(view) {
 }
 
 const LONG = 80; // characters of an answer that has smaller letters
+const BEFORE_MARK = 71; // columns of a line that are the statement's: column 72 only says that it's continued
 const muted = text => make('p', { class: 'muted' }, text);
 
 /** What an answer leaves, or what to do about it: folded until it's first opened. */
@@ -91,9 +92,11 @@ export function saidPart(view) {
   }
   function draw() {
     stop();
-    const text = view.step ? view.textOfStatement(view.step) : '', shown = text.split('\n').map(shownLine).join('\n');
+    const text = view.step ? view.textOfStatement(view.step) : '';
+    const shown = text.split('\n').map(it => shownLine(it.slice(0, BEFORE_MARK).trimEnd())).join('\n');
+    const parts = () => view.step > view.told ? question() : answer(text);
     if (!view.step) element.replaceChildren(...start());
-    else element.replaceChildren(make('pre', {}, shown), ...view.step > view.told ? question() : answer(text));
+    else element.replaceChildren(make('pre', {}, ...inColumns(shown)), ...parts());
     element.append(...warning());
   }
   return { element, draw, close: () => stop() };

@@ -3,7 +3,7 @@
 import { make } from './elements.js';
 import { withoutRemarks } from './remarks.js';
 import { kindOf } from './replies.js';
-import { shownLine } from './shown.js';
+import { inColumns, shownLine } from './shown.js';
 
 const BEYOND = 8, GAP = 2; // lines beyond those in sight; characters between a statement and its reply
 const COLUMN_72 = 71, INDENT = 4; // the place of column 72; the columns before remarks in a row of their own
@@ -107,13 +107,15 @@ export function scriptPart(view) {
   /** A row of a line; blanks at its end that don't fit aren't shown. */
   function rowElement(text, most, kind = 'row') {
     const over = text.length > most ? text.slice(most) : '';
-    return make('span', { class: kind }, text.slice(0, most), over && make('span', { hidden: true }, over));
+    const rest = over && make('span', { hidden: true }, over);
+    return make('span', { class: kind }, ...inColumns(text.slice(0, most)), rest);
   }
   function textElement(name, { rows, more, mark }) {
     const { most } = layout, width = most - (mark && mark.length + 1);
     return make(
       name, { class: 'text' }, ...rows.map(it => rowElement(it, width)),
-      ...more.map(it => rowElement(it, most - INDENT, 'row remarks')), mark && make('span', { class: 'mark' }, mark)
+      ...more.map(it => rowElement(it, most - INDENT, 'row remarks')),
+      mark && make('span', { class: 'mark' }, ...inColumns(mark))
     );
   }
   function lineOf(number, from, to) {

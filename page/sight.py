@@ -3,21 +3,24 @@ and the answer with the chosen page and what has changed, in windows from a proj
 from __future__ import annotations
 
 import json
+import re
+from itertools import accumulate
 from typing import Any
 
 from chromium import Browser
-from expected import PAGE, Page, totals
+from expected import GRANTED, PAGE, Page, totals
 from on_page import STILL, probed, step_of
 from pixels import Colour, distance, pixels_of
 from trials import Trials
-from vsmtools.lines import LAST_COLUMN, statements
+from vsmtools.lines import LAST_COLUMN, statements, unquoted
 from vsmtools.maps import Map
 
 HEIGHT, FAINT = 0.94, 0.18  # of the curves' greatest value; how strong a free byte is in the course
 MOST_STRIPS = 6
+MOST_PICTURES = 20  # of a strip, until it doesn't move
 WHOLE = ((1440, 900), (1366, 768), (1280, 720), (1024, 768))  # the answer and the chosen page are in sight
-LOW = (853, 480)  # a row or the chosen page is, if the statement has one line
-MOST_LINES, MOST_ANSWER = 3, 100  # of a statement, and characters of an answer, with all in sight
+MOST_LINES, MOST_ANSWER = 4, 100  # if the statement has at most these lines, and the answer these characters
+LOW = (853, 480)  # here they are at any statement
 MOST_STEPS = 24  # of a page that are looked at in each window
 MOST_COURSE, MOST_ROWS = 300, 48  # steps and pages of a course whose rows are single pages
 # The course is drawn after the rest; until then it may move what is below.
@@ -36,32 +39,36 @@ def free_in(state: Map, number: int) -> int | None:
 
 def colours_of(browser: Browser, number: int) -> tuple[Colour, Colour, Colour] | None:
     """The mean colour of a page's strip, and those of taken and of free, of a picture during which it didn't move; None
-    if it moved out of sight."""
-    def here() -> list[Any]:
-        return next((it[1:] for it in browser.evaluate(probed("strips()")) if it[0] == number), [])
-    while is_at := here():
+    if it can't be brought into sight."""
+    for _ in range(MOST_PICTURES):
+        if not (is_at := browser.evaluate(probed(f"strip({number})"))):
+            return None
+        browser.settle()
         (left, top, wide, high), taken, free = is_at
         seen = pixels_of(browser.png({"x": left + 4, "y": top + 5, "width": wide - 8, "height": high - 10}))
-        if here() == is_at:
+        if browser.evaluate(probed(f"strip({number})")) == is_at:
             return seen.mean(0, 0, seen.wide, len(seen.rows)), tuple(taken), tuple(free)
     return None
 
 
 def try_pixels(trials: Trials, browser: Browser, page: Page) -> None:
     """By its pixels a page that is wholly taken has its subpool's colour: it never is as pale as free storage."""
-    pools = page.map_at(page.steps).cell_pools
-    full = [] if pools else [it for it in range(6, 64) if free_in(page.map_at(page.steps), it) == 0]
+    state, granted = page.map_at(page.steps), page.shown and GRANTED.fullmatch(page.shown[-1].text)
+    framed = range(0)
+    if granted:
+        start, length = (int(it, 16) for it in granted.groups())
+        framed = range(start // PAGE, (start + length - 1) // PAGE + 1)
+    full = [] if state.cell_pools else [it for it in range(6, 64) if free_in(state, it) == 0 and it not in framed]
     for scheme in ("light", "dark"):
         browser.media(prefers_color_scheme=scheme, **STILL)
         for width in (390, 1440, 1920):
             browser.size(width, 900)
             browser.evaluate(probed(f"at([{page.steps}])"))
             browser.evaluate(COURSE_DONE)
-            browser.settle()
-            for number in [it[0] for it in browser.evaluate(probed("strips()"))[:MOST_STRIPS] if it[0] in full]:
+            for number in full[:MOST_STRIPS]:
                 found = colours_of(browser, number)
                 trials.want(f"{scheme}, {width} wide: the full page {number:X}000 looks full",
-                    not found or distance(found[0], found[1]) < distance(found[0], found[2]) / 2, found)
+                    found and distance(found[0], found[1]) < distance(found[0], found[2]) / 2, found)
     browser.media(**STILL)
     browser.size(1440, 900)
 
@@ -132,12 +139,29 @@ def try_course(trials: Trials, browser: Browser, page: Page) -> None:
         trials.want("a click on the course goes there", abs(step_of(browser) - page.steps / 2) <= 1, step_of(browser))
 
 
+def remarks_at(line: str) -> int:
+    """Where the remarks of a statement's first line begin; 0 if it has none."""
+    text = line[:LAST_COLUMN].rstrip()
+    operation = re.match(r"\S* +(\S+) *", text)
+    if not operation:
+        return 0
+    at = operation.end()
+    if operation[1].upper() not in ("MAP", "ENDTASK"):
+        at = next((place for place, char in unquoted(text, at) if char == " "), len(text))
+    return len(text) - len(text[at:].lstrip()) if text[at:].strip() else 0
+
+
+def is_torn(rows: list[str], remarks: int) -> bool:
+    """Whether a line of several rows has remarks that don't begin one of them."""
+    return remarks > 0 and len(rows) > 1 and remarks not in accumulate(map(len, rows))
+
+
 def try_column(trials: Trials, browser: Browser, page: Page) -> None:
     """The script at two widths: column 72 is in one column and in no row of its own, remarks aren't torn from their
     first word, and a reply is after the statement's last line."""
     lines = page.data["script"].split("\n")
     extents = statements([line.encode("latin-1") for line in lines])
-    ends = {it.last for it in extents}
+    firsts, ends = {it.first for it in extents}, {it.last for it in extents}
     within = {number for it in extents for number in range(it.first, it.last + 1)}
     for width, height in WHOLE[:2]:
         browser.size(width, height)
@@ -148,8 +172,7 @@ def try_column(trials: Trials, browser: Browser, page: Page) -> None:
                 and any(len(row.strip()) == 1 and row.strip() == ends_of[number] for row in it[0])]
         trials.equal(f"{width} wide: lines whose column 72 has a row of its own", lone, [])
         trials.want(f"{width} wide: column 72 is one column", len({round(it[1][2]) for it in found if it[1][1]}) <= 1)
-        torn = [it[0] for it in found if it[0] in within and len(it[1][0]) > 1 and it[1][4] < 0
-                and len(it[1][0][0].strip()) < 30 and "," not in it[1][0][1]]
+        torn = [number for number, it in found if number in firsts and is_torn(it[0], remarks_at(lines[number - 1]))]
         trials.equal(f"{width} wide: remarks that are torn", torn, [])
         if width == 1440:
             two = [it[0] for it in found if it[0] in within and len(it[1][0]) > 1]
@@ -166,30 +189,27 @@ def signed_bytes(text: str) -> int:
     return sum(int(it.replace("−", "-")) for it, next_ in pairs if it[0] in "+−" and next_.startswith("byte"))
 
 
+def has_storage(state: Map) -> bool:
+    return state.low_assigned + state.high_assigned > 0
+
+
 def try_in_sight(trials: Trials, browser: Browser, page: Page) -> None:
     """At each step the answer, the chosen page and what has changed are in sight."""
     lines = page.data["script"].split("\n")
     extents = {it.first: it.last - it.first + 1 for it in statements([line.encode("latin-1") for line in lines])}
-    each = max(1, page.steps // MOST_STEPS)
-    steps = [it for it in range(1, page.steps + 1, each)
-             if extents.get(page.line_of(page.shown[it - 1]), 1) <= MOST_LINES
+    steps = list(range(1, page.steps + 1, max(1, page.steps // MOST_STEPS)))
+    short = [it for it in steps if extents.get(page.line_of(page.shown[it - 1]), 1) <= MOST_LINES
              and len(page.shown[it - 1].text) <= MOST_ANSWER]
     for width, height in (*WHOLE, LOW):
         browser.size(width, height)
         browser.settle()
-        found = list(zip(steps, browser.evaluate(probed(f"at({json.dumps(steps)}, probe.sight)"))))
-        out: dict[str, list[int]] = {"answer": [], "what": []}
-        for step, it in found:
-            out["answer"] += [step] * (it["answer"] is False)
-            out["what"] += [step] * (bool(page.changes(step)) != (it["what"] is True))
-        trials.equal(f"{width} x {height}: answers out of sight", out["answer"], [])
-        trials.equal(f"{width} x {height}: changes that no line in sight names", out["what"], [])
-        if (width, height) == LOW:
-            short = {it for it in steps if extents.get(page.line_of(page.shown[it - 1]), 1) == 1}
-            hidden = [step for step, it in found if it["lens"] is False and not it["row"] and step in short]
-        else:
-            hidden = [step for step, it in found if it["lens"] is False]
-        trials.equal(f"{width} x {height}: steps without their storage in sight", hidden, [])
+        looked_at = steps if (width, height) == LOW else short
+        found = list(zip(looked_at, browser.evaluate(probed(f"at({json.dumps(looked_at)}, probe.sight)"))))
+        out = {"answers": [step for step, it in found if not it["answer"]],
+               "changes": [step for step, it in found if page.changes(step) != (it["what"] is True)],
+               "storage": [step for step, it in found if not it["lens"] and has_storage(page.map_at(step))]}
+        for what, hidden in out.items():
+            trials.equal(f"{width} x {height}: steps whose {what} are out of sight", hidden, [])
         if width == WHOLE[0][0]:
             try_texts(trials, page, found)
     browser.size(1440, 900)

@@ -1,5 +1,5 @@
 // The tasks as a tree, each with the subpools that it owns and shares, and the registers of one of them.
-import { count, make, panel, placeOf, tag } from './elements.js';
+import { count, make, panel, placeOf, put, tag } from './elements.js';
 
 const MOST_TAGS = 12;
 
@@ -67,26 +67,22 @@ function taskOf(view, task, seen) {
 }
 
 export function tasksPart(view) {
-  const element = make('div', {});
-  let shown = null;
+  const tree = make('div', { class: 'tree' }), whole = panel('Tasks and their subpools', tree);
+  const element = make('div', {}, whole), [heading] = whole.childNodes;
   /** Scrolls the tree to a task that begins to make the requests, if it's out of sight. */
-  function reveal(tree, was) {
+  function reveal() {
     const task = tree.querySelector('.current');
-    tree.scrollTop = was;
-    shown = tree;
     if (!task || tree.scrollHeight <= tree.clientHeight) return;
     const box = tree.getBoundingClientRect(), { top, bottom } = task.getBoundingClientRect();
     if (top < box.top || bottom > box.bottom) tree.scrollTop += top - box.top - tree.clientHeight / 3;
   }
   function draw() {
     const seen = { now: seenBy(view.moment.state), earlier: seenBy(view.moment.before) };
-    const tree = make('div', { class: 'tree' }, branchOf(view, 0, seen));
-    const top = shown?.scrollTop ?? 0;
-    element.replaceChildren(panel('Tasks and their subpools', tree, endedOf(view.moment)));
-    reveal(tree, top);
+    put(tree, [branchOf(view, 0, seen)]);
+    put(whole, [heading, tree, endedOf(view.moment)].filter(Boolean));
   }
   const focus = number => element.querySelector(`[data-task="${number}"]`)?.focus();
-  return { element, draw, focus };
+  return { element, draw, drawn: reveal, focus };
 }
 
 export function registersPart(view) {

@@ -149,6 +149,7 @@ class View {
     this.task = this.moment.state.tasks.find(it => it.number === this.picked) ??
       this.moment.state.tasks.find(it => it.current);
     for (const part of this.parts) part.draw();
+    for (const part of this.parts) part.drawn?.(); // what needs the layout, which is then made once
     const text = spoken(this);
     if (this.live.textContent !== text) this.live.textContent = text;
     this.options.moved?.(this);

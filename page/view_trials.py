@@ -72,13 +72,15 @@ BY_A_GET = b"""\
  CPOOL GET,CPID=CP
  CPOOL GET,CPID=CP
 """
+MANY_CELLS = 1000
+CELLS = f" CPOOL BUILD,PCELLCT={MANY_CELLS},CSIZE=8,CPID=CP,SP=1\n".encode() + b" CPOOL GET,CPID=CP\n" * 3
 ODD: dict[str, bytes] = {
     "an extent that a GET makes": BY_A_GET,
     "no line": b"",
     "one line": b" STORAGE OBTAIN,LENGTH=8",
     "only comments": b"* a\n*\n\n",
     "the end of an element": b"* </script><script>document.title = 'x'</script> <!-- ]]>\n MAP </script>\n",
-    "bytes above 127": b"* \xc4\xe9\xff\x00\x07\x1b\r\n STORAGE OBTAIN,LENGTH=8,ADDR=P \xe4\r\n PEEK P,8\r\n",
+    "bytes above 127": b"* \xc4\xe9\xff\x00\x07\x1b\x7f\r\n STORAGE OBTAIN,LENGTH=8,ADDR=P \xe4\r\n PEEK P,8\r\n",
     "ends within a statement": b" STORAGE OBTAIN,LENGTH=8\n STORAGE OBTAIN,".ljust(96) + b"X",
     "ends within remarks": b" STORAGE OBTAIN,LENGTH=8".ljust(71) + b"X\n",
     "areas that are granted again": AGAIN,
@@ -108,7 +110,10 @@ def try_odd(trials: Trials, browser: Browser, program: str, folder: Path) -> Non
         trials.equal("the title", browser.evaluate("document.title"), f"{name}.vsm · vsm")
         lines = [line.decode("latin-1") for line in split_lines(script)]
         shown = browser.evaluate("[...document.querySelectorAll('.line .text')].map(it => it.textContent)")
-        trials.equal("the script's text", shown[: len(lines)], [shown_line(line.rstrip()) for line in lines])
+        wanted = [shown_line(line.rstrip()) for line in lines]
+        trials.equal("the script's text", shown[: len(lines)], wanted)
+        pictures = [[it, 1] for it in re.findall("[\u2400-\u2421]", "".join(wanted))]
+        trials.equal("pictures as wide as a letter", browser.evaluate(probed("controls()")), pictures)
     path = TOP / "examples" / "cell-pools.vsm"
     part = made(program, path, folder / "a part.html", "--first", "8", "--last", "20")
     try_page(trials, browser, part, keys=False, looks=False)
@@ -185,6 +190,19 @@ def try_ends(trials: Trials, browser: Browser, page: Path) -> None:
                 break
             browser.settle()
         trials.equal(f"the end of the area of line {step}", browser.evaluate(end), f" {text}")
+
+
+def try_cells(trials: Trials, browser: Browser, page: Path) -> None:
+    """A cell pool's drawing has each cell, and a step draws only those near a changed one anew."""
+    browser.open(f"{page.resolve().as_uri()}#2", READY)
+    browser.settle()
+    drawn = probed("cells()")
+    trials.equal("the cells after a GET", browser.evaluate(drawn)[:3], [1, MANY_CELLS - 2, 1])
+    browser.evaluate("window.before = new Set(document.querySelectorAll('.extent g'))")
+    browser.key("ArrowRight")
+    *kinds, fresh, all_of = browser.evaluate(drawn)
+    trials.equal("and after another one", kinds, [2, MANY_CELLS - 3, 1])
+    trials.want("few cells are drawn anew", fresh == 1 and all_of > 4, (fresh, all_of))
 
 
 def damaged(text: str) -> dict[str, str]:
@@ -304,6 +322,10 @@ def try_all(trials: Trials, browser: Browser, programs: Programs) -> None:
         script.write_bytes(ENDS)
         trials.subject = script.name
         try_ends(trials, browser, made(program, script, folder / "ends.html"))
+        script = folder / "cells.vsm"
+        script.write_bytes(CELLS)
+        trials.subject = script.name
+        try_cells(trials, browser, made(program, script, folder / "cells.html"))
         made_by, told = hashlib.sha256(Path(program).read_bytes()).hexdigest(), Page.of(pages[0]).data["program"]
         is_proved = subprocess.run([TOP / "prove", "--check", program]).returncode == 0 and "unproved" not in program
         trials.want("the foot says by its sum whether the program is proved",

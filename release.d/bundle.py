@@ -23,7 +23,8 @@ from facts import Commit, Refusal
 # What of tools/ and page/ isn't put with the tools: tests, what bench.html is made from, and the library, which has
 # places of its own.
 NOT_INSTALLED = re.compile(r".*/(tests/|\.)|(page|tools)/check|tools/c/|"
-                           r"page/(bench|module|host|chromium|colours|expected|on_page|\w*trials|.*\.test\.)")
+                           r"page/(bench|module|host|chromium|colours|expected|on_page|pictures$|pixels|probe|sight|"
+                           r"\w*trials|.*\.test\.)")
 # How the tools begin, and how they have to in a package.
 FREE_PYTHON, SYSTEM_PYTHON = b"#!/usr/bin/env python3\n", b"#!/usr/bin/python3\n"
 DOCS = ("STATEMENTS.md", "MESSAGES.md", "EXPLAIN.md", "PROTOCOL.md", "ZOS.md", "GLOSSARY.md", "TOOLS.md", "VIEW.md",
