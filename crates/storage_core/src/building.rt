@@ -41,7 +41,8 @@ impl Storage {
             + (31 + plan.entry.settings.primary)) }
         ensures live { IfOk result (λ _. live_count self.new.parts.elements ≤ live_count self.old.parts.elements
             + (31 + plan.entry.settings.primary)) }
-        ensures made { MakesElements self.old.parts.elements self.new.parts.elements (31 + plan.entry.settings.primary) }
+        ensures made { MakesElements self.old.parts.elements self.new.parts.elements
+            (31 + plan.entry.settings.primary) }
         ensures made_frames { MakesFrames self.old.parts.region self.new.parts.region plan.entry.fresh.len }
         ensures err { OnErr result (Stays self.old.parts self.new.parts) }
         ensures needless { IsSpareFor self.old.parts

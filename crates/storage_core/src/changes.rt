@@ -71,7 +71,8 @@ impl Storage {
         requires { HasRecords (state_in_place self.old) plan }
         ensures { IsReserved self.old (change_in (state_in_place self.old) plan.entry)
             (storage_elements (state_in_place self.old) plan.entry) plan.entry.fresh.len
-            (IsSpareFor self.old.parts (storage_elements (state_in_place self.old) plan.entry) plan.entry.fresh) self.new result }
+            (IsSpareFor self.old.parts (storage_elements (state_in_place self.old) plan.entry) plan.entry.fresh)
+            self.new result }
     {
         Change::reserve(
             &mut self.parts,

@@ -64,7 +64,8 @@ undefine_isnt_define e = cc
 undefine_isnt_reword : {place word : ℕ} → Some undefine ≡ Some (reword place word) → ⊥
 undefine_isnt_reword e = cc
 
-define_isnt_reword : {place word at other : ℕ} {name : List ℕ} → Some (define place name word) ≡ Some (reword at other) → ⊥
+define_isnt_reword : {place word at other : ℕ} {name : List ℕ} → Some (define place name word) ≡ Some (reword at other)
+    → ⊥
 define_isnt_reword e = cc
 
 -- a change that defines no name says the same in each table,
@@ -103,7 +104,8 @@ back_defines_none t u names change None e h = refl
 back_defines_none t u names change (Some Undefine) e h = refl
 back_defines_none t u names change (Some (Reword place word)) e h = refl
 back_defines_none t u names None (Some (Define place word)) e h = absurd (some_step (define place _ word) e)
-back_defines_none t u names (Some (Define at old)) (Some (Define place word)) e h = absurd (undefine_isnt_define (sym e))
+back_defines_none t u names (Some (Define at old)) (Some (Define place word)) e h =
+    absurd (undefine_isnt_define (sym e))
 back_defines_none t u names (Some Undefine) (Some (Define place word)) e h = absurd (true≢false (sym h))
 back_defines_none t u names (Some (Reword at old)) (Some (Define place word)) e h = absurd (define_isnt_reword e)
 

@@ -52,7 +52,7 @@ last-put : (row : List ℕ × ℕ) (rows : List (List ℕ × ℕ))
 last-put row [] = refl
 last-put row (next ∷ rows) = ap (λ l. row ∷ l) (last-put next rows)
 
--- one row more, and one fewer
+-- another row, and one fewer
 one-more : (rows : List (List ℕ × ℕ)) (row : List ℕ × ℕ) → length (rows ++ row ∷ []) - 1 ≡ length rows
 one-more rows row = omega (arith, length_push rows row)
 
@@ -107,7 +107,7 @@ none-defined (row ∷ rows) name none =
     cond-false (same_name row.0 name) (Some 0) (option_map suc (place_in rows name)) parts.0
     ∙ ap (option_map suc) (none-defined rows name parts.1)
 
--- the place before, in a list with one row more
+-- the place before, in a list with another row
 less : (o : Option ℕ) (place : ℕ) → option_map suc o ≡ Some place
     → (before : ℕ) × (place ≡ suc before) × (o ≡ Some before)
 less None place e = absurd (some_is_not place (sym e))

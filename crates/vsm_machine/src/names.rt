@@ -150,8 +150,8 @@ impl NameTable {
         }
     }
 
-    /// Takes the step, and leaves its inverse in `change`, which fits the table then. This takes no memory, and each name
-    /// keeps its place in the table.
+    /// Takes the step, and leaves its inverse in `change`, which fits the table then. This takes no memory, and each
+    /// name keeps its place in the table.
     pub fn swap(&mut self, change: &mut NameChange)
         requires { FitsTable self.old (Some change.old) }
         ensures rows { rows_of self.new ≡ stepped (rows_of self.old) (step_in self.old change.old) }

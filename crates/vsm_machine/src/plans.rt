@@ -69,8 +69,8 @@ fn name_plan<'a>(names: &NameTable, name: Option<&'a Name>, reply: Reply) -> Opt
     }
 }
 
-/// The plan for what a statement asks for, or why it is refused: an unknown name, or the first cause that holds. A value
-/// that is stored is written into `word`, and the plan's records are in `room`, in place of what that had.
+/// The plan for what a statement asks for, or why it is refused: an unknown name, or the first cause that holds. A
+/// value that is stored is written into `word`, and the plan's records are in `room`, in place of what that had.
 pub fn plan_of<'a>(
     machine: &Machine,
     statement: &'a Statement,
