@@ -3,6 +3,7 @@ ghost use Rattle.std.specs.Prelude.{◌≡◌, ◌≤◌, ◌+◌, ◌-◌, ◌*
 ghost use Rattle.std.specs.List.{slice_get};
 ghost use Rattle.std.specs.Result.{OnOk, OnErr};
 ghost use Rattle.arrayvec.specs.ArrayVec.{array_vec_len};
+ghost use Rattle.operand_texts.specs.Field.{nesting_after};
 ghost use Rattle.macro_statements.specs.Statements.{from_operands};
 ghost use Rattle.macro_reader.specs.Columns.{used, is_blank};
 ghost use Rattle.macro_reader.specs.Continuation.{ends_with_comma, no_field};
