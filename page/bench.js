@@ -347,8 +347,8 @@ class Bench {
       return !fault;
     } catch {
       this.note('This link can’t be read', make('p', {}, 'The address holds something that isn’t a script of ' +
-        'this bench, or is too long, perhaps since it was cut short. What this browser has kept is shown in its ' +
-        'place.'));
+        'this bench, or is too long, perhaps since it was cut short. What this browser has kept is shown ' +
+        'instead.'));
       return false;
     }
   }
@@ -591,7 +591,7 @@ class Bench {
       const [has, most] = [link?.length ?? 0, MOST_LINK].map(it => it.toLocaleString('en'));
       const length = link ? `It would have ${has} characters, and a link has ${most} at most. ` : '';
       return this.note('The script is too long for a link',
-        make('p', {}, `${length}Save the script as a file in its place.`));
+        make('p', {}, `${length}Save the script as a file instead.`));
     }
     try {
       await navigator.clipboard.writeText(location.href);
