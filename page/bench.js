@@ -119,7 +119,7 @@ class Bench {
 
   /** Loads a script with its options, and runs it. A script that is kept nowhere isn't replaced without a question. */
   load({ script, options, name, teacher, step = Infinity }, id = null) {
-    if (this.isLost() && !confirm('The script in the editor is kept nowhere. Is it to be replaced?'))
+    if (this.isLost() && !confirm('The script in the editor isn’t saved. Replace it?'))
       return this.listScripts();
     const isLesson = id === null && this.examples.get(name)?.script === script;
     this.own.open(id);
@@ -636,7 +636,7 @@ class Bench {
   /** Saves the page that vsm-view would make of this run. */
   async savePage() {
     const { mapped, name } = this.result;
-    if (!mapped) return this.note('There’s no picture to be saved', make('p', {}, 'Run the script first.'));
+    if (!mapped) return this.note('There’s no picture to save', make('p', {}, 'Run the script first.'));
     const output = base64Of(await gzipped(mapped));
     const told = { ...this.dataOf(this.result), output, program: this.data.identity.line };
     const title = make('title', {}, `${name} · vsm`).outerHTML;
