@@ -24,7 +24,7 @@ function pictureOf(words, script, plain, answers) {
   try {
     const { output, status } = ranWith([...begins.map(() => ' MAP\n'), ' MAP\n']);
     if (status !== plain.status || !isSameRun(answers, answersOf(output)))
-      return { why: 'the answers are others with maps between them, which is a fault of this page' };
+      return { why: 'with maps between them the answers differ, which is an error in this page' };
     const rows = answers.some(it => it.reply === 'OK') ? rowsToPeek(script, output) : [];
     const bytes = rows.length ? bytesSeen(answersOf(ranWith(peeksOf(rows)).output), rows) : [];
     return { output, bytes };

@@ -119,7 +119,7 @@ class Bench {
 
   /** Loads a script with its options, and runs it. A script that is kept nowhere isn't replaced without a question. */
   load({ script, options, name, teacher, step = Infinity }, id = null) {
-    if (this.isLost() && !confirm('The script in the editor is kept nowhere. Is it to be replaced?'))
+    if (this.isLost() && !confirm('The script in the editor isn’t saved. Replace it?'))
       return this.listScripts();
     const isLesson = id === null && this.examples.get(name)?.script === script;
     this.own.open(id);
@@ -347,8 +347,8 @@ class Bench {
       return !fault;
     } catch {
       this.note('This link can’t be read', make('p', {}, 'The address holds something that isn’t a script of ' +
-        'this bench, or is too long, perhaps since it was cut short. What this browser has kept is shown in its ' +
-        'place.'));
+        'this bench, or is too long, perhaps since it was cut short. What this browser has kept is shown ' +
+        'instead.'));
       return false;
     }
   }
@@ -591,7 +591,7 @@ class Bench {
       const [has, most] = [link?.length ?? 0, MOST_LINK].map(it => it.toLocaleString('en'));
       const length = link ? `It would have ${has} characters, and a link has ${most} at most. ` : '';
       return this.note('The script is too long for a link',
-        make('p', {}, `${length}Save the script as a file in its place.`));
+        make('p', {}, `${length}Save the script as a file instead.`));
     }
     try {
       await navigator.clipboard.writeText(location.href);
@@ -636,7 +636,7 @@ class Bench {
   /** Saves the page that vsm-view would make of this run. */
   async savePage() {
     const { mapped, name } = this.result;
-    if (!mapped) return this.note('There’s no picture to be saved', make('p', {}, 'Run the script first.'));
+    if (!mapped) return this.note('There’s no picture to save', make('p', {}, 'Run the script first.'));
     const output = base64Of(await gzipped(mapped));
     const told = { ...this.dataOf(this.result), output, program: this.data.identity.line };
     const title = make('title', {}, `${name} · vsm`).outerHTML;

@@ -32,7 +32,7 @@ class BuildFault(Exception):
 
 def plain(cell: str) -> str:
     """The text of a table's cell, without marks of code; a link to a part of another document names it."""
-    words = re.sub(r"\[([^].]*)\]\(([\w.-]+)#[^)]*\)", r"\1 in docs/\2", cell)
+    words = re.sub(r"\[([^].]*)\]\(([\w-]+)\.md#[^)]*\)", r"\1 in \2", cell)
     return re.sub(r"\[([^\]]*)\]\([^)]*\)", r"\1", words).replace("`", "").strip()
 
 

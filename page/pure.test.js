@@ -127,7 +127,7 @@ test('a meaning is of the operation, and not of remarks, operands or a name', ()
 });
 
 test('advice can be followed', () => {
-  assert.equal(meaningOf('FAULT VALUE', ' RUN X').more.text, 'See Values in docs/STATEMENTS.md.');
+  assert.equal(meaningOf('FAULT VALUE', ' RUN X').more.text, 'See Values in STATEMENTS.');
   assert.deepEqual(meaningOf('NEW', ' RUN X'), { meaning: '', more: null });
 });
 

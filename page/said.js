@@ -47,7 +47,8 @@ export function saidPart(view) {
     const storage = ahead ? ', as far as answers have been asked for.' : '.';
     return [
       make('p', {}, make('button', { type: 'button', class: 'ask', onclick: view.ask }, name)),
-      muted(`What does it answer? Enter shows it. The storage is that before the statement${storage}`), ...asked()
+      muted(`What does it answer? Enter shows it. The storage shown is the one before the statement${storage}`),
+      ...asked()
     ];
   }
   const ends = new Map(); // of areas, by the steps that obtained them, as far as they are known

@@ -136,8 +136,8 @@ export function transportPart(view) {
       make('span', { class: 'muted options' }, run.options.join(' ')), where,
       make(
         'span', { class: 'buttons' }, button('first', 'To the start (Home)', () => view.go(0)),
-        button('back', 'One statement back (left arrow)', () => view.go(view.step - 1)), play,
-        button('on', 'One statement on (right arrow)', () => view.go(view.step + 1)),
+        button('back', 'Previous statement (left arrow)', () => view.go(view.step - 1)), play,
+        button('on', 'Next statement (right arrow)', () => view.go(view.step + 1)),
         button('last', 'To the end (End)', () => view.go(run.steps))
       ),
       find.element, teacher, button('save', 'Pictures and handouts', () => view.saving.showModal(), 'Save…'),

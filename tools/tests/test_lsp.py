@@ -7,6 +7,7 @@ import random
 import re
 import shutil
 import signal
+import sys
 import time
 from pathlib import Path
 from typing import Any, Iterator
@@ -237,6 +238,14 @@ def test_each_operand_has_what_statements_says_of_it() -> None:
                         (("ATTACH", "", "SHSPL"), "SHSPL: SHSPV and SHSPL share subpools with the new task: ")):
         assert manuals.operand(*words).startswith(said), words
     assert manuals.operand("STORAGE", "OBTAIN", "KEY") == manuals.operand("CPOOL", "BUILD", "BUILD") == ""
+
+
+def test_nothing_is_kept_of_words_that_are_typed() -> None:
+    manuals.syntax("STORAGE", "OBTAIN")
+    before = sys.getallocatedblocks()
+    for number in range(2000):
+        assert manuals.syntax("OTHER%d" % number, "FORM") == ""
+    assert sys.getallocatedblocks() - before < 500
 
 
 def test_completion(client: Edited) -> None:

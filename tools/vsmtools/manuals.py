@@ -37,13 +37,16 @@ def meaning(answer: str) -> str:
 
 
 @cache
+def sections() -> dict[str, str]:
+    """What STATEMENTS says below each heading."""
+    text = re.sub(r"\[([^\]]*)\]\([^)]*\)", r"\1", text_of("STATEMENTS.md"))    # links lead nowhere in a hover
+    parts = re.split(r"(?m)^##+ (.*)\n", text)
+    return dict(zip(parts[1::2], parts[2::2]))
+
+
 def section(operation: str, form: str) -> str:
     """What STATEMENTS says of an operation with a form, or of the operation."""
-    for title in ("%s %s" % (operation, form), operation):
-        found = re.search(r"(?ms)^##+ %s\n(.*?)(?=^##|\Z)" % re.escape(title), text_of("STATEMENTS.md"))
-        if found:
-            return re.sub(r"\[([^\]]*)\]\([^)]*\)", r"\1", found[1])    # links lead nowhere in a hover
-    return ""
+    return sections().get("%s %s" % (operation, form)) or sections().get(operation, "")
 
 
 def syntax(operation: str, form: str) -> str:
