@@ -226,7 +226,7 @@ class Server:
 
     def options(self, document: Document) -> list[str]:
         """Those of the script's first comment, and what the client says of the others."""
-        first = document.extents[0].first if document.extents else len(document.raw)
+        first = len(document.kinds.partition(b"S")[0])
         found = options_for(document.path, b"\n".join(document.raw[:first]))
         for option in BENCH_OPTIONS:
             if option not in found and self.settings.get(option[2:]) is not None:
