@@ -12,6 +12,7 @@ import sysconfig
 import tempfile
 import threading
 import time
+from contextlib import suppress
 from dataclasses import dataclass
 from typing import IO, Optional, Sequence, Union
 
@@ -53,8 +54,7 @@ class Run:
 
 
 def add_words(parser: argparse.ArgumentParser, otherwise: str = "else ./vsm, which may compile first, or vsm on the PATH") -> None:
-    """Adds --vsm (--program is the same) and the four options of vsm to a tool's options; vsm itself judges their
-    values."""
+    """Adds --vsm, or --program, and the four options of vsm to a tool's; vsm itself judges their values."""
     group = parser.add_argument_group("the bench")
     group.add_argument("--vsm", "--program", dest="vsm", metavar="PROGRAM",
                        help="the program vsm (default: the built one here, %s)" % otherwise)
@@ -78,8 +78,7 @@ def end_with_parent() -> None:
 
 
 def start_compile(launcher: str, words: Sequence[str] = (), out: int = subprocess.DEVNULL) -> subprocess.Popen[bytes]:
-    """Starts a repository's ./vsm or ./vsm-explain over no input: the first run compiles a program, and standard error
-    says so."""
+    """Starts ./vsm or ./vsm-explain over no input: the first run compiles a program, and says so."""
     return subprocess.Popen([launcher, *words], stdin=subprocess.DEVNULL, stdout=out, preexec_fn=end_with_parent)
 
 
@@ -125,8 +124,7 @@ def find_program(named: Optional[str] = None, may_compile: bool = True, is_neede
 
 
 def find_explain(vsm: str, is_needed: bool = True) -> str:
-    """The path of vsm-explain: the one next to vsm, else the built one, a repository's ./vsm-explain (compiled, if it's
-    needed now), or one on the PATH."""
+    """The path of vsm-explain: the one next to vsm, the built one, ./vsm-explain (compiled), or one on the PATH."""
     launcher, beside = EXPLAIN_LAUNCHER, os.path.join(os.path.dirname(vsm), "vsm-explain")
     places = [BUILT_EXPLAIN, launcher, shutil.which("vsm-explain") or ""]
     for place in places if beside == launcher else [beside, *places]:
@@ -186,10 +184,8 @@ def wait_for(child: subprocess.Popen[bytes], outputs: Sequence[IO[bytes]], secon
 
 def end_group(child: subprocess.Popen[bytes]) -> None:
     """Ends a program and what it started; its group has its number."""
-    try:
+    with suppress(ProcessLookupError, PermissionError):
         os.killpg(child.pid, signal.SIGKILL)
-    except (ProcessLookupError, PermissionError):
-        pass
     child.wait()
 
 
@@ -223,11 +219,7 @@ class Partner:
         self.program, self.seconds, self.line = program, seconds, 0
         self.gathered = b""
         self.errors = tempfile.TemporaryFile()
-        try:
-            self.child = start(program, options, subprocess.PIPE, subprocess.PIPE, self.errors)
-        except Fault:
-            self.errors.close()
-            raise
+        self.child = start(program, options, subprocess.PIPE, subprocess.PIPE, self.errors)
 
     def ask(self, statement: bytes) -> Answer:
         """Writes the lines of one statement, and waits for its answer."""
@@ -261,29 +253,26 @@ class Partner:
         line, _, self.gathered = self.gathered.partition(b"\n")
         return line + b"\n"
 
-    def end(self) -> Fault:
-        """A fault, which says that the program ended while it was needed."""
+    def wait(self) -> int:
+        """The status with which the program ends, by force if that takes long."""
         try:
-            status = self.child.wait(5)
+            return self.child.wait(5)
         except subprocess.TimeoutExpired:
             self.child.kill()
-            status = self.child.wait()
+            return self.child.wait()
+
+    def end(self) -> Fault:
+        """A fault, which says that the program ended while it was needed."""
+        status = self.wait()
         self.errors.seek(0)
         return ended(self.program, status, self.errors.read().decode("utf-8", "replace"))
 
     def close(self) -> None:
         """Ends the program."""
         for pipe in (self.child.stdin, self.child.stdout):
-            try:
-                if pipe:
-                    pipe.close()
-            except OSError:
-                pass
-        try:
-            self.child.wait(5)
-        except subprocess.TimeoutExpired:
-            self.child.kill()
-            self.child.wait()
+            with suppress(OSError):
+                pipe.close()    # type: ignore[union-attr]
+        self.wait()
         self.errors.close()
 
 

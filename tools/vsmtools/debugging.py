@@ -7,7 +7,7 @@ import re
 from typing import Any, Callable, Optional
 
 from . import command, rpc, showing
-from .bench import BENCH_OPTIONS, Answer, Session, find_program
+from .bench import Answer, Session, find_program
 from .command import Fault, one_line
 from .console import SECONDS, Console
 from .lines import LAST_COLUMN, options_for
@@ -167,10 +167,7 @@ class Adapter:
         if os.path.exists(self.program) and not os.path.isfile(self.program):
             raise Fault("it's no regular file", self.program)
         data = command.read_input(self.program)[1]
-        options = options_for(self.program, data)
-        for option in BENCH_OPTIONS:
-            if option not in options and launched.get(option[2:]) is not None:
-                options += [option, str(launched[option[2:]])]
+        options = options_for(self.program, data, settings=launched)
         vsm = self.vsm or ""
         # The library is asked, if it's built; but a program that is named, itself.
         partner = vsm if launched.get("vsm") or self.named else None

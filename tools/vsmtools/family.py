@@ -44,8 +44,7 @@ def in_order(before: dict[Thing, set[Thing]]) -> list[Thing]:
 
 @dataclass
 class Sight:
-    """The tasks that a task attaches while it sees a subpool: sharers, and last the one that it gives the subpool
-    to."""
+    """The tasks that a task attaches while it sees a subpool: sharers, and last the one that gets it."""
     sharers: set[int]
     gift: Optional[int]
 
@@ -97,8 +96,7 @@ class Family:
                      later[0] if later else None)
 
     def parts(self, task: int, keys: list[Key]) -> list[list[Sight]]:
-        """What a task sees of a number in turn: a subpool from its ATTACH on; those that it made and gave, in any
-        order; one that it made and has."""
+        """What a task sees of a number in turn: one from its ATTACH on; those made and given, in any order; its own."""
         first = [key for key in keys if self.owners[key][0] != task]
         if first and len(keys) > 1 and any(task not in self.owners[key][:-1] for key in first) or len(first) > 1:
             give_up(self.source, self.line[task], "the task sees two subpools %d at once" % keys[0][0])

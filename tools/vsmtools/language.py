@@ -7,7 +7,7 @@ from itertools import islice
 from typing import Any, Callable, Iterator, Optional
 
 from . import features, listing, manuals, rpc
-from .bench import BENCH_OPTIONS, EXPLAIN_LAUNCHER, MOST_OUTPUT, WITHOUT_INPUT, find_explain, find_program, not_compiled
+from .bench import EXPLAIN_LAUNCHER, MOST_OUTPUT, WITHOUT_INPUT, find_explain, find_program, not_compiled
 from .command import Fault, one_line, version
 from .documents import FAR, Document
 from .lines import Extent, options_for
@@ -227,11 +227,7 @@ class Server:
     def options(self, document: Document) -> list[str]:
         """Those of the script's first comment, and what the client says of the others."""
         first = len(document.kinds.partition(b"S")[0])
-        found = options_for(document.path, b"\n".join(document.raw[:first]))
-        for option in BENCH_OPTIONS:
-            if option not in found and self.settings.get(option[2:]) is not None:
-                found += [option, str(self.settings[option[2:]])]
-        return found
+        return options_for(document.path, b"\n".join(document.raw[:first]), settings=self.settings)
 
     # Diagnostics.
 

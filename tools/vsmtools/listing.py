@@ -15,8 +15,7 @@ ACCEPTED = b'"refused":false,'
 
 
 class Mark(NamedTuple):
-    """A fault, a warning or a dropped line: a line from 1, a begin and an end in bytes from 0. A fault also has its
-    word, and one that it proposes."""
+    """A fault, a warning or a dropped line: its line from 1, and bytes from 0; a fault's word, and one proposed."""
     line: int
     begin: int
     end: int

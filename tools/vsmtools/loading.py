@@ -11,13 +11,9 @@ from bisect import bisect_left
 from .family import Family, Key, give_up, in_order
 from .judge import Judge
 from .lines import fold
-from .maps import HIGH_START, LOW_START, PAGE, Area, CellPool, Map, Subpool, Task
+from .maps import HIGH_START, LOW_START, PAGE, Area, CellPool, Map, Subpool, Task, page_end
 
 Place = tuple[str, int]     # an extent: the name of its cell pool, and which one it is
-
-
-def page_end(address: int) -> int:
-    return -(-address // PAGE) * PAGE
 
 
 def location(address: int) -> int:
@@ -202,8 +198,7 @@ class Pages:
             self.script.release(area, self.it.number)
 
     def fill(self) -> None:
-        """Takes all pages up to the last one of the subpool; above the line all that exist if an extent that may be
-        there is below."""
+        """Takes all pages up to the subpool's last; above the line all, if an extent that may be there is below."""
         is_full = any(pool.location == 31 and extent.start < HIGH_START
                       for pool in self.pools for extent in pool.extents)
         for start in (LOW_START, HIGH_START):

@@ -12,6 +12,10 @@ LOW_START = 0x6000        # where the region below the 16 MB line begins
 HIGH_START = 0x8000000    # and the one above
 
 
+def page_end(address: int) -> int:
+    return -(-address // PAGE) * PAGE
+
+
 @dataclass(frozen=True)
 class Area:
     """An address and a length in bytes."""
@@ -178,10 +182,7 @@ TAKERS: dict[str, Callable[[Map, re.Match[str], int], None]] = {
 
 
 def parse_map(lines: Sequence[str], source: str = "the map", first: int = 1) -> Map:
-    """A map's lines, from TASK 1 to HISTORY, as data. They're judged line by line, not against each other.
-
-    `first` is the number that the first of them has in `source`, for the fault that names a wrong line.
-    """
+    """A map's lines as data, each judged by itself; `first` is the first one's number in `source`, for faults."""
     reader = Reader(source, first)
     for line in lines:
         reader.take(line)

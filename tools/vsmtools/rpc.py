@@ -102,8 +102,7 @@ class Stream:
         self.is_ended = False                # the client has gone
 
     def read(self, seconds: Optional[float], others: Sequence[Any] = ()) -> list[Any]:
-        """Reads what the client has sent, waiting at most that long for it or for one of the others. Returns which are
-        ready."""
+        """Reads what the client has sent, waiting at most that long for it or the others. Returns which are ready."""
         sources = [] if self.is_ended else [self.source]
         ready, _, _ = select.select([*sources, *others], [], [], seconds)
         if self.source in ready:

@@ -1,5 +1,4 @@
-"""The places where a debugged script stops, forwards and backwards: at breakpoints, at answers, at changes of what is
-watched."""
+"""Where a debugged script stops, forwards and backwards: at breakpoints, answers, changes of what is watched."""
 from __future__ import annotations
 
 import re

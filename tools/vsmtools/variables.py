@@ -89,8 +89,7 @@ class Variables:
 
 
 def expanded(it: Statement, macros: dict[str, list[Statement]], depth: int = 0) -> Optional[list[Statement]]:
-    """The statements of a call of one of these macros, each of which may be assembled or not; None if they can't be
-    known."""
+    """The statements of a call of one of these macros, each perhaps not assembled; None if they can't be known."""
     prototype, *body = macros[it.operation]
     values = {prototype.name.lstrip("&"): it.name}
     positional = [text.lstrip("&").upper() for text in prototype.parts if "=" not in text]

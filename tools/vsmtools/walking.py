@@ -21,9 +21,8 @@ class Lost(Fault):
 
 @dataclass(frozen=True, slots=True, eq=False)
 class State:
-    """What a bench holds after a kept change: the state before it, and the lines of the statement that made it.
-
-    A change after a BACK begins a branch, so the states of a walk are a tree."""
+    """What a bench holds after a kept change: the state before it, and the lines of the statement that made it. After
+    a BACK that's a branch, so the states of a walk are a tree."""
     parent: Optional[State] = None
     lines: tuple[str, ...] = ()
     depth: int = 0
@@ -79,8 +78,7 @@ class History:
 
 @dataclass(frozen=True, slots=True, eq=False)
 class Step:
-    """A statement that was carried out, and the history after it. `statement` is its number in the script; None for
-    one of the console."""
+    """A statement that was carried out, its number in the script (None in the console), and the history after it."""
     statement: Optional[int]
     lines: tuple[str, ...]
     answer: Answer
@@ -137,10 +135,8 @@ def are_same(one: Optional[Undone], other: Optional[Undone]) -> bool:
 
 
 class Walk:
-    """How far a script has come. `steps` is the way; what was stepped back over isn't on it.
-
-    vsm is led to a step only once something is asked there: `now` is the history that it has itself. Its state is then
-    that of the way, but it may keep fewer changes, and have undone others."""
+    """How far a script has come. `steps` is the way, without what was stepped back over. vsm is led to a step once
+    something is asked there: `now` is its own history, of the same state, perhaps of fewer changes."""
 
     def __init__(self, script: Script, begin: Callable[[], Session]) -> None:
         self.script, self.begin = script, begin

@@ -1,5 +1,4 @@
-"""The words of a script: operations, their forms and keywords, and the values of these, as
-docs/STATEMENTS.md has them."""
+"""The words of a script, as docs/STATEMENTS.md has them: operations, their forms, keywords and values."""
 from __future__ import annotations
 
 import re
