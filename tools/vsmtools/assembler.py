@@ -356,7 +356,10 @@ class Symbols:
         for operand in it.parts:
             count, kind, length, is_explicit, whole, data = self.constant(operand)
             if not is_explicit and kind not in TO_THE_BYTE:
-                self.align(8 if kind == "L" else LENGTHS[kind])
+                to = 8 if kind == "L" else LENGTHS[kind]
+                if to > section.alignment:
+                    self.begin_part(to)
+                section.offset = -(-section.offset // to) * to
             data = data * count if count <= MOST_DEPTH else b""
             if is_first:
                 self.define(it.name, Symbol(self.here(), length=length, data=data))
@@ -365,12 +368,6 @@ class Symbols:
             is_first = False
             section.offset += count * whole
             section.highest = max(section.highest, section.offset)
-
-    def align(self, to: int) -> None:
-        section = self.here_section()
-        if to > section.alignment:
-            self.begin_part(to)
-        section.offset = -(-section.offset // to) * to
 
     def constant(self, text: str) -> tuple[int, str, int, bool, int, bytes]:
         """A DS or DC operand: its count, type, first value's length, whether that's written, all lengths, and bytes."""

@@ -318,8 +318,6 @@ class Contents:
         found = re.fullmatch(r"%s([+]\d+)?" % SYMBOL, text)
         return self.known(self.ways.key(text)) if found and self.ways.key(text) != "" else None
 
-    # Stores.
-
     def forget_section(self, section: str, why: str, line: int) -> None:
         content = Content("lost", why, line)
         self.state.update((key, content) for key in list(self.state) if isinstance(key, tuple) and key[0] == section)
@@ -397,8 +395,6 @@ class Contents:
         key = self.list_key(name)
         if key in self.state:
             self.state[key] = Content("lost", "line %d stores in list %s" % (line, name), line)
-
-    # Statements.
 
     def take(self, k: int) -> None:
         """One instruction, or a macro of no meaning here."""

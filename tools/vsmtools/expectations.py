@@ -265,12 +265,6 @@ def line_end(line: bytes) -> bytes:
     return b"\r\n" if line.endswith(b"\r\n") else b"\n" if line.endswith(b"\n") else b""
 
 
-def must_be_ahead(script: Script, tested: Tested, last: bytes) -> bool:
-    """Whether a line after a statement would change its answer: it would continue it, or end its line."""
-    is_last = tested is script.tested[-1] and tested.extent.last == len(split_lines(script.data))
-    return is_last and (is_continued(last) or (not line_end(last) and last.endswith(b"\r")))
-
-
 def replace_expectations(script: Script, wanted: dict[int, list[str]]) -> bytes:
     """The script with these texts as expectations of the statements of these first lines; all else stays."""
     lines = [line for line in re.split(rb"(?<=\n)", script.data) if line]     # with their ends
@@ -281,7 +275,9 @@ def replace_expectations(script: Script, wanted: dict[int, list[str]]) -> bytes:
     for it in script.tested:
         if it.extent.first not in wanted:
             continue
-        is_ahead = it.is_ahead or must_be_ahead(script, it, lines[it.extent.last - 1])
+        # A line after the last statement may change its answer: it would continue it, or end its line.
+        last, is_end = lines[it.extent.last - 1], it.extent.last == len(lines)
+        is_ahead = it.is_ahead or is_end and (is_continued(last) or not line_end(last) and last.endswith(b"\r"))
         sign = AT_END if is_ahead else EXPECTED
         put = [("%s %s" % (sign, text)).encode("latin-1") + end for text in wanted[it.extent.first]]
         dropped |= {old.line for old in it.expected}

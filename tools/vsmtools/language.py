@@ -12,12 +12,11 @@ from .command import Fault, one_line, version
 from .documents import FAR, Document
 from .lines import Extent, options_for
 from .reading import Part
-from .rpc import Code, Failure, Message
+from .rpc import WRONG, Code, Failure, Message
 from .runs import Runs
 
 QUIET = 0.2           # seconds after the last change
 MOST_SHOWN = 10000    # diagnostics
-WRONG = (LookupError, TypeError, ValueError, AttributeError, OverflowError)    # what wrong parameters raise
 ERROR, WARNING, HINT = 1, 2, 4
 REFUSED = ("ABEND ", "REFUSED ")
 CAPABILITIES = {
@@ -64,6 +63,7 @@ class Server:
                 for it in list(self.documents.values()):
                     if it.due is not None and it.due <= time.monotonic():
                         self.list(it)
+            self.stream.flush()
         finally:
             self.runs.end_all()
         return self.status
@@ -84,7 +84,9 @@ class Server:
         is_request = "id" in message and not (method is None and ("result" in message or "error" in message))
         try:
             if not is_request and "id" in message:
-                self.hear_answer(message)
+                then = self.asked.pop(number, None)
+                if then and "result" in message:
+                    then(message["result"])
                 return
             if is_request and (not isinstance(number, (int, str)) or isinstance(number, bool)):
                 number = None
@@ -95,12 +97,6 @@ class Server:
         except (Failure, Fault, *WRONG) as fault:
             if is_request:
                 self.fail(number, *self.error_of(fault, method))
-
-    def hear_answer(self, message: Message) -> None:
-        """What the client answers to a request of the server."""
-        then = self.asked.pop(message["id"], None)
-        if then and "result" in message:
-            then(message["result"])
 
     @staticmethod
     def error_of(fault: Exception, method: Any) -> tuple[Code, str]:
@@ -188,8 +184,6 @@ class Server:
         for number in self.runs.end_all():
             self.fail(number, Code.CANCELLED, "the server is shut down")
         self.is_shut = True
-
-    # Documents.
 
     def document(self, params: Message) -> Document:
         uri = params["textDocument"]["uri"]

@@ -80,7 +80,10 @@ class Loader:
             self.words(shown)
         for it in self.map.subpools:
             if it.number and not it.extents and not it.sharers and self.family.owners[it.number, it.owner] == [it.owner]:
-                self.make_empty(it)
+                # A subpool without storage that nobody shares, by an area that is released at once.
+                self.script.by(it.owner)
+                self.script.obtain(Area(LOW_START, 8), it.number)
+                self.script.release(Area(LOW_START, 8), it.number)
         for it in self.map.subpools:
             if it.extents:
                 self.script.by(it.owner)
@@ -160,12 +163,6 @@ class Loader:
         self.script.obtain(hole, 0)
 
     # Storage.
-
-    def make_empty(self, it: Subpool) -> None:
-        """A subpool without storage that nobody shares, by an area that is released at once."""
-        self.script.by(it.owner)
-        self.script.obtain(Area(LOW_START, 8), it.number)
-        self.script.release(Area(LOW_START, 8), it.number)
 
     def unassigned(self, start: int) -> list[Area]:
         """The runs of pages of one side of the line that no subpool has so far."""

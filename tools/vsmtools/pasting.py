@@ -341,8 +341,6 @@ class Paste:
                 macro = self.macros[int(content.what)]
                 macro.wish = macro.wish or it.parts[1].upper()
 
-    # Macros.
-
     def macro(self, it: Statement) -> None:
         try:
             if it.doubt:

@@ -9,6 +9,7 @@ from contextlib import contextmanager
 from itertools import count
 from typing import Callable, Iterator, Optional, Sequence
 
+from . import showing
 from .bench import TOOLS, Answer, Session, check_is_one, find_explain, run_anyhow
 from .command import Fault, one_line, read_input, write_file
 from .lines import (
@@ -324,11 +325,7 @@ class Prompt:
         if not re.fullmatch(r"[A-Z$#@_][\w$#@]*|\(R?\d+\)", name):
             return None
         shown = self.bench.map()
-        words = {it.name: it.word for it in shown.names}
-        for task in shown.tasks:
-            if task.is_current:
-                words.update(("(%s%d)" % (r, k), word) for k, word in enumerate(task.registers) for r in ("", "R"))
-        return words.get(name)
+        return showing.address_of(name, shown) if name[0] == "(" else showing.named(shown, name)
 
     def place(self, text: str) -> str:
         """An address that stays the same while names and registers change, with a number of bytes."""

@@ -8,7 +8,7 @@ from typing import Callable, Optional, Sequence
 
 from .bench import Answer, Session
 from .command import Fault
-from .lines import LAST_COLUMN, Extent, is_continued, split_lines, statements
+from .lines import LAST_COLUMN, Extent, is_continued, split_lines, statements, text_of
 from .maps import Map, parse_map
 
 MOST_ASKED = 1_000_000    # lines; vsm reads 1,048,576
@@ -19,7 +19,7 @@ class Lost(Fault):
     """vsm has ended, or answers otherwise than it did: the walk can't go on."""
 
 
-@dataclass(frozen=True, slots=True, eq=False)
+@dataclass(slots=True, eq=False)
 class State:
     """What a bench holds after a kept change: the state before it, and the lines of the statement that made it. After
     a BACK that's a branch, so the states of a walk are a tree."""
@@ -28,7 +28,7 @@ class State:
     depth: int = 0
 
 
-@dataclass(frozen=True, slots=True, eq=False)
+@dataclass(slots=True, eq=False)
 class Undone:
     """The states that FORWARD leads to: the first one, and those after it."""
     state: State
@@ -42,7 +42,7 @@ class Undone:
         return found
 
 
-@dataclass(frozen=True, slots=True, eq=False)
+@dataclass(slots=True, eq=False)
 class History:
     """The state of a bench, how many changes it keeps, and what it has undone."""
     state: State
@@ -76,7 +76,7 @@ class History:
         return self if answer.kept is None else self.stepped(answer.kept)
 
 
-@dataclass(frozen=True, slots=True, eq=False)
+@dataclass(slots=True, eq=False)
 class Step:
     """A statement that was carried out, its number in the script (None in the console), and the history after it."""
     statement: Optional[int]
@@ -169,12 +169,13 @@ class Walk:
         return self.place >= len(self.script.extents)
 
     def _say(self, lines: Sequence[str]) -> Answer:
-        if is_continued(lines[-1].encode("utf-8", "surrogateescape")):
+        text = text_of(lines)
+        if len(text) > LAST_COLUMN and is_continued(split_lines(text)[-1]):
             # The script ends within a statement: a line that can't continue it ends it with the same answer.
-            lines = [*lines, " BACK 0"]
+            text += b" BACK 0\n"
         self.asked += len(lines)
         try:
-            return self.session.say(lines)
+            return self.session.ask(text)
         except Fault as fault:
             raise Lost(str(fault)) from None
 
