@@ -559,7 +559,7 @@ def test_wrong_values_in_all_requests(vsm: str, tmp_path: Path) -> None:
 
 
 def test_the_library_is_asked_if_no_program_is_named(vsm: str, tmp_path: Path, monkeypatch: pytest.MonkeyPatch) -> None:
-    """The client gets the same messages. A program takes the place of a bench of the library here."""
+    """The client gets the same messages: of the library, if it's made, and of a program in the place of its bench."""
     path, asked = written(tmp_path, generated(5)), []
 
     def opened(options: list[str]) -> bench.Partner:
@@ -578,10 +578,12 @@ def test_the_library_is_asked_if_no_program_is_named(vsm: str, tmp_path: Path, m
         adapter.need().walk.close()
         return found
 
-    monkeypatch.setattr(vsm_bench, "opened", opened)
     monkeypatch.setattr(debugging, "find_program", lambda named=None, is_needed=True: named or vsm)
     by_program = told(vsm)
-    assert not asked and told(None) == by_program and len(by_program) > 20 and len(asked) == 1
+    assert not vsm_bench.find() or told(None) == by_program
+    monkeypatch.setattr(vsm_bench, "opened", opened)
+    assert told(vsm) == by_program and not asked
+    assert told(None) == by_program and len(by_program) > 20 and len(asked) == 1
 
 
 def test_half_a_message_and_a_byte_at_a_time(vsm: str) -> None:
