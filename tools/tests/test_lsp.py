@@ -361,7 +361,7 @@ def test_a_text_that_changes_is_read_as_a_new_one() -> None:
 
 
 def test_a_key_reads_few_lines() -> None:
-    """Lines below a change aren't gone through, even if it moves them: counted are the lines of Python."""
+    """Lines below a change aren't gone through, even if it moves them: few lines of Python run."""
     count, chance = [0], random.Random(1)
     document = Document(URI, 1, LONG * 50_000, "utf-16")
 

@@ -1,4 +1,4 @@
-"""Where a debugged script stops, forwards and backwards: at breakpoints, answers, changes of what is watched."""
+"""The places where a debugged script stops, in both directions: breakpoints, answers, changes of what is watched."""
 from __future__ import annotations
 
 import re
