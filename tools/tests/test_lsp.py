@@ -489,6 +489,15 @@ def test_damaged_scripts(client: Edited) -> None:
         client.of("codeAction", uri, range=ALL, context={"diagnostics": found})
 
 
+def test_a_script_that_is_no_text(client: Edited) -> None:
+    """What a hover can't explain is said of the script, not of a path of the server's own."""
+    client.begin()
+    client.edit(URI, " MAP\0\n")
+    where = {"textDocument": {"uri": URI}, "position": {"line": 0, "character": 2}}
+    said = client.response(client.send("textDocument/hover", where))["error"]["message"]
+    assert said == "vsm-explain: the script isn't text: it has bytes X'00'"
+
+
 def test_wrong_requests_have_the_protocols_errors(client: Edited) -> None:
     assert client.error("textDocument/hover", {}) == client.error("nothing/such") == Code.NOT_INITIALIZED
     client.notify("textDocument/didOpen", {"textDocument": {"uri": URI}})

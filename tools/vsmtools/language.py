@@ -275,7 +275,7 @@ class Server:
         if status < 0:
             return "vsm-explain ended by signal %d" % -status
         said = output.decode("utf-8", "replace").strip().split("\n")[-1].replace("/dev/stdin: ", "")
-        return said or "vsm-explain ended with status %d" % status
+        return said.replace("/dev/stdin", "the script") or "vsm-explain ended with status %d" % status
 
     def publish(self, document: Document, found: list[Message]) -> None:
         told = {"uri": document.uri, "diagnostics": found}
