@@ -103,7 +103,7 @@ class Document:
     # The script's lines.
 
     def read(self) -> None:
-        """Takes the lines of the script that have changed, and the kinds of lines up to a statement that begins as before."""
+        """Takes the lines of the script that have changed, and the kinds up to a statement that begins as before."""
         if self.unread > len(self.raw):
             return
         above, before, below = max(0, self.unread - 1), len(self.raw), 0 if "\r" in self.ends else self.same
