@@ -109,8 +109,8 @@ class Wire:
 class Debugged(Wire):
     """A client of a debug adapter."""
 
-    def __init__(self, vsm: str, *words: str) -> None:
-        super().__init__("vsm-dap", "--vsm", vsm, *words)
+    def __init__(self, vsm: Optional[str], *words: str) -> None:
+        super().__init__("vsm-dap", *(("--vsm", vsm) if vsm else ()), *words)
         self.sent = self.heard = 0
         self.events: list[Message] = []
         self.open: dict[int, str] = {}

@@ -4,6 +4,7 @@ from __future__ import annotations
 import base64
 import os
 import random
+import shutil
 import signal
 import threading
 import time
@@ -11,6 +12,7 @@ from pathlib import Path
 from typing import Any, Iterator, Optional
 
 import pytest
+import editors
 import vsm_bench
 from conftest import SECONDS, TOP
 from editors import BAD, LIES, Debugged, Message, damaged_value, framed, tree
@@ -557,7 +559,7 @@ def test_wrong_values_in_all_requests(vsm: str, tmp_path: Path) -> None:
 
 
 def test_the_library_is_asked_if_no_program_is_named(vsm: str, tmp_path: Path, monkeypatch: pytest.MonkeyPatch) -> None:
-    """The client gets the same messages. A program takes the place of a bench of the library here."""
+    """The client gets the same messages: of the library, if it's made, and of a program in the place of its bench."""
     path, asked = written(tmp_path, generated(5)), []
 
     def opened(options: list[str]) -> bench.Partner:
@@ -576,10 +578,12 @@ def test_the_library_is_asked_if_no_program_is_named(vsm: str, tmp_path: Path, m
         adapter.need().walk.close()
         return found
 
-    monkeypatch.setattr(vsm_bench, "opened", opened)
-    monkeypatch.setattr(debugging, "find_program", lambda named=None: named or vsm)
+    monkeypatch.setattr(debugging, "find_program", lambda named=None, is_needed=True: named or vsm)
     by_program = told(vsm)
-    assert not asked and told(None) == by_program and len(by_program) > 20 and len(asked) == 1
+    assert not vsm_bench.find() or told(None) == by_program
+    monkeypatch.setattr(vsm_bench, "opened", opened)
+    assert told(vsm) == by_program and not asked
+    assert told(None) == by_program and len(by_program) > 20 and len(asked) == 1
 
 
 def test_half_a_message_and_a_byte_at_a_time(vsm: str) -> None:
@@ -629,3 +633,33 @@ def test_vsm_killed_beneath_it(client: Debugged) -> None:
     os.kill(client.children()[0], signal.SIGKILL)
     assert "ended by signal 9" in client.refused("evaluate", expression="map", context="repl")
     assert client.until("terminated")
+
+
+@pytest.mark.parametrize("status", [0, 16])
+def test_it_answers_while_vsm_is_compiled(vsm: str, tmp_path: Path, status: int,
+                                          monkeypatch: pytest.MonkeyPatch) -> None:
+    """The launch is answered then; a client that goes ends the compile."""
+    shutil.copytree(editors.TOOLS, tmp_path / "tools", ignore=shutil.ignore_patterns("tests"))
+    launcher, done = tmp_path / "vsm", tmp_path / "done"
+    launcher.write_text("#!/bin/sh\nuntil [ -e '%s' ]; do sleep 0.1; done\n[ %d = 0 ] || exit %d\nexec '%s' \"$@\"\n"
+                        % (done, status, status, vsm))
+    launcher.chmod(0o755)
+    monkeypatch.setattr(editors, "TOOLS", tmp_path / "tools")
+    for is_patient in (False, True):
+        client = Debugged(None)
+        client.initialize()
+        number = client.send("launch", program=str(FIRST), stopOnEntry=True)
+        assert client.refused("threads") == "no script is launched"
+        assert client.refused("launch", program=str(FIRST)) == "a script is launched already"
+        if is_patient:
+            done.touch()
+            if status == 0:
+                client.until("initialized")
+                client.ask("configurationDone")
+            found = client.response(number)
+            assert found["success"] == (status == 0)
+            assert status == 0 or "ended with status 16" in found["message"]
+        else:
+            client.ask("disconnect")
+            client.open.pop(number)
+        assert client.close() == 0

@@ -10,7 +10,7 @@ import signal
 import sys
 import time
 from pathlib import Path
-from typing import Any, Iterator
+from typing import Any, Callable, Iterator
 
 import pytest
 from conftest import TOP
@@ -19,10 +19,10 @@ from editors import BAD, LIES, Edited, Message, damaged_value, framed
 from test_damaged import SCRIPTS, damaged
 from test_dap import Expected, generated
 
-from vsmtools import bench, documents, language, listing, manuals
+from vsmtools import bench, language, listing, manuals
 from vsmtools.command import Fault
 from vsmtools.documents import Document
-from vsmtools.lines import options_for
+from vsmtools.lines import options_for, statements
 from vsmtools.rpc import Code
 from vsmtools.tracking import world_at
 from vsmtools.words import FORMS, KEYWORDS
@@ -361,27 +361,34 @@ def test_a_text_that_changes_is_read_as_a_new_one() -> None:
             if chance.randrange(3) == 0:
                 document.read()
                 new = Document(URI, 1, text, "utf-16")
-                assert (document.text, document.ends, document.raw, document.begins, document.extents) == (
-                    new.text, new.ends, new.raw, new.begins, new.extents)
+                assert (document.text, document.ends, document.raw, document.begins, document.kinds) == (
+                    new.text, new.ends, new.raw, new.begins, new.kinds)
+                assert [*new.extents] == statements(new.raw)
+                assert [new.at(k + 1) for k in range(len(new.raw))] == [
+                    next((it for it in new.extents if it.first <= k + 1 <= it.last), None) for k in range(len(new.raw))]
 
 
-def test_a_change_reads_few_lines(monkeypatch: pytest.MonkeyPatch) -> None:
-    """Lines below a change are read again only up to a statement that begins as before."""
-    count = [0]
+def test_a_key_reads_few_lines() -> None:
+    """Lines below a change aren't gone through, even if it moves them: few lines of Python run."""
+    count, chance = [0], random.Random(1)
     document = Document(URI, 1, LONG * 50_000, "utf-16")
 
-    def counted(text: str) -> bytes:
+    def counted(*_: object) -> Callable:
         count[0] += 1
-        return text.encode()
+        return counted
 
-    monkeypatch.setattr(documents, "data_of", counted)
-    for line in (3, 50_000, 99_990):
-        for text in ("x", "\n STORAGE", " " * 70 + "X"):
-            document.apply({"range": span(line, 1, line, 1), "text": text})
+    for text in ("x", "\n STORAGE", " " * 70 + "X", "\n\n"):
+        for line in (3, 50_000, 99_990):
+            end = line + chance.choice((0, 0, 2))
+            sys.settrace(counted)
+            document.apply({"range": span(line, 1, end, 1), "text": text})
             document.read()
-    assert count[0] < 100
+            document.at(line + 1)
+            sys.settrace(None)
+    assert count[0] < 2000
     whole = Document(URI, 1, "".join(map("".join, zip(document.text, document.ends))), "utf-16")
-    assert (document.raw, document.begins, document.extents) == (whole.raw, whole.begins, whole.extents)
+    assert (document.raw, document.begins, document.kinds) == (whole.raw, whole.begins, whole.kinds)
+    assert len(whole.kinds) == len(whole.raw) and [*whole.extents] == statements(whole.raw)
 
 
 def position(text: str, at: int) -> Message:
@@ -488,6 +495,15 @@ def test_damaged_scripts(client: Edited) -> None:
             client.of(method, uri)
         client.of("inlayHint", uri, range=ALL)
         client.of("codeAction", uri, range=ALL, context={"diagnostics": found})
+
+
+def test_a_script_that_is_no_text(client: Edited) -> None:
+    """What a hover can't explain is said of the script, not of a path of the server's own."""
+    client.begin()
+    client.edit(URI, " MAP\0\n")
+    where = {"textDocument": {"uri": URI}, "position": {"line": 0, "character": 2}}
+    said = client.response(client.send("textDocument/hover", where))["error"]["message"]
+    assert said == "vsm-explain: the script isn't text: it has bytes X'00'"
 
 
 def test_wrong_requests_have_the_protocols_errors(client: Edited) -> None:

@@ -1,8 +1,6 @@
-"""Assembler source as far as its storage macros need it: statements over lines, symbols with their values and
-lengths.
+"""Assembler source as far as its storage macros need it: statements over lines, symbols with values and lengths.
 
-Nothing is assembled: if a machine instruction is between two places of a section, the distance between them isn't
-known.
+Nothing is assembled: the distance between two places isn't known if an instruction is between them.
 """
 from __future__ import annotations
 
@@ -170,8 +168,7 @@ def decided(it: Statement, lines: list[str], ends: list[int], variables: Variabl
 
 
 def mark_assembled(statements: Sequence[Statement], lines: list[str], variables: Variables) -> None:
-    """Marks what AGO skips, or AIF if its condition is known; and what is between an AIF or AGO and its target else: it
-    may be assembled or not. Takes the values of variable symbols."""
+    """Marks what a decided AIF or AGO skips, and what others may skip; takes the values of variable symbols."""
     labels = {it.name: k for k, it in enumerate(statements) if it.name.startswith(".")}
     edges = {k: targets(it, lines, labels) for k, it in enumerate(statements) if it.operation in BRANCHES}
     back = {to: k for k, ends in edges.items() for to in ends if to <= k}
@@ -313,11 +310,6 @@ class Symbols:
         self.sizes[self.section, section.part] = section.highest
         section.part, section.offset, section.alignment, section.highest = section.part + 1, 0, alignment, 0
 
-    def leave_section(self) -> None:
-        """What follows is another source: how far it is from what was read isn't known."""
-        self.section = ""
-        self.begin_part(8)
-
     def here(self) -> Value:
         it = self.here_section()
         return Value(it.offset, Counter({(self.section, it.part): 1}))
@@ -364,7 +356,10 @@ class Symbols:
         for operand in it.parts:
             count, kind, length, is_explicit, whole, data = self.constant(operand)
             if not is_explicit and kind not in TO_THE_BYTE:
-                self.align(8 if kind == "L" else LENGTHS[kind])
+                to = 8 if kind == "L" else LENGTHS[kind]
+                if to > section.alignment:
+                    self.begin_part(to)
+                section.offset = -(-section.offset // to) * to
             data = data * count if count <= MOST_DEPTH else b""
             if is_first:
                 self.define(it.name, Symbol(self.here(), length=length, data=data))
@@ -374,15 +369,8 @@ class Symbols:
             section.offset += count * whole
             section.highest = max(section.highest, section.offset)
 
-    def align(self, to: int) -> None:
-        section = self.here_section()
-        if to > section.alignment:
-            self.begin_part(to)
-        section.offset = -(-section.offset // to) * to
-
     def constant(self, text: str) -> tuple[int, str, int, bool, int, bytes]:
-        """A DS or DC operand: how often, its type, the length of the first value, whether that's written, of all
-        values, and their bytes."""
+        """A DS or DC operand: its count, type, first value's length, whether that's written, all lengths, and bytes."""
         found = re.match(r"(\d+|\([^()]*\))?([A-Z]D?|[A-Z][BHAE])(?=[L('\s]|$)(L(\d+|\([^()]*\)))?(.*)$",
                          text, re.I | re.S)
         if not found or found[2].upper() not in LENGTHS and found[2].upper() not in TO_THE_BYTE:

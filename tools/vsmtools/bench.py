@@ -12,6 +12,7 @@ import sysconfig
 import tempfile
 import threading
 import time
+from contextlib import AbstractContextManager, suppress
 from dataclasses import dataclass
 from typing import IO, Optional, Sequence, Union
 
@@ -19,13 +20,13 @@ import vsm_bench
 from vsm_bench import Answer, answers
 
 from .command import WORDS, Fault, reason
-from .lines import is_continued, is_passed_over, statements, text_of
+from .lines import is_continued, statements, text_of
 
 TOOLS = os.path.dirname(os.path.dirname(os.path.realpath(__file__)))
 TOP = os.path.dirname(TOOLS)
 BUILT = os.path.join(TOP, "crates", "vsm", "out", "vsm")
 BUILT_EXPLAIN = os.path.join(TOP, "crates", "vsm_explain_program", "out", "vsm_explain_program")
-EXPLAIN_LAUNCHER = os.path.join(TOP, "vsm-explain")
+LAUNCHER, EXPLAIN_LAUNCHER = (os.path.join(TOP, name) for name in ("vsm", "vsm-explain"))
 WITHOUT_INPUT = ["why", "OK"]    # arguments of vsm-explain
 SECONDS = 120  # the longest that a run may take, and that an answer may be waited for
 MOST_OUTPUT = 256 << 20    # bytes that a program may print
@@ -53,8 +54,7 @@ class Run:
 
 
 def add_words(parser: argparse.ArgumentParser, otherwise: str = "else ./vsm, which may compile first, or vsm on the PATH") -> None:
-    """Adds --vsm (--program is the same) and the four options of vsm to a tool's options; vsm itself judges their
-    values."""
+    """Adds --vsm, or --program, and the four options of vsm to a tool's; vsm itself judges their values."""
     group = parser.add_argument_group("the bench")
     group.add_argument("--vsm", "--program", dest="vsm", metavar="PROGRAM",
                        help="the program vsm (default: the built one here, %s)" % otherwise)
@@ -78,8 +78,7 @@ def end_with_parent() -> None:
 
 
 def start_compile(launcher: str, words: Sequence[str] = (), out: int = subprocess.DEVNULL) -> subprocess.Popen[bytes]:
-    """Starts a repository's ./vsm or ./vsm-explain over no input: the first run compiles a program, and standard error
-    says so."""
+    """Starts ./vsm or ./vsm-explain over no input: the first run compiles a program, and says so."""
     return subprocess.Popen([launcher, *words], stdin=subprocess.DEVNULL, stdout=out, preexec_fn=end_with_parent)
 
 
@@ -114,24 +113,22 @@ def find_program(named: Optional[str] = None, may_compile: bool = True, is_neede
         if not is_program(found):
             raise Fault("no program %s, or none that can be started" % named, status=WORDS)
         return os.path.abspath(found)
-    launcher = os.path.join(TOP, "vsm")
     # Installed tools are in lib/nilbozad or share/nilbozad/tools, and vsm in bin; or pip installed both.
     beside = [*(os.path.join(TOP, up, "bin", "vsm") for up in ("..", "../..")),
               os.path.join(sysconfig.get_path("scripts"), "vsm")]
-    for place in (BUILT, launcher if may_compile else BUILT + "-unproved", *beside, shutil.which("vsm") or ""):
+    for place in (BUILT, LAUNCHER if may_compile else BUILT + "-unproved", *beside, shutil.which("vsm") or ""):
         if is_program(place):
-            return compiled(place) if place == launcher and is_needed else os.path.abspath(place)
+            return compiled(place) if place == LAUNCHER and is_needed else os.path.abspath(place)
     raise Fault("no program vsm is found: --vsm names one", status=WORDS)
 
 
 def find_explain(vsm: str, is_needed: bool = True) -> str:
-    """The path of vsm-explain: the one next to vsm, else the built one, a repository's ./vsm-explain (compiled, if it's
-    needed now), or one on the PATH."""
-    launcher, beside = EXPLAIN_LAUNCHER, os.path.join(os.path.dirname(vsm), "vsm-explain")
-    places = [BUILT_EXPLAIN, launcher, shutil.which("vsm-explain") or ""]
-    for place in places if beside == launcher else [beside, *places]:
+    """The path of vsm-explain: the one next to vsm, the built one, ./vsm-explain (compiled), or one on the PATH."""
+    beside = os.path.join(os.path.dirname(vsm), "vsm-explain")
+    places = [BUILT_EXPLAIN, EXPLAIN_LAUNCHER, shutil.which("vsm-explain") or ""]
+    for place in places if beside == EXPLAIN_LAUNCHER else [beside, *places]:
         if is_program(place):
-            return compiled(place, WITHOUT_INPUT) if place == launcher and is_needed else place
+            return compiled(place, WITHOUT_INPUT) if place == EXPLAIN_LAUNCHER and is_needed else place
     raise Fault("no program vsm-explain is found: it has to be next to vsm, or on the PATH", status=WORDS)
 
 
@@ -186,10 +183,8 @@ def wait_for(child: subprocess.Popen[bytes], outputs: Sequence[IO[bytes]], secon
 
 def end_group(child: subprocess.Popen[bytes]) -> None:
     """Ends a program and what it started; its group has its number."""
-    try:
+    with suppress(ProcessLookupError, PermissionError):
         os.killpg(child.pid, signal.SIGKILL)
-    except (ProcessLookupError, PermissionError):
-        pass
     child.wait()
 
 
@@ -205,8 +200,6 @@ def run(program: str, options: Sequence[str], script: bytes, seconds: float = SE
 def check_is_one(lines: Sequence[str]) -> None:
     """Refuses lines that aren't exactly one whole statement, which a session would wait for, or answer too late."""
     texts = [line.encode("utf-8", "surrogateescape") for line in lines]
-    if len(texts) == 1 and b"\n" not in texts[0] and not is_passed_over(texts[0]) and not is_continued(texts[0]):
-        return
     found = statements(texts)
     if any(b"\n" in text for text in texts):
         raise Fault("a session takes one statement at a time, each line of it by itself")
@@ -223,11 +216,7 @@ class Partner:
         self.program, self.seconds, self.line = program, seconds, 0
         self.gathered = b""
         self.errors = tempfile.TemporaryFile()
-        try:
-            self.child = start(program, options, subprocess.PIPE, subprocess.PIPE, self.errors)
-        except Fault:
-            self.errors.close()
-            raise
+        self.child = start(program, options, subprocess.PIPE, subprocess.PIPE, self.errors)
 
     def ask(self, statement: bytes) -> Answer:
         """Writes the lines of one statement, and waits for its answer."""
@@ -261,33 +250,30 @@ class Partner:
         line, _, self.gathered = self.gathered.partition(b"\n")
         return line + b"\n"
 
-    def end(self) -> Fault:
-        """A fault, which says that the program ended while it was needed."""
+    def wait(self) -> int:
+        """The status with which the program ends, by force if that takes long."""
         try:
-            status = self.child.wait(5)
+            return self.child.wait(5)
         except subprocess.TimeoutExpired:
             self.child.kill()
-            status = self.child.wait()
+            return self.child.wait()
+
+    def end(self) -> Fault:
+        """A fault, which says that the program ended while it was needed."""
+        status = self.wait()
         self.errors.seek(0)
         return ended(self.program, status, self.errors.read().decode("utf-8", "replace"))
 
     def close(self) -> None:
         """Ends the program."""
         for pipe in (self.child.stdin, self.child.stdout):
-            try:
-                if pipe:
-                    pipe.close()
-            except OSError:
-                pass
-        try:
-            self.child.wait(5)
-        except subprocess.TimeoutExpired:
-            self.child.kill()
-            self.child.wait()
+            with suppress(OSError):
+                pipe.close()    # type: ignore[union-attr]
+        self.wait()
         self.errors.close()
 
 
-class Session:
+class Session(AbstractContextManager):
     """A bench that answers statement by statement: the library's if no program is named and one is found, else a
     program over pipes. Threads that share it wait for each other."""
 
@@ -297,16 +283,16 @@ class Session:
         if self._partner is None:
             self._partner = Partner(program or find_program(), options, seconds)
 
-    def __enter__(self) -> Session:
-        return self
-
     def __exit__(self, *_: object) -> None:
         self.close()
 
     def say(self, lines: Sequence[str]) -> Answer:
         """The answer to the lines of one statement."""
         check_is_one(lines)
-        text = text_of(lines)
+        return self.ask(text_of(lines))
+
+    def ask(self, text: bytes) -> Answer:
+        """The answer to a text that is one statement's lines."""
         with self._lock:
             if self._partner is None:
                 raise Fault("the session is closed")

@@ -7,6 +7,7 @@ import os
 import stat
 import sys
 import tempfile
+from contextlib import suppress
 from pathlib import Path
 from typing import Callable, NoReturn, Optional
 
@@ -35,20 +36,16 @@ def one_line(text: str) -> str:
 
 
 def version() -> str:
-    """The release that the tools are of, with the kit that its programs were proved by; in a repository what
-    the programs there say of themselves."""
+    """The tools' release, and the kit that proved its programs; in a repository, what the programs there say."""
     top = Path(__file__).resolve().parents[2]
     for file, behind in ((top / "VERSION", ""), (top / "docs" / "help.txt", ", of a repository")):
-        try:
+        with suppress(OSError, UnicodeDecodeError):
             return file.read_text(encoding="utf-8").strip().split("\n")[-1] + behind
-        except (OSError, UnicodeDecodeError):
-            continue
     return "nilbozad, of no known version"
 
 
 class Words(argparse.ArgumentParser):
-    """A parser of arguments whose errors are faults of one line, with --help and --version. Give it prog,
-    description, and an example as epilog."""
+    """A parser of arguments, with --help and --version, whose errors are faults of one line."""
 
     def __init__(self, **given: object) -> None:
         given.setdefault("formatter_class", argparse.RawDescriptionHelpFormatter)
@@ -63,10 +60,8 @@ class Words(argparse.ArgumentParser):
 
 def say(name: str, text: str) -> None:
     """One line on standard error; nothing if that is closed."""
-    try:
+    with suppress(OSError, ValueError):
         print("%s: %s" % (name, text), file=sys.stderr, flush=True)
-    except (OSError, ValueError, AttributeError):
-        pass
 
 
 def reason(fault: Exception) -> str:
@@ -128,47 +123,34 @@ def write(text: str) -> None:
 
 def silence_output() -> None:
     """Replaces standard output, so that what is still buffered isn't tried again at the end."""
-    try:
-        nowhere = os.open(os.devnull, os.O_WRONLY)
-        os.dup2(nowhere, 1)
-        os.close(nowhere)
-    except OSError:
-        pass
+    with suppress(OSError), open(os.devnull, "wb") as nowhere:
+        os.dup2(nowhere.fileno(), 1)
 
 
 def guarded(name: str, main: Callable[[list[str]], int], words: list[str]) -> int:
     """The exit status of main(words): faults, a full disk and a closed pipe end it in at most one line."""
+    status, text = READ_OR_WRITE, ""
     try:
         status = main(words)
-        if sys.stdout is not None:
-            sys.stdout.flush()
+        print(end="", flush=True)
         return status
     except Fault as fault:
-        say(name, str(fault))
-        return flushed(fault.status)
-    except BrokenPipeError:
-        silence_output()
-        return READ_OR_WRITE
+        status, text = fault.status, str(fault)
     except OSError as fault:
         silence_output()
-        say(name, "%s: %s" % (fault.filename or "can't write", reason(fault)))
-        return READ_OR_WRITE
+        status = READ_OR_WRITE
+        text = "" if isinstance(fault, BrokenPipeError) else "%s: %s" % (fault.filename or "can't write", reason(fault))
     except KeyboardInterrupt:
         silence_output()
-        return 130
+        status = 130
     except RecursionError:
-        say(name, "what was given is nested too deeply")
-        return READ_OR_WRITE
+        text = "what was given is nested too deeply"
     except MemoryError:
-        say(name, "there isn't enough memory")
-        return WORDS
-
-
-def flushed(status: int) -> int:
-    """The status, once what was written before a fault is out, or can't be got out."""
+        status, text = WORDS, "there isn't enough memory"
+    if text:
+        say(name, text)
     try:
-        if sys.stdout is not None:
-            sys.stdout.flush()
+        print(end="", flush=True)    # what was written before
     except OSError:
         silence_output()
     return status

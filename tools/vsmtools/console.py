@@ -36,8 +36,7 @@ class Console:
         return self.evaluated(text)
 
     def statement(self, text: str) -> Variable:
-        """Carries out a statement. It's another step of the way if something may have changed; what has changed,
-        opens."""
+        """Carries out a statement: another step of the way, if something may have changed. What has changed opens."""
         course, lines = self.course, fold(with_blank(text))
         if lines is None:
             raise Fault("a statement has at most ten lines")

@@ -58,8 +58,7 @@ MOST_SKIPPED = 64      # bytes that a branch to *+N goes over, before nothing is
 
 @dataclass(frozen=True)
 class Content:
-    """A word: a number, or the area, cell, cell pool or task that a macro gave, and the line where it got there; or why
-    it's lost."""
+    """A word: a number, or what a macro gave, such as an area, and the line where it got there; or why it's lost."""
     kind: str                          # number, area, inside, pool, task, length, label, list, lost
     what: Union[int, str, tuple]       # of an area its macro's first line, from 0; with a distance, if inside
     line: int
@@ -224,8 +223,7 @@ class Ways:
 
 
 class Contents:
-    """The contents of registers and fields at each statement in turn. What a later branch brings to a statement is as
-    the previous round found it."""
+    """The contents of registers and fields at each statement in turn, with what later branches brought last time."""
 
     def __init__(self, ways: Ways, assumed: dict[int, State]) -> None:
         self.ways, self.symbols, self.assumed = ways, ways.symbols, assumed
@@ -320,8 +318,6 @@ class Contents:
         found = re.fullmatch(r"%s([+]\d+)?" % SYMBOL, text)
         return self.known(self.ways.key(text)) if found and self.ways.key(text) != "" else None
 
-    # Stores.
-
     def forget_section(self, section: str, why: str, line: int) -> None:
         content = Content("lost", why, line)
         self.state.update((key, content) for key in list(self.state) if isinstance(key, tuple) and key[0] == section)
@@ -363,8 +359,7 @@ class Contents:
         self.forget_range(key, max(length, 0), line)
 
     def forget_through(self, text: str, length: int, is_indexed: bool, line: int) -> None:
-        """Forgets what a store by a register may change: the fields of its DSECT, and all if it may be any address.
-        Below 72 a register 13 has a save area."""
+        """Forgets what a store by a register may change: its DSECT's fields, or all. Register 13 has a save area."""
         found = re.fullmatch(r"([^()]*)\(([^()]*)\)", text)
         parts = found[2].split(",") if found else []
         base = self.register(parts[-1]) if parts and parts[-1] else None
@@ -400,8 +395,6 @@ class Contents:
         key = self.list_key(name)
         if key in self.state:
             self.state[key] = Content("lost", "line %d stores in list %s" % (line, name), line)
-
-    # Statements.
 
     def take(self, k: int) -> None:
         """One instruction, or a macro of no meaning here."""

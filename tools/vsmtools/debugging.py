@@ -4,21 +4,23 @@ from __future__ import annotations
 import base64
 import os
 import re
+from functools import partial
 from typing import Any, Callable, Optional
 
 from . import command, rpc, showing
-from .bench import BENCH_OPTIONS, Answer, Session, find_program
+from .bench import LAUNCHER, Answer, Session, find_program, not_compiled
 from .command import Fault, one_line
 from .console import SECONDS, Console
 from .lines import LAST_COLUMN, options_for
+from .rpc import WRONG
 from .running import FILTERS, Break, Course, Going, Stop, condition_of
+from .runs import Runs
 from .showing import Variable
 from .walking import Lost, Script, Walk
 
 Arguments = dict[str, Any]
 PAGED_FROM = 100    # longer lists are shown in parts
 SLICE = 64          # statements between two looks at what the client sends
-WRONG = (LookupError, TypeError, ValueError, AttributeError, OverflowError)    # what wrong arguments raise
 SUPPORTED = (
     "ConfigurationDoneRequest", "ConditionalBreakpoints", "LogPoints", "StepBack", "RestartRequest", "TerminateRequest",
     "EvaluateForHovers", "ReadMemoryRequest", "WriteMemoryRequest", "DataBreakpoints", "DataBreakpointBytes",
@@ -48,7 +50,8 @@ class Adapter:
         self.tasks: set[int] = set()                    # that the client knows
         self.opened: dict[int, showing.Children] = {}
         self.numbers = 0                                # of breakpoints, and of variables that open
-        self.is_over = self.is_ended = False
+        self.is_over = self.is_ended = self.is_compiled = False
+        self.runs = Runs()                              # a compile
 
     # Messages.
 
@@ -77,9 +80,8 @@ class Adapter:
         self.respond(request, False, message=text, body={"error": error})
 
     def say(self, text: str, category: str = "stdout", statement: Optional[int] = None) -> None:
-        more: dict[str, Any] = {}
-        if statement is not None:
-            more = {"source": self.source(), "line": self.line(self.script.extents[statement].first)}
+        more = {} if statement is None else {
+            "source": self.source, "line": self.line(self.script.extents[statement].first)}
         self.event("output", category=category, output=text + "\n", **more)
 
     def serve(self) -> None:
@@ -88,7 +90,9 @@ class Adapter:
                 self.hear()
                 if self.going and not self.is_ended:
                     self.go_on()
+            self.stream.flush()
         finally:
+            self.runs.end_all()
             if self.course:
                 self.course.walk.close()
 
@@ -104,8 +108,11 @@ class Adapter:
                 self.handle(message)
             elif self.stream.is_ended:
                 self.is_ended = True
-            elif not self.stream.read(0 if self.going else None):
-                return
+            else:
+                ready = self.stream.read(0 if self.going else None, self.runs.sources)
+                self.runs.gather(ready)
+                if not ready:
+                    return
 
     def handle(self, request: rpc.Message) -> None:
         name, arguments = request.get("command"), request.get("arguments")
@@ -151,26 +158,35 @@ class Adapter:
         return int(line) + (not self.has("linesStartAt1", True))
 
     def launch(self, request: rpc.Message, arguments: Arguments) -> None:
-        if self.launch_request:
+        if self.launch_request or self.runs.runs:
             raise Fault("a script is launched already")
         path = arguments.get("program")
         if not isinstance(path, str) or not path:
             raise Fault("launch needs 'program', the script's path")
         self.program = os.path.abspath(os.path.join(arguments.get("cwd") or "", path))
-        self.vsm = find_program(arguments.get("vsm") or self.named)
+        self.source = {"name": os.path.basename(self.program), "path": self.program}
+        self.vsm = find_program(arguments.get("vsm") or self.named, is_needed=False)
+        if self.vsm == LAUNCHER and not self.is_compiled:
+            self.runs.compile(self.vsm, (), partial(self.compiled, request))
+            return
         self.load(arguments)
         self.launch_request = request
         self.event("initialized")
+
+    def compiled(self, request: rpc.Message, _output: bytes, status: int) -> None:
+        """Goes on with a launch that has waited for the compile."""
+        self.is_compiled = status == 0
+        if status:
+            self.refuse(request, str(not_compiled(LAUNCHER, status)), True)
+        else:
+            self.handle(request)
 
     def load(self, launched: Arguments) -> None:
         """Reads the script, and begins a walk over it."""
         if os.path.exists(self.program) and not os.path.isfile(self.program):
             raise Fault("it's no regular file", self.program)
         data = command.read_input(self.program)[1]
-        options = options_for(self.program, data)
-        for option in BENCH_OPTIONS:
-            if option not in options and launched.get(option[2:]) is not None:
-                options += [option, str(launched[option[2:]])]
+        options = options_for(self.program, data, settings=launched)
         vsm = self.vsm or ""
         # The library is asked, if it's built; but a program that is named, itself.
         partner = vsm if launched.get("vsm") or self.named else None
@@ -236,9 +252,6 @@ class Adapter:
     def script(self) -> Script:
         return self.need().walk.script
 
-    def source(self) -> dict[str, Any]:
-        return {"name": os.path.basename(self.program), "path": self.program}
-
     # Breakpoints.
 
     def set_breakpoints(self, request: rpc.Message, arguments: Arguments) -> None:
@@ -265,7 +278,7 @@ class Adapter:
         course.breaks.setdefault(place, []).append(Break(self.numbers, text, None if log is None else str(log)))
         extent = self.script.extents[place]
         return {"verified": True, "id": self.numbers, "line": self.line(extent.first),
-                "endLine": self.line(extent.last), "source": self.source()}
+                "endLine": self.line(extent.last), "source": self.source}
 
     def breakpoint_locations(self, request: rpc.Message, arguments: Arguments) -> None:
         first = self.from_line(arguments["line"])
@@ -386,7 +399,7 @@ class Adapter:
             name = one_line(self.script.lines[first - 1][:LAST_COLUMN].strip())
         frame = {"id": task, "name": "%s: %s" % (refused.answer.text, name) if refused else name,
                  "line": self.line(first), "column": int(self.has("columnsStartAt1", True)),
-                 "endLine": self.line(last), "source": self.source()}
+                 "endLine": self.line(last), "source": self.source}
         if task != showing.current_of(course.map).number:
             frame["presentationHint"] = "subtle"
         start = int(arguments.get("startFrame") or 0)
@@ -447,8 +460,6 @@ class Adapter:
 
     def set_variable(self, _request: rpc.Message, _arguments: Arguments) -> None:
         raise Fault("no statement of the bench sets only a register or a name")
-
-    # Memory.
 
     @staticmethod
     def start_of(arguments: Arguments) -> int:

@@ -3,7 +3,8 @@ from __future__ import annotations
 
 import bisect
 import re
-from typing import Any, Optional
+from itertools import chain
+from typing import Any, Iterator, Optional, Sequence
 from urllib.parse import unquote, urlsplit
 
 from .lines import Extent, statements_from
@@ -11,6 +12,7 @@ from .listing import Listed, Listing
 from .reading import Part, Place, Statement, read
 
 LINE_END = re.compile(r"\r\n|\n|\r")
+STATEMENT = re.compile(b"SC*")    # over the kinds of lines
 FAR = 1 << 30
 
 
@@ -52,10 +54,9 @@ class Document:
         self.parsed: dict[tuple[bytes, ...], Statement] = {}
         self.unread = 0                         # the first line that has changed since the text was read,
         self.same = 0                           # and how many of the protocol's lines after all changes haven't
-        self.count = 0                          # of the protocol's lines when it was read
         self.raw: list[bytes] = []
-        self.extents: list[Extent] = []
-        self.begins: list[int] = []
+        self.kinds = bytearray()                # S for a statement's first line, C for its others
+        self.begins: Sequence[int] = ()
         self.read()
 
     @property
@@ -81,7 +82,7 @@ class Document:
             text, ends = cut_lines(head + given["text"] + tail)
             if self.ends[last]:
                 del text[-1], ends[-1]
-            self.same = min(self.same, len(self.text) - 1 - last)
+            self.same = 0 if "\r" in self.ends[first:last + 1] else min(self.same, len(self.text) - 1 - last)
             self.text[first:last + 1], self.ends[first:last + 1] = text, ends
         line = bisect.bisect_right(self.begins, first)
         self.valid, self.unread = min(self.valid, line), min(self.unread, line)
@@ -102,52 +103,57 @@ class Document:
     # The script's lines.
 
     def read(self) -> None:
-        """Takes the lines of the script that have changed, and its statements from there up to one that begins as before."""
+        """Takes the lines of the script that have changed, and the kinds up to a statement that begins as before."""
         if self.unread > len(self.raw):
             return
-        kept = self.extents[:bisect.bisect_left(self.extents, self.unread, key=lambda it: it.last)]
-        above = kept[-1].last if kept else 0
-        before, extents = len(self.raw), self.extents
-        below = 0 if "\r" in self.ends or len(self.begins) != len(self.raw) or before != self.count else self.same
-        if below:
-            self.raw[above:before - below] = map(data_of, self.text[above:len(self.text) - below])
-            self.begins = list(range(len(self.text))) if len(self.text) != before else self.begins
-        else:
+        above, before, below = max(0, self.unread - 1), len(self.raw), 0 if "\r" in self.ends else self.same
+        if self.kinds[above:above + 1] == b"C":
+            above = self.kinds.rfind(b"S", 0, above)
+        if "\r" in self.ends:
             self.read_lines(above)
-        moved, again, made = len(self.raw) - before, len(self.raw) - below, tuple.__new__
-        for it in statements_from(self.raw, above):
-            old = bisect.bisect_left(extents, it.first - moved, key=lambda one: one.first)
-            if below and it.first > again and old < len(extents) and extents[old].first == it.first - moved:
-                kept += [made(Extent, (first + moved, last + moved)) for first, last in extents[old:]] if moved else extents[old:]
+        else:
+            self.raw[above:before - below] = map(data_of, self.text[above:len(self.text) - below])
+            self.begins = range(len(self.text))
+        again, at = len(self.raw) - below, above
+        self.kinds[above:before - below] = bytes(again - above)
+        for first, last in chain(statements_from(self.raw, above), [(len(self.raw) + 1, 0)]):
+            self.kinds[at:first - 1] = bytes(first - 1 - at)
+            if first > again and self.kinds[first - 1:first] != b"C":
                 break
-            kept.append(it)
-        self.extents, self.unread, self.same, self.count = kept, len(self.raw) + 1, len(self.text), len(self.text)
+            self.kinds[first - 1:last], at = b"S" + b"C" * (last - first), last
+        self.unread, self.same = len(self.raw) + 1, len(self.text)
 
     def read_lines(self, above: int) -> None:
         """Takes the lines after these."""
         first, before = self.begins[above] if above < len(self.begins) else 0, "\n"
-        del self.raw[above:], self.begins[above:]
+        del self.raw[above:]
+        self.begins = begins = list(self.begins[:above])
         for k in range(first, len(self.text)):
             if before == "\r":
                 self.raw[-1] += b"\r" + data_of(self.text[k])
             else:
                 self.raw.append(data_of(self.text[k]))
-                self.begins.append(k)
+                begins.append(k)
             before = self.ends[k]
+
+    @property
+    def extents(self) -> Iterator[Extent]:
+        """The statements in turn."""
+        return (Extent(it.start() + 1, it.end()) for it in STATEMENT.finditer(self.kinds))
 
     def statement(self, extent: Extent) -> Statement:
         """A statement's parts; each text is read once."""
         lines = tuple(self.raw[extent.first - 1:extent.last])
         if lines not in self.parsed:
-            if len(self.parsed) > 2 * len(self.extents) + 1000:
+            if len(self.parsed) > 2 * len(self.raw) + 1000:
                 self.parsed.clear()
             self.parsed[lines] = read(lines)
         return self.parsed[lines]
 
     def at(self, line: int) -> Optional[Extent]:
         """The statement that has a line."""
-        k = bisect.bisect_left(self.extents, line, key=lambda it: it.last)
-        return self.extents[k] if k < len(self.extents) and self.extents[k].first <= line else None
+        found = STATEMENT.match(self.kinds, max(0, self.kinds.rfind(b"S", 0, line)))
+        return Extent(found.start() + 1, found.end()) if found and found.end() >= line else None
 
     def take(self, listing: Listing) -> None:
         """Takes the listing of the text as it is."""

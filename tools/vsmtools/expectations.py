@@ -14,7 +14,8 @@ import difflib
 import os
 import re
 from dataclasses import dataclass, field
-from typing import Iterable, Iterator, Optional, Sequence
+from itertools import islice
+from typing import Iterable, Optional, Sequence
 
 from .bench import Answer, Overrun, Run, answers, run_anyhow
 from .command import Fault
@@ -192,22 +193,18 @@ def heard(program: str, script: Script, seconds: float) -> tuple[list[Answer], O
         given = answers(done.output)
     except Fault as fault:
         raise script.wrong("line %d that %s printed: %s" % (fault.line or 0, name, fault.text)) from None
-    why = wrong_end(name, done, said) or wrong_run(name, script, done, given)
+    why = wrong_run(name, script, done, given, said)
     if why and not given:
         raise script.wrong(why)
     return given, script.wrong(why) if why else None
 
 
-def wrong_end(name: str, done: Run, said: str) -> str:
+def wrong_run(name: str, script: Script, done: Run, given: Sequence[Answer], said: str) -> str:
+    """Numbers ascend, each a statement's first line; status and standard error are those of the answers."""
     if done.status < 0:
         return "%s was ended by signal %d" % (name, -done.status)
     if done.status not in (0, 4):
         return "%s ended with status %d: %s" % (name, done.status, said or "nothing on standard error")
-    return ""
-
-
-def wrong_run(name: str, script: Script, done: Run, given: Sequence[Answer]) -> str:
-    """Numbers ascend, each a statement's first line; status and standard error are those of the answers."""
     begins = {it.extent.first for it in script.tested}
     before = 0
     for answer in given:
@@ -258,25 +255,14 @@ def differs(tested: Tested, got: list[str]) -> Optional[Difference]:
         return None
     unlike = (at for at, (one, other) in enumerate(zip(wanted, got)) if one != other)
     line = tested.expected[min(next(unlike, len(got)), len(wanted) - 1)].line
-    return Difference(line, "line %d gets another answer (- expected, + answered)" % statement,
-                      tuple(diff_lines(wanted, got)), statement)
-
-
-def diff_lines(wanted: list[str], got: list[str]) -> Iterator[str]:
-    """The lines of a diff; three lines around what differs, and '..' for what is left out between them."""
-    for number, line in enumerate(difflib.unified_diff(wanted, got, lineterm="")):
-        if number > 2:
-            yield ".." if line.startswith("@@") else line
+    # Three lines around what differs, and '..' for what is left out between them.
+    lines = islice(difflib.unified_diff(wanted, got, lineterm=""), 3, None)
+    diff = (".." if it.startswith("@@") else it for it in lines)
+    return Difference(line, "line %d gets another answer (- expected, + answered)" % statement, tuple(diff), statement)
 
 
 def line_end(line: bytes) -> bytes:
     return b"\r\n" if line.endswith(b"\r\n") else b"\n" if line.endswith(b"\n") else b""
-
-
-def must_be_ahead(script: Script, tested: Tested, last: bytes) -> bool:
-    """Whether a line after a statement would change its answer: it would continue it, or end its line."""
-    is_last = tested is script.tested[-1] and tested.extent.last == len(split_lines(script.data))
-    return is_last and (is_continued(last) or (not line_end(last) and last.endswith(b"\r")))
 
 
 def replace_expectations(script: Script, wanted: dict[int, list[str]]) -> bytes:
@@ -289,7 +275,9 @@ def replace_expectations(script: Script, wanted: dict[int, list[str]]) -> bytes:
     for it in script.tested:
         if it.extent.first not in wanted:
             continue
-        is_ahead = it.is_ahead or must_be_ahead(script, it, lines[it.extent.last - 1])
+        # A line after the last statement may change its answer: it would continue it, or end its line.
+        last, is_end = lines[it.extent.last - 1], it.extent.last == len(lines)
+        is_ahead = it.is_ahead or is_end and (is_continued(last) or not line_end(last) and last.endswith(b"\r"))
         sign = AT_END if is_ahead else EXPECTED
         put = [("%s %s" % (sign, text)).encode("latin-1") + end for text in wanted[it.extent.first]]
         dropped |= {old.line for old in it.expected}

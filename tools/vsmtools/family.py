@@ -7,7 +7,9 @@ attached by a task that has it then, which may be another one than its owner.
 from __future__ import annotations
 
 import heapq
+from contextlib import suppress
 from dataclasses import dataclass
+from graphlib import CycleError, TopologicalSorter
 from itertools import combinations
 from typing import Iterable, NoReturn, Optional, TypeVar
 
@@ -25,27 +27,21 @@ def give_up(source: str, line: int, why: str) -> NoReturn:
 
 def in_order(before: dict[Thing, set[Thing]]) -> list[Thing]:
     """The things, each after those before it, the least first; without those that wait for themselves."""
-    after: dict[Thing, list[Thing]] = {thing: [] for thing in before}
-    count = {thing: len(others) for thing, others in before.items()}
-    for thing, others in before.items():
-        for other in others:
-            after[other].append(thing)
-    ready = [thing for thing in before if not count[thing]]
-    heapq.heapify(ready)
-    found: list[Thing] = []
+    sorter, found = TopologicalSorter(before), []
+    with suppress(CycleError):
+        sorter.prepare()
+    ready = sorted(sorter.get_ready())
     while ready:
         found.append(heapq.heappop(ready))
-        for thing in after[found[-1]]:
-            count[thing] -= 1
-            if not count[thing]:
-                heapq.heappush(ready, thing)
+        sorter.done(found[-1])
+        for thing in sorter.get_ready():
+            heapq.heappush(ready, thing)
     return found
 
 
 @dataclass
 class Sight:
-    """The tasks that a task attaches while it sees a subpool: sharers, and last the one that it gives the subpool
-    to."""
+    """The tasks that a task attaches while it sees a subpool: sharers, and last the one that gets it."""
     sharers: set[int]
     gift: Optional[int]
 
@@ -97,8 +93,7 @@ class Family:
                      later[0] if later else None)
 
     def parts(self, task: int, keys: list[Key]) -> list[list[Sight]]:
-        """What a task sees of a number in turn: a subpool from its ATTACH on; those that it made and gave, in any
-        order; one that it made and has."""
+        """What a task sees of a number in turn: one from its ATTACH on; those made and given, in any order; its own."""
         first = [key for key in keys if self.owners[key][0] != task]
         if first and len(keys) > 1 and any(task not in self.owners[key][:-1] for key in first) or len(first) > 1:
             give_up(self.source, self.line[task], "the task sees two subpools %d at once" % keys[0][0])

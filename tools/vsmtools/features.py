@@ -30,10 +30,6 @@ def shown(answer: str) -> str:
     return "%s %s" % (sign, answer if len(answer) <= MOST_ANSWER else answer[:MOST_ANSWER - 3] + "...")
 
 
-def text_of(part: Part) -> str:
-    return part.text.encode("latin-1").decode("utf-8", "replace")
-
-
 def lenses(_server: Server, document: Document, _params: Message, _number: Any) -> Any:
     return [{"range": document.lines_range(it.extent.first, it.extent.first),
              "command": {"title": shown(it.text), "command": ""}} for it in document.answered()]
@@ -245,7 +241,8 @@ def symbols(_server: Server, document: Document, _params: Message, _number: Any)
         statement = document.statement(extent)
         if statement.operation is None:
             continue
-        name = one_line(" ".join([statement.name, *map(text_of, statement.operands[:2])]))[:MOST_ANSWER]
+        operands = " ".join(it.text for it in statement.operands[:2]).encode("latin-1").decode("utf-8", "replace")
+        name = one_line(" ".join(filter(None, [statement.name, operands])))[:MOST_ANSWER]
         found.append({"name": name, "detail": answers.get(extent, ""),
                       "kind": FUNCTION if statement.form in ("OBTAIN", "BUILD") else EVENT,
                       "range": document.lines_range(extent.first, extent.last),

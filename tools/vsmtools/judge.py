@@ -2,16 +2,12 @@
 from __future__ import annotations
 
 from bisect import bisect_right
-from typing import NoReturn, Sequence
+from typing import Sequence
 
 from .command import WORDS, Fault
-from .maps import HIGH_START, LOW_START, PAGE, Area, CellPool, Map, Subpool
+from .maps import HIGH_START, LOW_START, PAGE, Area, CellPool, Map, Subpool, page_end
 
 MOST_TASKS, MOST_POOLS, MOST_NAMES, MOST_CELLS, MOST_SUBPOOL = 64, 256, 1024, 4096, 127
-
-
-def rounded(length: int) -> int:
-    return -(-length // 8) * 8
 
 
 class Judge:
@@ -32,132 +28,109 @@ class Judge:
         self.totals()
         self.names()
 
-    def refuse(self, line: int, why: str) -> NoReturn:
-        raise Fault("the map is wrong: %s" % why, self.source, line)
+    def check(self, holds: bool, line: int, why: str) -> None:
+        """A fault at a line of the map, if something doesn't hold."""
+        if not holds:
+            raise Fault("the map is wrong: %s" % why, self.source, line)
 
     def side(self, area: Area) -> bool:
         """Whether an area is in one region."""
         return any(side.start <= area.start and area.end <= side.end for side in (self.low, self.high))
 
     def tasks(self) -> None:
-        before = 0
-        parents = {task.number: task.parent for task in self.map.tasks}
+        before, parents = 0, {task.number: task.parent for task in self.map.tasks} | {0: 0}
         for task in self.map.tasks:
-            if not before < task.number <= MOST_TASKS:
-                self.refuse(task.line, "tasks ascend, from 1 to %d" % MOST_TASKS)
-            if (task.number == 1) != (task.parent == 0) or task.parent and task.parent not in parents:
-                self.refuse(task.line, "no task %d attached it" % task.parent)
-            self.ancestors(task.number, task.line, parents)
+            self.check(before < task.number <= MOST_TASKS, task.line, "tasks ascend, from 1 to %d" % MOST_TASKS)
+            self.check((task.number == 1) == (task.parent == 0) and task.parent in parents, task.line,
+                       "no task %d attached it" % task.parent)
+            above = task.number
+            for _ in range(MOST_TASKS):
+                above = parents.get(above, 0)
+            self.check(above == 0, task.line, "its parents form a circle")
             before = task.number
-        if self.map.tasks[0].number != 1:
-            self.refuse(self.map.tasks[0].line, "there is always a task 1")
+        self.check(self.map.tasks[0].number == 1, self.map.tasks[0].line, "there is always a task 1")
         current = [task for task in self.map.tasks if task.is_current]
-        if len(current) != 1:
-            self.refuse((current + self.map.tasks)[-1].line, "exactly one task is CURRENT")
-
-    def ancestors(self, number: int, line: int, parents: dict[int, int]) -> None:
-        for _ in range(MOST_TASKS):
-            number = parents.get(number, 0)
-            if number == 0:
-                return
-        self.refuse(line, "its parents form a circle")
+        self.check(len(current) == 1, (current + self.map.tasks)[-1].line, "exactly one task is CURRENT")
 
     def subpools(self) -> None:
         seen: dict[tuple[int, int], int] = {}
         numbers = {task.number for task in self.map.tasks}
         before = (-1, 0)
         for it in self.map.subpools:
-            if not before < (it.number, it.owner) or it.number > MOST_SUBPOOL:
-                self.refuse(it.line, "subpools ascend by number and owner, from 0 to %d" % MOST_SUBPOOL)
+            self.check(before < (it.number, it.owner) and it.number <= MOST_SUBPOOL, it.line,
+                       "subpools ascend by number and owner, from 0 to %d" % MOST_SUBPOOL)
             before = (it.number, it.owner)
-            if it.sharers != sorted(set(it.sharers) - {it.owner}):
-                self.refuse(it.line, "sharers ascend, and the owner is none")
+            self.check(it.sharers == sorted(set(it.sharers) - {it.owner}), it.line,
+                       "sharers ascend, and the owner is none")
             for task in [it.owner, *it.sharers]:
-                if task not in numbers:
-                    self.refuse(it.line, "task %d doesn't exist" % task)
-                if (it.number, task) in seen:
-                    self.refuse(it.line, "task %d sees another subpool %d (line %d)"
-                                % (task, it.number, seen[it.number, task]))
-                seen[it.number, task] = it.line
+                self.check(task in numbers, it.line, "task %d doesn't exist" % task)
+                other = seen.setdefault((it.number, task), it.line)
+                self.check(other == it.line, it.line,
+                           "task %d sees another subpool %d (line %d)" % (task, it.number, other))
         for shown in self.map.tasks:
-            if (0, shown.number) not in seen:
-                self.refuse(shown.line, "each task sees a subpool 0, and this one sees none")
+            self.check((0, shown.number) in seen, shown.line, "each task sees a subpool 0, and this one sees none")
 
     def pages(self) -> None:
         runs: list[tuple[int, int, int]] = []
         for it in self.map.subpools:
             self.ascending(it, it.extents, "extents", 1)
             self.ascending(it, it.free, "free areas", 1 + len(it.extents))
-            for k, extent in enumerate(it.extents):
-                line = it.line + 1 + k
-                if extent.start % PAGE or extent.length % PAGE or not self.side(extent):
-                    self.refuse(line, "an extent is a run of pages of one region")
+            for line, extent in enumerate(it.extents, it.line + 1):
+                self.check(not (extent.start % PAGE or extent.length % PAGE) and self.side(extent), line,
+                           "an extent is a run of pages of one region")
                 runs.append((extent.start, extent.end, line))
-            for k, free in enumerate(it.free):
-                self.free_area(it, free, it.line + 1 + len(it.extents) + k)
+            for line, free in enumerate(it.free, it.line + 1 + len(it.extents)):
+                self.free_area(it, free, line)
         self.apart(runs, "a page of it is in the extent of line %d too")
 
     def apart(self, runs: list[tuple[int, int, int]], why: str) -> None:
         """Checks that no two runs share a byte; each is its begin, its end and its line."""
         runs.sort()
         for one, other in zip(runs, runs[1:]):
-            if one[1] > other[0]:
-                self.refuse(max(one[2], other[2]), why % min(one[2], other[2]))
+            self.check(one[1] <= other[0], max(one[2], other[2]), why % min(one[2], other[2]))
 
     def ascending(self, subpool: Subpool, areas: Sequence[Area], what: str, first: int) -> None:
-        for k, (one, other) in enumerate(zip(areas, areas[1:])):
-            if one.end >= other.start:
-                self.refuse(subpool.line + first + k + 1, "%s ascend, with something between two of them"
-                            % what)
+        for line, (one, other) in enumerate(zip(areas, areas[1:]), subpool.line + first + 1):
+            self.check(one.end < other.start, line, "%s ascend, with something between two of them" % what)
 
     def free_area(self, subpool: Subpool, free: Area, line: int) -> None:
-        if free.start % 8 or free.length % 8 or not free.length:
-            self.refuse(line, "a free area is a run of doublewords")
+        self.check(free.start % 8 == free.length % 8 == 0 < free.length, line, "a free area is a run of doublewords")
         self.inside(subpool, free, line, "the free area")
-        if -(-free.start // PAGE) * PAGE + PAGE <= free.end:
-            self.refuse(line, "a page in which nothing is taken leaves its subpool")
+        self.check(page_end(free.start) + PAGE > free.end, line, "a page in which nothing is taken leaves its subpool")
 
     def inside(self, subpool: Subpool, area: Area, line: int, what: str) -> None:
         at = bisect_right([it.start for it in subpool.extents], area.start) - 1
-        if at < 0 or area.end > subpool.extents[at].end:
-            self.refuse(line, "%s isn't in the subpool's pages" % what)
+        self.check(at >= 0 and area.end <= subpool.extents[at].end, line, "%s isn't in the subpool's pages" % what)
 
     def cell_pool(self, pool: CellPool) -> None:
         subpool = self.map.subpool(pool.subpool, pool.owner)
-        if subpool is None:
-            self.refuse(pool.line, "there is no subpool %d of task %d" % (pool.subpool, pool.owner))
-        if pool.size % 4 or not 4 <= pool.size <= 4096:
-            self.refuse(pool.line, "a cell has a multiple of 4 bytes, from 4 to 4096")
-        if not all(1 <= count <= MOST_CELLS for count in (pool.primary, pool.secondary)):
-            self.refuse(pool.line, "an extent has 1 to %d cells" % MOST_CELLS)
+        self.check(subpool is not None, pool.line, "there is no subpool %d of task %d" % (pool.subpool, pool.owner))
+        assert subpool
+        self.check(pool.size in range(4, 4097, 4), pool.line, "a cell has a multiple of 4 bytes, from 4 to 4096")
+        self.check(all(1 <= count <= MOST_CELLS for count in (pool.primary, pool.secondary)), pool.line,
+                   "an extent has 1 to %d cells" % MOST_CELLS)
         cells: set[int] = set()
         for k, extent in enumerate(pool.extents):
-            line, count = pool.line + 1 + k, pool.secondary if k else pool.primary
-            self.pool_extent(pool, subpool, extent, line, count)
-            cells.update(extent.start + j * pool.size for j in range(count))
-        first = pool.line + 1 + len(pool.extents)
-        for k, cell in enumerate(pool.free_cells):
-            if cell not in cells:
-                self.refuse(first + k, "no cell of this cell pool begins there, or it's free already")
+            self.pool_extent(pool, subpool, extent, pool.line + 1 + k, pool.secondary if k else pool.primary)
+            cells.update(pool.extent_cells(k))
+        for line, cell in enumerate(pool.free_cells, pool.line + 1 + len(pool.extents)):
+            self.check(cell in cells, line, "no cell of this cell pool begins there, or it's free already")
             cells.remove(cell)
 
     def pool_extent(self, pool: CellPool, subpool: Subpool, extent: Area, line: int, count: int) -> None:
-        if extent.length != rounded(count * pool.size):
-            self.refuse(line, "%d cells of %d bytes have a length of X'%08X'"
-                        % (count, pool.size, rounded(count * pool.size)))
-        if extent.start % 8:
-            self.refuse(line, "an extent begins on a doubleword")
+        whole = -(-count * pool.size // 8) * 8
+        self.check(extent.length == whole, line,
+                   "%d cells of %d bytes have a length of X'%08X'" % (count, pool.size, whole))
+        self.check(extent.start % 8 == 0, line, "an extent begins on a doubleword")
         self.inside(subpool, extent, line, "the extent")
-        if pool.location == 24 and extent.start >= HIGH_START:
-            self.refuse(line, "LOC 24 has its extents below the line")
-        if extent.start % PAGE and -(-extent.start // PAGE) * PAGE + PAGE <= extent.end:
-            self.refuse(line, "an extent that takes a new page begins with it")
+        self.check(pool.location != 24 or extent.start < HIGH_START, line, "LOC 24 has its extents below the line")
+        self.check(extent.start % PAGE == 0 or page_end(extent.start) + PAGE > extent.end, line,
+                   "an extent that takes a new page begins with it")
 
     def cell_pools_apart(self) -> None:
         names = [pool.name for pool in self.map.cell_pools]
-        if names != sorted(set(names)) or len(names) > MOST_POOLS:
-            self.refuse(self.map.cell_pools[-1].line, "cell pools ascend by name, and there are at most %d"
-                        % MOST_POOLS)
+        self.check(names == sorted(set(names))[:MOST_POOLS], max([0, *(it.line for it in self.map.cell_pools)]),
+                   "cell pools ascend by name, and there are at most %d" % MOST_POOLS)
         taken = [(extent.start, extent.end, pool.line + 1 + k)
                  for pool in self.map.cell_pools for k, extent in enumerate(pool.extents)]
         free = [(area.start, area.end, it.line + 1 + len(it.extents) + k)
@@ -169,24 +142,22 @@ class Judge:
         runs = [extent for subpool in it.subpools for extent in subpool.extents]
         low = sum(run.length for run in runs if run.start < HIGH_START) // PAGE
         high = sum(run.length for run in runs if run.start >= HIGH_START) // PAGE
-        if (low, high) != (it.low_assigned, it.high_assigned):
-            self.refuse(it.pages_line, "the extents have %d pages below the line and %d above" % (low, high))
+        self.check((low, high) == (it.low_assigned, it.high_assigned), it.pages_line,
+                   "the extents have %d pages below the line and %d above" % (low, high))
         free = sum(area.length for subpool in it.subpools for area in subpool.free)
-        if (it.taken, it.free) != ((low + high) * PAGE - free, free):
-            self.refuse(it.bytes_line, "of the pages %d bytes are taken and %d free"
-                        % ((low + high) * PAGE - free, free))
-        if it.low_pages < 1 or it.high_pages < 1:
-            self.refuse(it.pages_line, "each region has a page")
+        taken = (low + high) * PAGE - free
+        self.check((it.taken, it.free) == (taken, free), it.bytes_line,
+                   "of the pages %d bytes are taken and %d free" % (taken, free))
+        self.check(it.low_pages > 0 and it.high_pages > 0, it.pages_line, "each region has a page")
 
     def names(self) -> None:
         seen: set[str] = set()
-        for name in self.map.names:
-            if name.name in seen or len(seen) == MOST_NAMES:
-                self.refuse(name.line, "a name is defined once, and at most %d are" % MOST_NAMES)
-            seen.add(name.name)
-            if not self.is_address(name.word):
-                self.refuse(name.line, "a name has the address of an area or a cell, and X'%08X' can't be one"
-                            % name.word)
+        for it in self.map.names:
+            self.check(it.name not in seen and len(seen) < MOST_NAMES, it.line,
+                       "a name is defined once, and at most %d are" % MOST_NAMES)
+            seen.add(it.name)
+            self.check(self.is_address(it.word), it.line,
+                       "a name has the address of an area or a cell, and X'%08X' can't be one" % it.word)
 
     def is_address(self, word: int) -> bool:
         """Whether an obtain or a GET of a cell can give this address."""

@@ -7,17 +7,16 @@ from itertools import islice
 from typing import Any, Callable, Iterator, Optional
 
 from . import features, listing, manuals, rpc
-from .bench import BENCH_OPTIONS, EXPLAIN_LAUNCHER, MOST_OUTPUT, WITHOUT_INPUT, find_explain, find_program, not_compiled
+from .bench import EXPLAIN_LAUNCHER, MOST_OUTPUT, WITHOUT_INPUT, find_explain, find_program, not_compiled
 from .command import Fault, one_line, version
 from .documents import FAR, Document
 from .lines import Extent, options_for
 from .reading import Part
-from .rpc import Code, Failure, Message
+from .rpc import WRONG, Code, Failure, Message
 from .runs import Runs
 
 QUIET = 0.2           # seconds after the last change
 MOST_SHOWN = 10000    # diagnostics
-WRONG = (LookupError, TypeError, ValueError, AttributeError, OverflowError)    # what wrong parameters raise
 ERROR, WARNING, HINT = 1, 2, 4
 REFUSED = ("ABEND ", "REFUSED ")
 CAPABILITIES = {
@@ -64,6 +63,7 @@ class Server:
                 for it in list(self.documents.values()):
                     if it.due is not None and it.due <= time.monotonic():
                         self.list(it)
+            self.stream.flush()
         finally:
             self.runs.end_all()
         return self.status
@@ -84,7 +84,9 @@ class Server:
         is_request = "id" in message and not (method is None and ("result" in message or "error" in message))
         try:
             if not is_request and "id" in message:
-                self.hear_answer(message)
+                then = self.asked.pop(number, None)
+                if then and "result" in message:
+                    then(message["result"])
                 return
             if is_request and (not isinstance(number, (int, str)) or isinstance(number, bool)):
                 number = None
@@ -95,12 +97,6 @@ class Server:
         except (Failure, Fault, *WRONG) as fault:
             if is_request:
                 self.fail(number, *self.error_of(fault, method))
-
-    def hear_answer(self, message: Message) -> None:
-        """What the client answers to a request of the server."""
-        then = self.asked.pop(message["id"], None)
-        if then and "result" in message:
-            then(message["result"])
 
     @staticmethod
     def error_of(fault: Exception, method: Any) -> tuple[Code, str]:
@@ -189,8 +185,6 @@ class Server:
             self.fail(number, Code.CANCELLED, "the server is shut down")
         self.is_shut = True
 
-    # Documents.
-
     def document(self, params: Message) -> Document:
         uri = params["textDocument"]["uri"]
         if uri not in self.documents:
@@ -226,12 +220,8 @@ class Server:
 
     def options(self, document: Document) -> list[str]:
         """Those of the script's first comment, and what the client says of the others."""
-        first = document.extents[0].first if document.extents else len(document.raw)
-        found = options_for(document.path, b"\n".join(document.raw[:first]))
-        for option in BENCH_OPTIONS:
-            if option not in found and self.settings.get(option[2:]) is not None:
-                found += [option, str(self.settings[option[2:]])]
-        return found
+        first = len(document.kinds.partition(b"S")[0])
+        return options_for(document.path, b"\n".join(document.raw[:first]), settings=self.settings)
 
     # Diagnostics.
 
@@ -285,7 +275,7 @@ class Server:
         if status < 0:
             return "vsm-explain ended by signal %d" % -status
         said = output.decode("utf-8", "replace").strip().split("\n")[-1].replace("/dev/stdin: ", "")
-        return said or "vsm-explain ended with status %d" % status
+        return said.replace("/dev/stdin", "the script") or "vsm-explain ended with status %d" % status
 
     def publish(self, document: Document, found: list[Message]) -> None:
         told = {"uri": document.uri, "diagnostics": found}

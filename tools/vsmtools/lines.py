@@ -2,7 +2,9 @@
 from __future__ import annotations
 
 import re
-from typing import Iterator, NamedTuple, Optional, Sequence
+from typing import Any, Iterator, NamedTuple, Optional, Sequence
+
+import vsm_bench
 
 from .command import Fault
 
@@ -58,9 +60,9 @@ def statements_from(lines: Sequence[bytes], at: int) -> Iterator[Extent]:
         at += 1
 
 
-def options_for(name: str, script: bytes, given: Sequence[str] = ()) -> list[str]:
-    """The options of vsm for a script, as a list of names and values: those that are given, and the others of the
-    comments before its first statement ('*! --residence 31')."""
+def options_for(name: str, script: bytes, given: Sequence[str] = (), settings: dict[str, Any] = {}) -> list[str]:
+    """The options of vsm for a script, names and values: those that are given, others of the comments before its first
+    statement ('*! --residence 31'), and others of an editor's settings."""
     found = list(given)
     for number, line in enumerate(split_lines(script), 1):
         if not is_passed_over(line):
@@ -71,14 +73,13 @@ def options_for(name: str, script: bytes, given: Sequence[str] = ()) -> list[str
         for option, value in zip(words[::2], words[1::2]):
             if option not in given:
                 found += [option, value]
-    return found
+    others = [it for it in vsm_bench.OPTIONS if it not in found and settings.get(it[2:]) is not None]
+    return [*found, *(word for it in others for word in (it, str(settings[it[2:]])))]
 
 
 def fold(text: str, most: int = MOST_LINES) -> Optional[list[str]]:
-    """A statement's text, with the blanks before it, over at most this many lines; None if they're too few.
-
-    Lines end after a comma if that takes no more lines than there are, else in column 71.
-    """
+    """A statement's text, with the blanks before it, over at most this many lines; None if they're too few. Lines end
+    after a comma if that takes no more lines than there are, else in column 71."""
     if len(text) > LAST_COLUMN + (most - 1) * ON_FURTHER_LINES:
         return None
     for ends in (comma_ends(text), set(range(len(text)))):

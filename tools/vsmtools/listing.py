@@ -15,8 +15,7 @@ ACCEPTED = b'"refused":false,'
 
 
 class Mark(NamedTuple):
-    """A fault, a warning or a dropped line: a line from 1, a begin and an end in bytes from 0. A fault also has its
-    word, and one that it proposes."""
+    """A fault, a warning or a dropped line: its line from 1, and bytes from 0; a fault's word, and one proposed."""
     line: int
     begin: int
     end: int
@@ -55,10 +54,6 @@ class Listing:
         return [answer_of(json.loads(it)) if isinstance(it, bytes) else it for it in self.rows]
 
 
-def mark_of(it: dict[str, Any]) -> Mark:
-    return Mark(it["line"], it["column"] - 1, it["end"] - 1, it["text"], it.get("fault", ""), it.get("hint", ""))
-
-
 def answer_of(it: dict[str, Any]) -> Listed:
     return Listed(Extent(it["first"], it["last"]), it["answer"], it.get("cause", ""), it.get("name", "").upper(),
                   it.get("word", 0), it.get("pool", "").upper(), it.get("address", 0))
@@ -81,7 +76,8 @@ def parse(output: bytes) -> Listing:
                 found.refused.append(answer_of(it))
                 found.rows.append(found.refused[-1])
             elif it["kind"] in marks:
-                marks[it["kind"]].append(mark_of(it))
+                marks[it["kind"]].append(Mark(it["line"], it["column"] - 1, it["end"] - 1, it["text"],
+                                              it.get("fault", ""), it.get("hint", "")))
     except (LookupError, TypeError, ValueError, AttributeError):
         raise Fault("vsm-explain lists in another form than vsm-lsp reads: take both of one release") from None
     return found

@@ -11,13 +11,9 @@ from bisect import bisect_left
 from .family import Family, Key, give_up, in_order
 from .judge import Judge
 from .lines import fold
-from .maps import HIGH_START, LOW_START, PAGE, Area, CellPool, Map, Subpool, Task
+from .maps import HIGH_START, LOW_START, PAGE, Area, CellPool, Map, Subpool, Task, page_end
 
 Place = tuple[str, int]     # an extent: the name of its cell pool, and which one it is
-
-
-def page_end(address: int) -> int:
-    return -(-address // PAGE) * PAGE
 
 
 def location(address: int) -> int:
@@ -84,7 +80,10 @@ class Loader:
             self.words(shown)
         for it in self.map.subpools:
             if it.number and not it.extents and not it.sharers and self.family.owners[it.number, it.owner] == [it.owner]:
-                self.make_empty(it)
+                # A subpool without storage that nobody shares, by an area that is released at once.
+                self.script.by(it.owner)
+                self.script.obtain(Area(LOW_START, 8), it.number)
+                self.script.release(Area(LOW_START, 8), it.number)
         for it in self.map.subpools:
             if it.extents:
                 self.script.by(it.owner)
@@ -165,12 +164,6 @@ class Loader:
 
     # Storage.
 
-    def make_empty(self, it: Subpool) -> None:
-        """A subpool without storage that nobody shares, by an area that is released at once."""
-        self.script.by(it.owner)
-        self.script.obtain(Area(LOW_START, 8), it.number)
-        self.script.release(Area(LOW_START, 8), it.number)
-
     def unassigned(self, start: int) -> list[Area]:
         """The runs of pages of one side of the line that no subpool has so far."""
         pages = self.map.low_pages if start == LOW_START else self.map.high_pages
@@ -202,8 +195,7 @@ class Pages:
             self.script.release(area, self.it.number)
 
     def fill(self) -> None:
-        """Takes all pages up to the last one of the subpool; above the line all that exist if an extent that may be
-        there is below."""
+        """Takes all pages up to the subpool's last; above the line all, if an extent that may be there is below."""
         is_full = any(pool.location == 31 and extent.start < HIGH_START
                       for pool in self.pools for extent in pool.extents)
         for start in (LOW_START, HIGH_START):

@@ -3,13 +3,17 @@ from __future__ import annotations
 
 import re
 from dataclasses import dataclass, field
-from typing import Callable, NoReturn, Optional, Sequence
+from typing import Callable, Optional, Sequence
 
 from .command import Fault
 
 PAGE = 4096
 LOW_START = 0x6000        # where the region below the 16 MB line begins
 HIGH_START = 0x8000000    # and the one above
+
+
+def page_end(address: int) -> int:
+    return -(-address // PAGE) * PAGE
 
 
 @dataclass(frozen=True)
@@ -122,38 +126,6 @@ FOLLOWS = {
 }
 
 
-class Reader:
-    """Takes the lines of one map in turn."""
-
-    def __init__(self, source: str, first: int) -> None:
-        self.map, self.source, self.line, self.before = Map(), source, first - 1, ""
-
-    def fault(self, text: str, column: int = 1) -> NoReturn:
-        raise Fault(text, self.source, self.line, column)
-
-    def take(self, line: str) -> None:
-        self.line += 1
-        kind = line.split(" ")[1:3]
-        word = next((it for it in kind if it), "")
-        follows = FOLLOWS[self.before].split()
-        known = "POOLEXTENT" if word == "EXTENT" and "POOLEXTENT" in follows else word
-        if word not in PATTERNS:
-            self.fault("no line of a map: '%s'" % line[:60])
-        if known not in follows:
-            self.fault("a line %s isn't allowed here: expected %s"
-                       % (word, " or ".join(follows) or "the map's end"))
-        found = PATTERNS[word].fullmatch(line)
-        if not found:
-            self.fault("not a whole line %s of a map: '%s'" % (word, line[:60]))
-        self.before = known
-        if known in FIELDS:
-            for name, word in zip(FIELDS[known], found.groups()):
-                setattr(self.map, name, int(word))
-            setattr(self.map, known.lower() + "_line", self.line)
-        else:
-            TAKERS[known](self.map, found, self.line)
-
-
 def area_of(found: re.Match[str]) -> Area:
     return Area(int(found[1], 16), int(found[2], 16))
 
@@ -178,18 +150,29 @@ TAKERS: dict[str, Callable[[Map, re.Match[str], int], None]] = {
 
 
 def parse_map(lines: Sequence[str], source: str = "the map", first: int = 1) -> Map:
-    """A map's lines, from TASK 1 to HISTORY, as data. They're judged line by line, not against each other.
-
-    `first` is the number that the first of them has in `source`, for the fault that names a wrong line.
-    """
-    reader = Reader(source, first)
-    for line in lines:
-        reader.take(line)
-    if reader.before != "HISTORY":
-        reader.line += not lines
-        reader.fault("the map is cut short: it ends after %s, and a map ends with a line HISTORY"
-                     % (reader.before or "nothing"))
-    return reader.map
+    """A map's lines as data, each judged by itself; `first` is the first one's number in `source`, for faults."""
+    shown, before = Map(), ""
+    for number, line in enumerate(lines, first):
+        word = next((it for it in line.split(" ")[1:3] if it), "")
+        follows = FOLLOWS[before].split()
+        before = "POOLEXTENT" if word == "EXTENT" and "POOLEXTENT" in follows else word
+        found = PATTERNS[word].fullmatch(line) if word in PATTERNS else None
+        if word not in PATTERNS:
+            raise Fault("no line of a map: '%s'" % line[:60], source, number, 1)
+        if before not in follows:
+            expected = " or ".join(follows) or "the map's end"
+            raise Fault("a line %s isn't allowed here: expected %s" % (word, expected), source, number, 1)
+        if not found:
+            raise Fault("not a whole line %s of a map: '%s'" % (word, line[:60]), source, number, 1)
+        if before in FIELDS:
+            vars(shown).update(zip(FIELDS[before], map(int, found.groups())))
+            setattr(shown, before.lower() + "_line", number)
+        else:
+            TAKERS[before](shown, found, number)
+    if before != "HISTORY":
+        raise Fault("the map is cut short: it ends after %s, and a map ends with a line HISTORY"
+                    % (before or "nothing"), source, first + max(0, len(lines) - 1), 1)
+    return shown
 
 
 def map_lines(shown: Map) -> list[str]:

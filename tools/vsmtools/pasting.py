@@ -60,11 +60,6 @@ class Macro:
         """The register that its place is; 0 if that's a name, or it has none."""
         return int(self.place[1:-1]) if self.place.startswith("(") else 0
 
-    @property
-    def is_conditional(self) -> bool:
-        """Whether out of storage is an answer 4."""
-        return "COND=YES" in self.operands or bool({"RC", "VRC", "EC", "C", "COND"} & set(self.operands[:2]))
-
     def folded(self, more: int = 0) -> Optional[list[str]]:
         """Its lines, over those of the source up to the next macro; None if it, or it with this much more, needs more."""
         return fold(self.text() + "_" * more, self.statement.last - self.statement.first + 1) or \
@@ -84,11 +79,6 @@ class Macro:
         if self.place:
             operands.append("%s=%s" % (self.keyword, self.place))
         return (" %s %s" % (operation, ",".join(operands))).rstrip()
-
-
-def as_comment(line: str) -> str:
-    """A source's line as a comment; an empty one stays empty."""
-    return (line if line.startswith("*") or not line.strip() else "*" + line)[:71].rstrip()
 
 
 def as_storage(operands: list[str]) -> list[str]:
@@ -212,7 +202,8 @@ class Paste:
         mark_assembled(found, lines, Variables({}))
         for it, why in self.symbols.read(found):
             self.note(1, 1, "--copy %s, line %d: %s" % (name, it.first + 1, why))
-        self.symbols.leave_section()
+        self.symbols.section = ""      # how far what follows is from this isn't known
+        self.symbols.begin_part(8)
 
     def read_residence(self) -> Optional[Statement]:
         """The RMODE that says that the program is above the line."""
@@ -224,8 +215,7 @@ class Paste:
         return above[0] if above and len(above) == len(found) else None
 
     def settled(self, ask: Callable[[list[str]], list[Answer]]) -> list[str]:
-        """The script as vsm reads it: a statement that it finds faulty isn't taken, and an address into an area is a number
-        by what it answers there."""
+        """The script as vsm reads it: without what it finds faulty, and with numbers for addresses inside areas."""
         script = self.paste()
         for _ in range(MOST_RUNS):
             answers = {it.line - 1: it for it in ask(script)}
@@ -332,7 +322,7 @@ class Paste:
             self.held, self.names, self.are_tasks_known = {}, {}, False
 
     def whole(self) -> list[str]:
-        found = [as_comment(line) for line in self.lines]
+        found = [("*" * (line.strip() != "" and line[0] != "*") + line)[:71].rstrip() for line in self.lines]
         if self.residence and self.residence.first < min(self.written, default=len(found)):
             found[self.residence.first] = "*! --residence 31"
         for it in self.statements:
@@ -350,8 +340,6 @@ class Paste:
             if content and content.kind == "area" and int(content.what) in self.macros:
                 macro = self.macros[int(content.what)]
                 macro.wish = macro.wish or it.parts[1].upper()
-
-    # Macros.
 
     def macro(self, it: Statement) -> None:
         try:
@@ -397,7 +385,7 @@ class Paste:
             elif it.place:
                 self.contents.forget_stored(it.place, 8 if it.is_list else 4, False, it.line)
                 self.contents.set_field(it.place, it.gave)
-            if it.is_conditional:
+            if "COND=YES" in it.operands or {"RC", "VRC", "EC", "C", "COND"} & set(it.operands[:2]):
                 self.after_conditional(it)
             if it.place and not it.register:
                 self.names[it.place] = number

@@ -1,14 +1,15 @@
-"""A session with vsm at a prompt: its lines, the changes that are kept, and the commands that begin with a
-period."""
+"""A session with vsm at a prompt: its lines, the changes that are kept, and its commands."""
 from __future__ import annotations
 
 import os
 import re
 import signal
 import tempfile
-from types import FrameType
-from typing import Callable, Optional, Sequence
+from contextlib import contextmanager
+from itertools import count
+from typing import Callable, Iterator, Optional, Sequence
 
+from . import showing
 from .bench import TOOLS, Answer, Session, check_is_one, find_explain, run_anyhow
 from .command import Fault, one_line, read_input, write_file
 from .lines import (
@@ -31,26 +32,22 @@ HELP = """  STATEMENT                  no blank is needed in column 1; after a l
   .help, ?                   these lines
   .quit                      ends, as Ctrl+D does; Ctrl+C drops the line that is open
   P is a name, an address or a register. A command may be shortened while it stays clear: .sa, .q"""
-COMMANDS = {text.split()[0]: text for text in (
-    "back until ", "until ", "step", "run", "read ", "log", "save ", "view", "restart", "who ", "why", "list", "help",
-    "quit")}     # with what Tab makes of each
+# Each command with what Tab makes of it.
+COMMANDS = {text.split()[0]: text for text in re.findall(r"(?m)(?:^  |], )\.((?:back )?\w+(?: (?=[A-Z]))?)", HELP)}
 SECONDS = 30.0
 
 
-class Deferred:
+@contextmanager
+def deferred() -> Iterator[None]:
     """Puts Ctrl+C off to the end of what must not be cut in two: a statement and its answer."""
-
-    def __enter__(self) -> None:
-        self.came = False
-        self.before = signal.signal(signal.SIGINT, self.note)
-
-    def note(self, _signal: int, _frame: Optional[FrameType]) -> None:
-        self.came = True
-
-    def __exit__(self, kind: object, *_: object) -> None:
-        signal.signal(signal.SIGINT, self.before)
-        if self.came and kind is None:
-            raise KeyboardInterrupt
+    came: list[int] = []
+    before = signal.signal(signal.SIGINT, lambda number, _: came.append(number))
+    try:
+        yield
+    finally:
+        signal.signal(signal.SIGINT, before)
+    if came:
+        raise KeyboardInterrupt
 
 
 def operand_text(text: str) -> str:
@@ -108,9 +105,8 @@ class Bench:
             raise
 
     def carry_out(self, lines: Sequence[str]) -> Answer:
-        """One statement's lines: into the log, to vsm, and its answer with the number that it has in the
-        log."""
-        with Deferred():
+        """One statement's lines: into the log, to vsm, and its answer with its number in the log."""
+        with deferred():
             answer = self.ask(lines)
             begin = len(self.log)
             self.log += lines
@@ -138,18 +134,18 @@ class Bench:
 
     def step(self, statement: str) -> Answer:
         """A step that the log doesn't have."""
-        with Deferred():
+        with deferred():
             answer = self.ask([" " + statement])
             self.count(answer, 0)
         return answer
 
     def peek(self, place: str) -> str:
         """What a PEEK is answered; the log doesn't have it."""
-        with Deferred():
+        with deferred():
             return self.ask([" PEEK " + place]).text
 
     def map(self) -> Map:
-        with Deferred():
+        with deferred():
             return parse_map(self.ask([" MAP"]).rest)
 
     def close(self) -> None:
@@ -184,7 +180,7 @@ class Prompt:
         elif line.startswith("."):
             self.command(line)
         elif line.strip().lower() in ("?", "help"):
-            self.help([])
+            self.show(HELP)
         elif not line.strip() or is_passed_over(line.encode("utf-8", "replace")):
             if line.strip():
                 self.bench.log.append(line)
@@ -247,12 +243,10 @@ class Prompt:
             raise Fault("a line has more than 65,536 characters", name,
                         1 + [len(it) > 65536 for it in lines].index(True))
         found = statements([line.encode("utf-8", "surrogateescape") for line in lines])
-        at = 0
-        for extent in found:
-            self.rest += [[line] for line in lines[at:extent.first - 1]]
-            self.rest.append(lines[extent.first - 1:extent.last])
-            at = extent.last
-        self.rest += [[line] for line in lines[at:]]
+        ends, at = {it.first - 1: it.last for it in found}, 0
+        while at < len(lines):
+            self.rest.append(lines[at:ends.get(at, at + 1)])
+            at += len(self.rest[-1])
         self.go(lambda answer: False, stop)
 
     def go(self, is_last: Callable[[Answer], bool], stop: Optional[int] = None) -> bool:
@@ -289,20 +283,17 @@ class Prompt:
             found = ["help"]
         if len(found) > 1:
             raise Fault(".%s isn't clear: it may be %s" % (name, " or ".join("." + it for it in found)))
-        known = {"help": self.help, "quit": self.quit, "back": self.back, "until": self.until, "step": self.steps,
-                 "run": self.run, "read": self.read, "log": self.list_kept, "save": self.save, "view": self.view,
-                 "who": self.who, "why": self.why, "list": self.listing, "restart": self.restart}
         if not found:
             raise Fault("no command .%s; .help lists them" % name)
-        known[found[0]](words[1:])
+        getattr(self, "do_" + found[0])(words[1:])
 
-    def help(self, _words: list[str]) -> None:
+    def do_help(self, _words: list[str]) -> None:
         self.show(HELP)
 
-    def quit(self, _words: list[str]) -> None:
+    def do_quit(self, _words: list[str]) -> None:
         self.ended = True
 
-    def back(self, words: list[str]) -> None:
+    def do_back(self, words: list[str]) -> None:
         if len(words) != 3 or words[0].lower() != "until" or words[2].lower() != "changes":
             raise Fault("it's .back until P changes, or P,N of N bytes; BACK N steps back by N changes")
         place = self.place(words[1])
@@ -334,11 +325,7 @@ class Prompt:
         if not re.fullmatch(r"[A-Z$#@_][\w$#@]*|\(R?\d+\)", name):
             return None
         shown = self.bench.map()
-        words = {it.name: it.word for it in shown.names}
-        for task in shown.tasks:
-            if task.is_current:
-                words.update(("(%s%d)" % (r, k), word) for k, word in enumerate(task.registers) for r in ("", "R"))
-        return words.get(name)
+        return showing.address_of(name, shown) if name[0] == "(" else showing.named(shown, name)
 
     def place(self, text: str) -> str:
         """An address that stays the same while names and registers change, with a number of bytes."""
@@ -350,7 +337,7 @@ class Prompt:
             raise Fault("%s isn't defined" % name)
         return "%s,%s" % (name, count or "4")
 
-    def until(self, words: list[str]) -> None:
+    def do_until(self, words: list[str]) -> None:
         text = " ".join(words)
         if not text:
             raise Fault("it's .until ABEND, or any other text of an answer")
@@ -364,24 +351,19 @@ class Prompt:
         if not self.rest:
             raise Fault("no lines of a file are left to carry out")
 
-    def steps(self, words: list[str]) -> None:
+    def do_step(self, words: list[str]) -> None:
         if words and not (words[0].isdecimal() and len(words[0]) < 8):
             raise Fault("it's .step N")
         self.need_file()
-        left = [int(words[0]) if words else 1]
-
-        def is_last(_answer: Answer) -> bool:
-            left[0] -= 1
-            return left[0] < 1
-
-        self.go(is_last)
+        steps = count(1)
+        self.go(lambda _: next(steps) >= (int(words[0]) if words else 1))
         self.next()
 
-    def run(self, _words: list[str]) -> None:
+    def do_run(self, _words: list[str]) -> None:
         self.need_file()
         self.go(lambda answer: False)
 
-    def read(self, words: list[str]) -> None:
+    def do_read(self, words: list[str]) -> None:
         if len(words) != 1:
             raise Fault("it's .read FILE")
         rest, self.rest = self.rest, []
@@ -390,7 +372,7 @@ class Prompt:
         finally:
             self.rest += rest
 
-    def list_kept(self, _words: list[str]) -> None:
+    def do_log(self, _words: list[str]) -> None:
         for begin in self.bench.kept:
             self.show(self.bench.text(begin))
         for begin in reversed(self.bench.undone):
@@ -404,7 +386,7 @@ class Prompt:
         write_file(words[-1], data, over)
         return words[-1]
 
-    def save(self, words: list[str]) -> None:
+    def do_save(self, words: list[str]) -> None:
         self.show("  %d lines in %s" % (len(self.bench.log), self.write(words, "save FILE", text_of(self.bench.log))))
 
     def over(self, program: str, words: Callable[[str], list[str]], lines: Sequence[str]) -> list[str]:
@@ -420,7 +402,7 @@ class Prompt:
             raise Fault(one_line(done.errors.strip()) or "%s ended with status %d" % (program, done.status))
         return done.output.decode("utf-8", "surrogateescape").split("\n")[:-1]
 
-    def view(self, words: list[str]) -> None:
+    def do_view(self, words: list[str]) -> None:
         program = os.path.join(TOOLS, "vsm-view")
         if not os.access(program, os.X_OK):
             raise Fault("vsm-view isn't in vsm-prompt's folder")
@@ -436,12 +418,12 @@ class Prompt:
                               lambda path: [subcommand, *self.bench.options, path, *words], self.bench.log):
             self.show(line)
 
-    def who(self, words: list[str]) -> None:
+    def do_who(self, words: list[str]) -> None:
         if len(words) != 1:
             raise Fault("it's .who P, or .who P,N of N bytes")
         self.explain("who", self.place(words[0]).split(","))
 
-    def why(self, words: list[str]) -> None:
+    def do_why(self, words: list[str]) -> None:
         if len(words) > 1 or words and not (words[0].isdecimal() and len(words[0]) < 8):
             raise Fault("it's .why, or .why LINE")
         found = statements(split_lines(text_of(self.bench.log)))
@@ -449,10 +431,10 @@ class Prompt:
             raise Fault("there is no statement yet")
         self.explain("why", words or [str(found[-1].first)])
 
-    def listing(self, _words: list[str]) -> None:
+    def do_list(self, _words: list[str]) -> None:
         self.explain("list", [])
 
-    def restart(self, _words: list[str]) -> None:
+    def do_restart(self, _words: list[str]) -> None:
         lines, self.bench.log = self.bench.log, []
         self.bench.close()
         self.bench.start()

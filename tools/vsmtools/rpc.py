@@ -14,6 +14,7 @@ from .command import Fault
 
 Message = dict[str, Any]
 ENCODER = json.JSONEncoder(ensure_ascii=False, separators=(",", ":"))
+WRONG = (LookupError, TypeError, ValueError, AttributeError, OverflowError)    # what wrong parameters raise
 MOST_HEADER = 8192
 MOST_BODY = 512 << 20    # a script of 268,435,456 bytes, and what JSON adds to it
 HEADER_END = re.compile(rb"\r?\n\r?\n")
@@ -42,12 +43,8 @@ class Failure(Exception):
         self.code = code
 
 
-class Unreadable(Exception):
+class Unreadable(Failure):
     """A message that can't be read. The next one may be."""
-
-    def __init__(self, text: str, code: Code = Code.PARSE) -> None:
-        super().__init__(text)
-        self.code = code
 
 
 def refuse_constant(word: str) -> NoReturn:
@@ -59,9 +56,9 @@ def parsed(body: bytes) -> Message:
     try:
         found = json.loads(body.decode("utf-8"), parse_constant=refuse_constant)
     except (ValueError, RecursionError) as fault:
-        raise Unreadable("a message isn't JSON: %s" % fault) from None
+        raise Unreadable(Code.PARSE, "a message isn't JSON: %s" % fault) from None
     if not isinstance(found, dict):
-        raise Unreadable("a message isn't an object of JSON", Code.REQUEST)
+        raise Unreadable(Code.REQUEST, "a message isn't an object of JSON")
     return found
 
 
@@ -97,13 +94,13 @@ class Stream:
 
     def __init__(self, source: int = 0, sink: int = 1) -> None:
         self.source, self.sink = source, sink
-        self.gathered = bytearray()
+        self.gathered, self.unsent = bytearray(), bytearray()
         self.length: Optional[int] = None    # of the body that is awaited
         self.is_ended = False                # the client has gone
 
     def read(self, seconds: Optional[float], others: Sequence[Any] = ()) -> list[Any]:
-        """Reads what the client has sent, waiting at most that long for it or for one of the others. Returns which are
-        ready."""
+        """Reads what the client has sent, waiting at most that long for it or the others. Returns which are ready."""
+        self.flush()
         sources = [] if self.is_ended else [self.source]
         ready, _, _ = select.select([*sources, *others], [], [], seconds)
         if self.source in ready:
@@ -130,23 +127,29 @@ class Stream:
         if end is None:
             if len(self.gathered) > MOST_HEADER:
                 del self.gathered[:-64]
-                raise Unreadable("a header has more than %d bytes" % MOST_HEADER)
+                raise Unreadable(Code.PARSE, "a header has more than %d bytes" % MOST_HEADER)
             return False
         found = LENGTH.findall(bytes(self.gathered[:end.start()]))
         del self.gathered[:end.end()]
         if not found:
-            raise Unreadable("a header has no Content-Length")
+            raise Unreadable(Code.PARSE, "a header has no Content-Length")
         length = int(found[-1])
         if length > MOST_BODY:
-            raise Unreadable("a message of %d bytes is too long" % length)
+            raise Unreadable(Code.PARSE, "a message of %d bytes is too long" % length)
         self.length = length
         return True
 
     def write(self, message: Message) -> None:
-        """Sends a message; a fault if the client has gone."""
+        """Sends a message before more is read, or once much is to be sent."""
         # A script's bytes that are no UTF-8 become question marks: clients take half characters for errors.
         body = ENCODER.encode(message).encode("utf-8", "replace")
-        data = memoryview(b"Content-Length: %d\r\n\r\n" % len(body) + body)
+        self.unsent += b"Content-Length: %d\r\n\r\n%b" % (len(body), body)
+        if len(self.unsent) > 1 << 16:
+            self.flush()
+
+    def flush(self) -> None:
+        """Sends what isn't sent yet; a fault if the client has gone."""
+        data, self.unsent = memoryview(self.unsent), bytearray()
         try:
             while data:
                 try:

@@ -1,5 +1,4 @@
-"""The places where a debugged script stops, forwards and backwards: at breakpoints, at answers, at changes of what is
-watched."""
+"""The places where a debugged script stops, in both directions: breakpoints, answers, changes of what is watched."""
 from __future__ import annotations
 
 import re

@@ -4,6 +4,7 @@ from __future__ import annotations
 import os
 import subprocess
 import tempfile
+from contextlib import suppress
 from dataclasses import dataclass, field
 from typing import Any, Callable, Optional, Sequence
 
@@ -57,16 +58,10 @@ class Runs:
             piece = os.read(run.child.stdout.fileno(), 1 << 20)
             run.output += piece
             if not piece or len(run.output) > MOST_OUTPUT:
-                self.wait(run)
+                with suppress(subprocess.TimeoutExpired):
+                    run.child.wait(2)    # its output has ended, so it will end
                 self.end(run)
                 run.then(bytes(run.output), run.child.returncode)
-
-    @staticmethod
-    def wait(run: Run) -> None:
-        try:
-            run.child.wait(2)    # its output has ended, so it will end
-        except subprocess.TimeoutExpired:
-            pass
 
     def end(self, run: Run) -> None:
         """Ends a run and its program."""
@@ -76,8 +71,7 @@ class Runs:
             run.child.stdout.close()
 
     def end_all(self, document: Optional[str] = None, is_asked: bool = True) -> list[Any]:
-        """Ends all runs, or those over a document; without `is_asked` only those that no request waits for. Returns the
-        numbers of the requests that waited for one of them."""
+        """Ends all runs, or a document's, or those of these that no request waits for: the requests that waited."""
         ended = [it for it in self.runs if document in (None, it.document) and (is_asked or it.request is None)]
         for run in ended:
             self.end(run)

@@ -79,14 +79,10 @@ def areas(found: Sequence[Area], kind: str) -> list[Variable]:
 
 
 def subpools(shown: Map) -> list[Variable]:
-    return [Variable("%d of task %d" % (it.number, it.owner), subpool_text(it), partial(subpool, it),
-                     memory=it.extents[0].start if it.extents else None,
-                     watched="subpool:%d:%d" % (it.number, it.owner)) for it in shown.subpools]
-
-
-def subpool_text(it: Subpool) -> str:
-    return "%s, %d bytes free in %s" % (counted(sum(area.length for area in it.extents) // PAGE, "page"),
-                                        sum(area.length for area in it.free), counted(len(it.free), "area"))
+    return [Variable("%d of task %d" % (it.number, it.owner), "%s, %d bytes free in %s" % (
+        counted(sum(area.length for area in it.extents) // PAGE, "page"), sum(area.length for area in it.free),
+        counted(len(it.free), "area")), partial(subpool, it), memory=it.extents[0].start if it.extents else None,
+        watched="subpool:%d:%d" % (it.number, it.owner)) for it in shown.subpools]
 
 
 def sharers(it: Subpool) -> str:
@@ -146,16 +142,12 @@ def whole_lines(shown: Map) -> list[str]:
     return found
 
 
-def changes(before: Map, after: Map) -> list[str]:
-    """The lines of a map that a statement took away, and those that it brought."""
+def changed(before: Map, after: Map) -> Variable:
+    """The lines of a map that a statement took away, and those that it brought, as what opens."""
     old, new = whole_lines(before), whole_lines(after)
     gone, come = set(old) - set(new), set(new) - set(old)
-    return ["- " + it for it in old if it in gone] + ["+ " + it for it in new if it in come]
-
-
-def changed(before: Map, after: Map) -> Variable:
-    """These lines, as what opens."""
-    return listed("changes", [Variable(str(k), it) for k, it in enumerate(changes(before, after), 1)])
+    found = ["- " + it for it in old if it in gone] + ["+ " + it for it in new if it in come]
+    return listed("changes", [Variable(str(k), it) for k, it in enumerate(found, 1)])
 
 
 # Places that are written, and what is watched.

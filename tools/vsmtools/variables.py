@@ -8,6 +8,7 @@ from typing import Optional, Sequence, Union
 from .assembler import SYMBOL, Statement, Unknown, bounded, raw_operands
 
 VARIABLE = re.compile(r"&(%s)(?![\w$#@(])\.?" % SYMBOL)
+PIECE = re.compile(r"&&|%s|." % VARIABLE.pattern, re.S)     # a variable symbol, or a character between two
 TOKEN = re.compile(r"\s*('(?:[^'&]|''|&&)*'(?!\()|\d+|[A-Z]+(?![\w'])|[-+*/()])", re.I)
 PYTHON = {"EQ": "==", "NE": "!=", "LT": "<", "GT": ">", "LE": "<=", "GE": ">=", "AND": "and", "OR": "or", "NOT": "not", "/": "//"}
 SIGNS = {*PYTHON.values(), *"+-*()"}
@@ -48,14 +49,10 @@ class Variables:
                 if name not in self.given:
                     self.set(name, it, lines)
         elif "&" in it.operands + it.name:
-            found = [(at, filled(it.operands[at:at + len(part)], self.known)) for at, part in self.pieces(it.operands)]
+            found = [(part.start(), filled(part[0], self.known)) for part in PIECE.finditer(it.operands)]
             it.places = [it.places[at] for at, text in found for _ in text] if it.places else []
             it.operands, it.name = "".join(text for _, text in found), filled(it.name, self.known)
             it.is_filled = True
-
-    def pieces(self, text: str) -> list[tuple[int, str]]:
-        """Variable symbols, and the characters between them, with their places."""
-        return [(found.start(), found[0]) for found in re.finditer(r"&&|%s|." % VARIABLE.pattern, text, re.S)]
 
     def set(self, name: str, it: Statement, lines: list[str]) -> None:
         try:
@@ -89,8 +86,7 @@ class Variables:
 
 
 def expanded(it: Statement, macros: dict[str, list[Statement]], depth: int = 0) -> Optional[list[Statement]]:
-    """The statements of a call of one of these macros, each of which may be assembled or not; None if they can't be
-    known."""
+    """The statements of a call of one of these macros, each perhaps not assembled; None if they can't be known."""
     prototype, *body = macros[it.operation]
     values = {prototype.name.lstrip("&"): it.name}
     positional = [text.lstrip("&").upper() for text in prototype.parts if "=" not in text]

@@ -8,7 +8,7 @@ from typing import Callable, Optional, Sequence
 
 from .bench import Answer, Session
 from .command import Fault
-from .lines import LAST_COLUMN, Extent, is_continued, split_lines, statements
+from .lines import LAST_COLUMN, Extent, is_continued, split_lines, statements, text_of
 from .maps import Map, parse_map
 
 MOST_ASKED = 1_000_000    # lines; vsm reads 1,048,576
@@ -19,17 +19,16 @@ class Lost(Fault):
     """vsm has ended, or answers otherwise than it did: the walk can't go on."""
 
 
-@dataclass(frozen=True, slots=True, eq=False)
+@dataclass(slots=True, eq=False)
 class State:
-    """What a bench holds after a kept change: the state before it, and the lines of the statement that made it.
-
-    A change after a BACK begins a branch, so the states of a walk are a tree."""
+    """What a bench holds after a kept change: the state before it, and the lines of the statement that made it. After
+    a BACK that's a branch, so the states of a walk are a tree."""
     parent: Optional[State] = None
     lines: tuple[str, ...] = ()
     depth: int = 0
 
 
-@dataclass(frozen=True, slots=True, eq=False)
+@dataclass(slots=True, eq=False)
 class Undone:
     """The states that FORWARD leads to: the first one, and those after it."""
     state: State
@@ -43,7 +42,7 @@ class Undone:
         return found
 
 
-@dataclass(frozen=True, slots=True, eq=False)
+@dataclass(slots=True, eq=False)
 class History:
     """The state of a bench, how many changes it keeps, and what it has undone."""
     state: State
@@ -77,10 +76,9 @@ class History:
         return self if answer.kept is None else self.stepped(answer.kept)
 
 
-@dataclass(frozen=True, slots=True, eq=False)
+@dataclass(slots=True, eq=False)
 class Step:
-    """A statement that was carried out, and the history after it. `statement` is its number in the script; None for
-    one of the console."""
+    """A statement that was carried out, its number in the script (None in the console), and the history after it."""
     statement: Optional[int]
     lines: tuple[str, ...]
     answer: Answer
@@ -137,10 +135,8 @@ def are_same(one: Optional[Undone], other: Optional[Undone]) -> bool:
 
 
 class Walk:
-    """How far a script has come. `steps` is the way; what was stepped back over isn't on it.
-
-    vsm is led to a step only once something is asked there: `now` is the history that it has itself. Its state is then
-    that of the way, but it may keep fewer changes, and have undone others."""
+    """How far a script has come. `steps` is the way, without what was stepped back over. vsm is led to a step once
+    something is asked there: `now` is its own history, of the same state, perhaps of fewer changes."""
 
     def __init__(self, script: Script, begin: Callable[[], Session]) -> None:
         self.script, self.begin = script, begin
@@ -173,12 +169,13 @@ class Walk:
         return self.place >= len(self.script.extents)
 
     def _say(self, lines: Sequence[str]) -> Answer:
-        if is_continued(lines[-1].encode("utf-8", "surrogateescape")):
+        text = text_of(lines)
+        if len(text) > LAST_COLUMN and is_continued(split_lines(text)[-1]):
             # The script ends within a statement: a line that can't continue it ends it with the same answer.
-            lines = [*lines, " BACK 0"]
+            text += b" BACK 0\n"
         self.asked += len(lines)
         try:
-            return self.session.say(lines)
+            return self.session.ask(text)
         except Fault as fault:
             raise Lost(str(fault)) from None
 

@@ -1,16 +1,13 @@
-"""The words of a script: operations, their forms and keywords, and the values of these, as
-docs/STATEMENTS.md has them."""
+"""The words of a script, as docs/STATEMENTS.md has them: operations, their forms, keywords and values."""
 from __future__ import annotations
 
 import re
 from typing import Callable, Iterable
 
-FORMS = {
+FORMS: dict[str, tuple[str, ...]] = {
     "STORAGE": ("OBTAIN", "RELEASE"), "GETMAIN": ("R", "RC", "RU", "VRC", "VRU", "EC", "EU"),
-    "FREEMAIN": ("R", "RC", "RU", "E", "EC", "EU"), "CPOOL": ("BUILD", "GET", "FREE", "DELETE"), "ATTACH": (),
-         "DETACH": (),
-    "RUN": (), "ENDTASK": (), "POKE": (), "PEEK": (), "MAP": (), "BACK": (), "FORWARD": (),
-}
+    "FREEMAIN": ("R", "RC", "RU", "E", "EC", "EU"), "CPOOL": ("BUILD", "GET", "FREE", "DELETE"),
+    **dict.fromkeys("ATTACH DETACH RUN ENDTASK POKE PEEK MAP BACK FORWARD".split(), ())}
 KEYWORDS = {
     "STORAGE OBTAIN": ("LENGTH", "SP", "ADDR", "BNDRY", "LOC", "COND"),
     "STORAGE RELEASE": ("LENGTH", "ADDR", "SP", "COND"),
@@ -20,10 +17,8 @@ KEYWORDS = {
     "CPOOL GET": ("CPID", "CELL"), "CPOOL FREE": ("CPID", "CELL"), "CPOOL DELETE": ("CPID",),
     "ATTACH": ("EP", "GSPV", "GSPL", "SHSPV", "SHSPL", "SZERO"),
 }
-VALUES = {
-    "BNDRY": ("DBLWD", "PAGE"), "LOC": ("BELOW", "24", "ANY", "31", "RES"), "COND": ("YES", "NO"),
-          "SZERO": ("YES", "NO"),
-}
+VALUES = {"BNDRY": ("DBLWD", "PAGE"), "LOC": ("BELOW", "24", "ANY", "31", "RES"),
+          "COND": ("YES", "NO"), "SZERO": ("YES", "NO")}
 NAMED = ("ADDR", "A", "CELL", "LENGTH", "LV", "GSPL", "SHSPL")
 WITH_NAMES = ("POKE", "PEEK", "DETACH", "RUN")
 
