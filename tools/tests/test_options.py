@@ -43,7 +43,7 @@ def test_a_clone_without_a_built_program(tmp_path: Path, monkeypatch: pytest.Mon
     launcher = tmp_path / "vsm"
     launcher.write_text("#!/bin/sh\necho ran >>\"$0.log\"\nexit 16\n")
     launcher.chmod(0o755)
-    monkeypatch.setattr(bench, "TOP", str(tmp_path))
+    monkeypatch.setattr(bench, "LAUNCHER", str(launcher))
     monkeypatch.setattr(bench, "BUILT", str(tmp_path / "nowhere"))
     with pytest.raises(Fault, match="status 16"):
         bench.find_program()
