@@ -78,29 +78,37 @@ hear_out() {
   done
 }
 
+# Ends what was started last, in a group of its own; a new process may lose a signal.
 stop() {
   trap '' INT TERM HUP
-  [ -z "$trying" ] || { kill "$trying"; wait "$trying"; } 2>/dev/null
+  for _ in {1..50}; do
+    kill -- "-$!" && sleep 0.1 || break
+  done 2>/dev/null
   rm -rf "$room"
   refuse "stopped"
+}
+
+# Runs a function in the background, in a group of its own, and waits for it. In bash, a trap fails if its signal comes
+# while a substitution is read; so a shell with a trap runs only this.
+run_apart() {
+  set -m
+  "$@" &
+  set +m
+  wait "$!"
 }
 
 # Compiles the program without a proof. The sum kept with it is that of the sources when it began.
 compile() {
   local sum why said=""
   sum=$("$top/prove" --program "$crate" --sum)
-  # It's named before it's made, so that `stop` removes it; TMPDIR may be relative, and rt runs in another folder.
-  room=${TMPDIR:-/tmp}/$name-$$-$RANDOM
-  [[ $room == /* ]] || room=$PWD/$room
   mkdir -m 700 "$room" 2>/dev/null || refuse "no temporary folder can be made"
   lay_out_kit || { rm -rf "$room"; refuse "the folder of the kit can't be found: '$rt doc' has to print the path of a page in it"; }
   say "compiling $name without a proof, once: about 2 minutes on a free machine"
   exec 3< <(exec </dev/null 2>&1 8>&-; cd "$top/crates/$crate" && TMPDIR=$room exec "$room/kit/bin/rt" try --steps 1 -- --help)
-  trying=$!
   hear_out
   exec 3<&-
   # Only if rt says that the program ran to its end.
-  if ! wait "$trying" 2>/dev/null || ! [ -x "$room/made" ]; then
+  if ! wait "$!" 2>/dev/null || ! [ -x "$room/made" ]; then
     why="no program was compiled; above is what the kit said"
     [ ! -e "$room/part" ] || why="the program can't be written in ${TMPDIR:-/tmp}: is the disk full?"
     rm -rf "$room"
@@ -113,22 +121,24 @@ compile() {
   rm -rf "$room"
 }
 
+compile_if_needed() {
+  "$top/prove" --program "$crate" --check "$unproved" || compile
+}
+
 # One process compiles, and others wait for it.
 compile_once() {
   command -v "$rt" >/dev/null || refuse "no program is built, and rt, the command of the Rattle kit that compiles one, isn't on the PATH: put its folder there, or name it by RT"
   { mkdir -p "$out" && exec 8>"$unproved.lock"; } 2>/dev/null ||
     refuse "no program is built, and none can be kept: $out can't be written"
-  room=""
-  trying=""
+  # It's named before it's made, so that `stop` removes it; TMPDIR may be relative, and rt runs in another folder.
+  room=${TMPDIR:-/tmp}/$name-$$-$RANDOM
+  [[ $room == /* ]] || room=$PWD/$room
   trap stop INT TERM HUP
   if ! flock -n 8; then
     say "another process compiles the program: this one waits for it"
-    flock 8 &
-    trying=$!
-    wait "$trying"
-    trying=""
+    run_apart flock 8
   fi
-  "$top/prove" --program "$crate" --check "$unproved" || compile
+  run_apart compile_if_needed || exit
   trap - INT TERM HUP
   exec 8>&-
   tell
@@ -139,17 +149,18 @@ tell() {
   say "this run isn't proved: ./prove proves and builds $name, in about 45 minutes"
 }
 
-# Said at a terminal: options of the file's comments before its first statement that aren't given here, and that
-# assembler source is no script.
+# Said at a terminal: options of the file's comments before its first statement that aren't given here, unless a listing
+# or a check warns of them, and that assembler source is no script.
 advise() {
-  local file='' line word operation='^[^ ]* +(amode|copy|csect|dsect|equ|macro|print|rmode|rsect|start|title|using)( |$)'
+  local file='' line word warns='' operation='^[^ ]* +(amode|copy|csect|dsect|equ|macro|print|rmode|rsect|start|title|using)( |$)'
   [ -t 2 ] || return 0
   for word; do [ ! -f "$word" ] || file=$word; done
+  [[ "$name $*" == 'vsm-explain '@(check|list)' '* && "$*" != *refused* ]] && warns=1
   [ -n "$file" ] || return 0
   for _ in {1..50}; do
     IFS= read -r line || [ -n "$line" ] || return 0
     for word in ${line#'*! '}; do
-      [[ $line == '*! '* && $word == --* && " $* " != *" ${word%%=*}"[\ =]* ]] || continue
+      [[ -z $warns && $line == '*! '* && $word == --* && " $* " != *" ${word%%=*}"[\ =]* ]] || continue
       say "a comment of ${file##*/} asks for ${line#'*! '}: only the tools read it, so give it here too"
       return 0
     done

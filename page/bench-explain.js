@@ -9,6 +9,7 @@ const SETTLING = 50; // milliseconds from a step until its questions are asked, 
 const MOST_SHOWN = 2 ** 20; // characters of an answer
 const MOST_FAULTS = 200, MOST_LINKS = 4000;
 const PARTS = ['why', 'who', 'areas'];
+const NOT_ASKED = 'No address is named here. You can ask about one, a register, a name or a subpool.';
 export const NO_RUN = { script: '', words: [], name: '' };
 
 /** A text of an answer, cut if it's too long to be shown. */
@@ -101,7 +102,7 @@ export class Explainer {
       list.push({ key: 'areas', words: ['report', '--areas', ...words, '-'], bytes });
     }
     if (!this.isChecked && (this.hasFaults || panel.open && script))
-      list.push({ key: 'faults', words: ['list', '--check', ...words, '-'] });
+      list.push({ key: 'faults', words: ['check', ...words, '-'] });
     return list;
   }
 
@@ -153,9 +154,10 @@ export class Explainer {
 
   showAnswer(answer) {
     const { parts, askedAt: place, run: { name, words } } = this, { key, asked, status } = answer;
+    const isAsked = key !== 'who' || asked !== '';
     if (key === 'why') this.say('');
     parts.of.textContent = `line ${place.line}`;
-    parts[key].replaceChildren(...withLinks(shownText(answer), this.chosen));
+    parts[key].replaceChildren(...withLinks(isAsked ? shownText(answer) : NOT_ASKED, this.chosen));
     parts[key].classList.toggle('bad', status > 4);
     const front = shell(['head', '-n', String(place.end), name]), told = asked.split(/\s+/).filter(Boolean);
     if (key === 'who') parts.asked.placeholder = parts.asked.value.trim() ? parts.asked.placeholder : asked;
@@ -164,7 +166,7 @@ export class Explainer {
       who: () => `${front} | ${shell(['vsm-explain', 'who', ...words, '-', ...told])}`,
       areas: () => `${front} | ${shell(['vsm-explain', 'report', '--areas', ...words, '-'])}`,
     };
-    parts[`${key}-command`].textContent = command[key]();
+    parts[`${key}-command`].textContent = isAsked ? command[key]() : '';
   }
 }
 

@@ -1,20 +1,20 @@
 // The questions that the page asks vsm-explain, and what its answers hold.
 
 /** What `who` is asked for a statement by default, according to the text of `why`: who changed the bytes that it reads
-    or stores; else what is taken at the address that it names or was granted; else all changes. */
+    or stores, or the storage at the address that it was granted or names; else nothing. */
 export function whoAsked(why) {
   const [first] = why.split('\n');
   const granted = /^ {2}answered: .* A=([0-9A-F]{8})/m.exec(why), place = /\b(?:at|cell) ([0-9A-F]{8})\b/.exec(first);
   const bytes = /^line \d+: (\d+) bytes? (?:stored )?at ([0-9A-F]{8})/.exec(first);
-  if (granted) return `--taken ${granted[1]}`;
+  if (granted) return granted[1];
   if (bytes) return `${bytes[2]} ${bytes[1]}`;
-  return place ? `--taken ${place[1]}` : '--log';
+  return place?.[1] ?? '';
 }
 
 // An operand: up to a comma or a blank outside apostrophes and parentheses.
 const OPERAND = /^(?:'[^']*'|\([^()]*\)|[^ ,])*/;
 
-/** The places that `list --check` prints: line, column, text, and the number of characters to mark there. */
+/** The places that `check` prints: line, column, text, and the number of characters to mark there. */
 export function placesIn(output, script) {
   const lines = script.split('\n');
   return [...output.matchAll(/^.*?:(\d+):(\d+): (.*)$/gm)].map(([, line, column, text]) => {

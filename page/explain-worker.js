@@ -7,9 +7,10 @@ const MOST_OUTPUT = 16 * 2 ** 20; // bytes
 const encoder = new TextEncoder();
 let program;
 
-/** The answer to one question; a question about `who` without arguments gets those that suit the answer of `why`. */
+/** The answer to one question; `who` without arguments gets those that suit the answer of `why`, or isn't run. */
 function answerTo({ key, words, bytes, asked }, script, why) {
   const added = asked ?? (key === 'who' ? whoAsked(why) : ''), told = added.split(/\s+/).filter(Boolean);
+  if (key === 'who' && !told.length) return { key, status: 0, output: '', errors: '', asked: '' };
   try {
     const all = ['vsm-explain', ...words, ...told].map(it => encoder.encode(it));
     const { status, output, errors } = ranOver(program, all, script.subarray(0, bytes), MOST_OUTPUT);

@@ -42,6 +42,7 @@ QUIET = "document.getElementById('explain').getAttribute('aria-busy') === 'false
 FAULTS = "[...document.querySelectorAll('#faults button')].map(it => it.textContent)"
 PARTS = ("why", "who", "areas")
 WRONG = b" STORAGE OBTAIN,LENGTH=8\n STORAGE OBTAIN,LENGHT=8,SP=1\n MAP\n STORAGE OBTAIN,SP=1\n"
+NOT_ASKED = "No address is named here. You can ask about one, a register, a name or a subpool."
 MOST_SECONDS = 30
 
 
@@ -149,9 +150,10 @@ def fronts(script: bytes) -> dict[int, bytes]:
 
 
 def wanted_question(answer: str, asked: str) -> bool:
-    """Whether `who` is asked about the area in the answer; for other statements, whether it's one of its questions."""
+    """Whether `who` is asked about the area in the answer; for other statements, whether it's one of its questions, or
+    nothing."""
     area = re.match(r"RC=0 A=(\w{8})", answer)
-    return asked == f"--taken {area[1]}" if area else bool(re.fullmatch(r"--log|--taken \w{8}|\w{8} \d+", asked))
+    return asked == area[1] if area else bool(re.fullmatch(r"|\w{8}( \d+)?", asked))
 
 
 def try_statements(panel: Panel, name: str, script: bytes, words: list[str], output: bytes, trials: Trials) -> None:
@@ -162,7 +164,7 @@ def try_statements(panel: Panel, name: str, script: bytes, words: list[str], out
         panel.go(line)
         shown, asked = panel.shown(), panel.asked()
         wanted = {"why": panel.printed(["why", *words, "-", str(line)], script),
-                  "who": panel.printed(["who", *words, "-", *asked.split()], ends[line]),
+                  "who": panel.printed(["who", *words, "-", *asked.split()], ends[line]) if asked else NOT_ASKED,
                   "areas": panel.printed(["report", "--areas", *words, "-"], ends[line])}
         for part in PARTS:
             trials.equal(f"{name}, line {line}: {part}", shown[part], wanted[part])
@@ -199,8 +201,9 @@ HOSTILE = {
     "with control bytes": b"* \x01\x7f\n STORAGE OBTAIN,LENGTH=8  \x07\t\x1b\n POKE \x08\n",
     "with NUL, which vsm-explain refuses": b"* \0\n STORAGE OBTAIN,LENGTH=8  \0\n POKE \0\n",
 }
-QUESTIONS = ["--register 1", "--name P", "--log", "--subpool 2,5", "--holds X'6000'", "00006000 4", "24576",
-             "X'ZZ'", "--nonsense", "00006000 4 5 6", "--name \u20ac", "file.vsm 00006000", "--help", "--taken", "\0 1"]
+QUESTIONS = ["--register 1", "--name P", "--subpool 2,5", "--oldest-first X'6000'", "00006000 4", "24576", "p 2", "Q",
+             "X'ZZ'", "--nonsense", "00006000 4 5 6", "--name \u20ac", "file.vsm 00006000", "--help",
+             "--taken 24576", "\0 1"]
 
 
 def try_questions(panel: Panel, trials: Trials) -> None:
@@ -223,6 +226,9 @@ def try_questions(panel: Panel, trials: Trials) -> None:
     command = panel.page.text("who-command")
     trials.equal("the command that does the same", command,
         "head -n 2 my-first-steps.vsm | vsm-explain who - 00006000 1")
+    panel.go(3)
+    trials.equal("of a statement that names no address, nothing is asked",
+        (panel.asked(), panel.shown()["who"], panel.page.text("who-command")), ("", NOT_ASKED, ""))
 
 
 def try_sentences(panel: Panel, trials: Trials) -> None:
@@ -234,7 +240,7 @@ def try_sentences(panel: Panel, trials: Trials) -> None:
         shown = panel.said() or panel.shown()["why"]
         trials.want(f"a script {what} leaves the panel with a text", shown.strip())
         try_statements(panel, f"a script {what}", script, [], panel.page.output(), trials)
-        faults = places_of(panel.printed(["list", "--check", "-"], script)) if script.strip() else []
+        faults = places_of(panel.printed(["check", "-"], script)) if script.strip() else []
         trials.equal(f"the faults of a script {what}", panel.page.js(FAULTS), faults)
     panel.page.run(WRONG)
     panel.go(1)
@@ -254,14 +260,14 @@ def try_sentences(panel: Panel, trials: Trials) -> None:
 
 
 def rows_of_faults() -> list[Any]:
-    """The rows of tests/explain.d that print places, with scripts that the editor can hold."""
+    """The rows of tests/explain.d that print places, with scripts that the editor can hold; an empty one has none."""
     stored = tests_explain().stored
-    rows = [it for it in stored.rows(TOP / "tests" / "explain.d") if it.words[:2] == ["list", "--check"]]
-    return [it for it in rows if b"\r" not in it.part("script") + it.part("in")]
+    rows = [it for it in stored.rows(TOP / "tests" / "explain.d") if it.words[:1] == ["check"]]
+    return [it for it in rows if (script := it.part("script") + it.part("in")) and b"\r" not in script]
 
 
 def places_of(printed: str) -> list[str]:
-    """The lines of `list --check` as the page has them."""
+    """The lines of `check` as the page has them."""
     return [re.sub(r"^.*?:(\d+):(\d+): ", r"line \1, column \2: ", it) for it in printed.splitlines()]
 
 
@@ -273,7 +279,7 @@ def try_faults(panel: Panel, trials: Trials) -> None:
         page.run(script)
         panel.quiet()
         trials.equal(f"the faults of row {row.name}", page.js(FAULTS),
-            places_of(panel.printed(["list", "--check", "-"], script)))
+            places_of(panel.printed(["check", "-"], script)))
 
 
 MARKS = """[...document.querySelectorAll('#marks > *')].map(it => {

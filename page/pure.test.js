@@ -204,15 +204,15 @@ test('the course has each area in its rows', () => {
   assert.deepEqual(bucketsOf(10, 4), [[0, 3], [3, 6], [6, 9], [9, 11]]);
 });
 
-test('who is asked about the bytes or the area of a statement, or about all changes', () => {
+test('who is asked about the bytes or the area of a statement, or about nothing', () => {
   const granted = "line 1: 16 bytes (X'10'), subpool 1, below the line\n  answered: RC=0 A=00006000 L=00000010\n";
   const released = "line 5: release of 32 bytes (X'20') at 00006100 from subpool 7\n  answered: RC=0\n";
   const asked = {
-    [granted]: '--taken 00006000', [released]: '--taken 00006100',
+    [granted]: '00006000', [released]: '00006100',
     'line 3: 4 bytes stored at 00006010\n  answered: OK\n': '00006010 4',
     'line 3: 1 byte at 00006010\n  answered: D=C1\n': '00006010 1',
-    'line 9: cell 00006000 back to cell pool CP\n  answered: RC=0\n': '--taken 00006000',
-    'line 2: steps back: 1\n  the page of 00006000\n  answered: KEPT=1\n': '--log', '': '--log'
+    'line 9: cell 00006000 back to cell pool CP\n  answered: RC=0\n': '00006000',
+    'line 2: steps back: 1\n  the page of 00006000\n  answered: KEPT=1\n': '', '': ''
   };
   for (const [why, question] of Object.entries(asked)) assert.equal(whoAsked(why), question);
 });

@@ -31,7 +31,7 @@ DOCS = ("STATEMENTS.md", "MESSAGES.md", "EXPLAIN.md", "PROTOCOL.md", "ZOS.md", "
         "EDITORS.md", "BENCH-IN-A-BROWSER.md", "LIMITS.md")
 # The proved programs, by the crates that build them.
 PROGRAMS = {"vsm": "vsm", "vsm-explain": "vsm_explain_program"}
-COMMANDS = ("list", "why", "report", "who")
+COMMANDS = ("check", "list", "why", "report", "who")
 # The library: where tools/c/build leaves it, and its files in a release.
 LIBRARY = Path("crates") / "vsm" / "out"
 ARCHIVE, SHARED = "lib/libvsm.a", "lib/libvsm.so.1"

@@ -18,14 +18,12 @@ class Option:
 
 
 def choices_of(value: str, text: str) -> tuple[str, ...]:
-    """What the value can be, if the help says it: as [possible values: 24, 31], {24,31}, 24|31 or <refused>."""
+    """What the value can be, if the help says it: as [possible values: 24, 31], {24,31} or 24|31."""
     found = CHOICES.search(text)
     if found:
         return tuple(found[1].split(", "))
-    if re.fullmatch("<[a-z]+>", value):
-        return (value[1:-1],)
     inner = value.strip("{}<>")
-    # Capitals stand for what is to be written, as T,R.
+    # Capitals stand for what is to be written, as [T,]N.
     return tuple(re.split(r"[|,]", inner)) if re.fullmatch(r"[a-z\d_.]+([|,][a-z\d_.]+)+", inner) else ()
 
 

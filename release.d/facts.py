@@ -123,7 +123,8 @@ def proved(top: Path, files: list[str], head: list[str], built: list[str]) -> st
     sources = [it for it in files if re.fullmatch(r"crates/\w+/src/.*\.rt", it)]
     texts = {it: (top / it).read_text(encoding="utf-8") for it in sources}
     counts = [contracts_in(text) for it, text in texts.items() if it.split("/")[1] in crates]
-    edits = sum(bool(re.fullmatch(r"crates/\w+/(must-fail|wrong)/.*\.edit", it)) for it in files)
+    edits = sum(len(re.findall(r"^# clause: ", (top / it).read_text(encoding="utf-8"), re.M)) for it in files
+                if re.fullmatch(r"crates/\w+/(must-fail|wrong)/.*\.edits?", it))
     tests = sum(text.count("#[test]") for text in texts.values())
     rows = sum(bool(re.fullmatch(r"tests/rows/.*\.row", it)) for it in files)
     scripts = sum(bool(re.fullmatch(r"conformance/.*\.vsm", it)) for it in files)

@@ -23,7 +23,7 @@ NOT_RUN = {
     r"page/(module|bench\.py)": "takes a proved program, or the module of it; the gate runs both",
     r"tools/c/build": "takes the proved program; tests/library runs it",
     r"cc -o example": "takes an installed release; tests/library compiles the example",
-    r"tests/wrong-bodies( |$)": "proves; the gate runs it",
+    r"tests/(wrong-bodies|definitions)( |$)": "proves; the gate runs it",
     r"tests/edits-refused LOG": "takes the output of rt ci; the gate runs it",
     r"bench/growth": "takes a proved program and minutes; the gate runs it",
 }

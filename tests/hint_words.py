@@ -107,6 +107,6 @@ def of_tools() -> dict[str, Known]:
 
 def read(top: Path) -> tuple[Words, Words]:
     """Both, of a repository."""
-    forms = top / "crates" / "value_hints" / "src" / "forms.rt"
-    operands = top / "crates" / "value_hints" / "src" / "operands.rt"
+    forms = top / "crates" / "explain_faults" / "src" / "forms.rt"
+    operands = top / "crates" / "explain_faults" / "src" / "operand_hints.rt"
     return in_code(forms.read_text(), operands.read_text()), on_page((top / "docs" / "STATEMENTS.md").read_text())

@@ -1,4 +1,4 @@
-"""For tests/explain: what `list --json` and `list --only refused` write, against the text of the same script."""
+"""For tests/explain: what `check`, `list --json` and `list --refused` write, against the text of the same script."""
 from __future__ import annotations
 
 import json
@@ -49,14 +49,55 @@ def objects(output: bytes) -> list[Object]:
 
 
 def shown(text: bytes) -> str:
-    """Free words of --check, whose bytes are printing characters or UTF-8 letters as they are."""
+    """Free words of `check`, whose bytes are printing characters or UTF-8 letters as they are."""
     return text.decode("utf-8", "replace")
 
 
 def as_check(it: Object) -> str:
-    """The line of --check, after the file's name, of what is wrong."""
+    """The line of `check`, after the file's name, of what is wrong with a line."""
     word = it["fault"] + ": " if it["kind"] == "fault" else "WARNING: " if it["kind"] == "warning" else ""
     return f"{it['line']}:{it['column']}: {word}{it['text']}"
+
+
+# An ABEND or REFUSED as `check` has it: its line and column, and the answer with the reason.
+REFUSAL = re.compile(r"(\d+):(\d+): ((?:ABEND|REFUSED) [^:]+): (.+)")
+
+
+def column_of_operation(line: bytes) -> int:
+    """The column of the first word after the label's, from 1."""
+    found = re.match(rb"[^ ]* +", line)
+    return found.end() + 1 if found else 1
+
+
+def compare_refusals(programs: Any, file: str, options: list[str], said: list[str], found: list[Object],
+                     lines: list[bytes]) -> None:
+    """Each ABEND and REFUSED, and no other answer, has a line at its operation, with the reason that `why` has in its
+    second line. Of more than 200 reasons 200 are compared.
+    """
+    refused = [it for it in found if it["kind"] == "answer" and it["answer"].startswith(("ABEND ", "REFUSED "))]
+    told = [it for it in map(REFUSAL.fullmatch, said) if it]
+    compare("refusals", [(int(it[1]), int(it[2]), it[3]) for it in told],
+            [(it["first"], column_of_operation(lines[it["first"] - 1]), it["answer"]) for it in refused])
+    for it, row in zip(refused, told):
+        if "cause" in it and it["cause"] != row[4] and not it["cause"].startswith(row[4] + "; "):
+            raise Failure(f"the cause of {it} doesn't begin with {row[4]}")
+    if b"\0" in b"".join(lines):
+        return
+    for it in random.Random(len(told)).sample(told, min(200, len(told))):
+        why = programs.explained(["why", *options, file, it[1]]).output.decode().split("\n")
+        # The answer has the number that `why` has.
+        said = re.sub(r"^\d+ changes? (?:is|are) (kept|undone)$", r"fewer changes are \1", why[1].strip())
+        compare(f"the reason of line {it[1]}", it[4], said)
+
+
+def compare_check(check: bytes, programs: Any, script: Any, file: str, found: list[Object]) -> None:
+    """`check` has a line for each fault, dropped line and warning, and for each refusal, by line and then by column."""
+    said = [shown(it).removeprefix(file + ":") for it in check.split(b"\n")[:-1]]
+    compare("what is wrong", sorted(it for it in said if not REFUSAL.fullmatch(it)),
+            sorted(as_check(it) for it in found if it["kind"] != "answer"))
+    places = [tuple(map(int, it.split(":", 2)[:2])) for it in said]
+    compare("the order of places", places, sorted(places))
+    compare_refusals(programs, file, script.options, said, found, script.data.split(b"\n"))
 
 
 def compare_ranges(found: list[Object], lines: list[bytes]) -> None:
@@ -172,16 +213,16 @@ def same_objects(script: Any, answers_of: Callable[[bytes], list[Any]]) -> Calla
         file = programs.put(script.data)
         lines = script.data.split(b"\n")
         text, check, whole, some, some_text = (
-            programs.explained(["list", *words, *script.options, file])
-            for words in ([], ["--check"], ["--json"], ["--json", "--only", "refused"], ["--only", "refused"]))
-        for it in (whole, some, some_text):
+            programs.explained([*words, *script.options, file])
+            for words in (["list"], ["check"], ["list", "--json"], ["list", "--json", "--refused"],
+                          ["list", "--refused"]))
+        for it in (check, whole, some, some_text):
             compare("status and standard error", (it.status, it.errors), (text.status, text.errors))
         if text.status > 4:
             return
         found, pages = objects(whole.output), pages_of(text.output)
         rows = [it for it in found if it["kind"] != "answer"]
-        compare("what is wrong", [as_check(it) for it in rows],
-                [shown(it).removeprefix(file + ":") for it in check.output.split(b"\n")[:-1]])
+        compare_check(check.output, programs, script, file, found)
         compare_ranges(rows, lines)
         answers = [it for it in found if it["kind"] == "answer"]
         compare_answers(answers, answers_of(run.output), pages, lines)

@@ -1,6 +1,4 @@
-"""For tests/explain: what `report --json` writes, also with --over-time and --areas, against the text of the same
-question.
-"""
+"""For tests/explain: what `report --json` writes, also with --areas, against the text of the same question."""
 from __future__ import annotations
 
 from collections.abc import Callable
@@ -21,7 +19,6 @@ FIELDS = {
 }
 TEXTS = {"answer", "side", "name", "statement", "pool"}
 COLUMNS = "SUBPOOL OWNER SIDE   PAGES      TAKEN       FREE  AREAS    LARGEST AT       FRAGMENTED  COULD GET SHARERS"
-OVER_TIME = (["--over-time"], ["--over-time", "--subpool", "1"], ["--over-time", "--subpool", "2,0"])
 
 
 def compare_types(it: Object) -> None:
@@ -40,9 +37,8 @@ def known_objects(output: bytes) -> list[Object]:
     objects = objects_of(output, "report")
     for it in objects:
         compare_types(it)
-        if it["kind"] != "row":
-            always, _, sometimes = FIELDS.get(it["kind"], "").partition("|")
-            compare(f"fields of {it}", set(it) - set(sometimes.split()), {"kind", *always.split()})
+        always, _, sometimes = FIELDS.get(it["kind"], "").partition("|")
+        compare(f"fields of {it}", set(it) - set(sometimes.split()), {"kind", *always.split()})
     return objects
 
 
@@ -73,8 +69,6 @@ def text_of(it: Object) -> str:
                     f" AT {at_text(it)}")
         case "pool":
             return "CELLPOOL " + " ".join([it["name"], *(f"{name.upper()} {it[name]}" for name in FIELDS["pool"].split()[1:])])
-        case "row":
-            return ",".join(str(value) for value in it.values() if value != "row")
         case "area":
             pool = f", cell pool {it['pool']}" if "pool" in it else ""
             return (f"line {it['line']} {it['statement']:44} | {it['bytes']} bytes at {it['address']:08X},"
@@ -84,18 +78,9 @@ def text_of(it: Object) -> str:
 
 
 def lines_of(objects: list[Object]) -> list[str]:
-    """The lines of the text, with the names of columns and values."""
+    """The lines of the text, with the names of columns."""
     lines = [text_of(it) for it in objects]
-    match objects[0]["kind"] if objects else "row":
-        case "after":
-            return [lines[0], COLUMNS, *lines[1:]]
-        case "row":
-            names = {",".join(it)[len("kind,"):] for it in objects}
-            if len(names) > 1:
-                raise Failure(f"names of values: {names}")
-            return [*names, *lines]
-        case _:
-            return lines
+    return [lines[0], COLUMNS, *lines[1:]] if objects[0]["kind"] == "after" else lines
 
 
 def same_reports(data: bytes, options: list[str]) -> Callable[[Any], None]:
@@ -105,7 +90,7 @@ def same_reports(data: bytes, options: list[str]) -> Callable[[Any], None]:
         last = data.count(b"\n")
         ends = [[], *([str(at)] for at in sorted({1, last // 2, last, last + 9}) if at)]
         for words in (*([file, *end] for end in ends), *(["--areas", file, *end] for end in ends),
-                      ["--areas", "--longest", file], *([*it, file] for it in OVER_TIME)):
+                      ["--areas", "--longest", file]):
             text = programs.explained(["report", *options, *words])
             found = programs.explained(["report", "--json", *options, *words])
             compare(f"{words}: status and standard error", (found.status, found.errors), (text.status, text.errors))
@@ -113,6 +98,5 @@ def same_reports(data: bytes, options: list[str]) -> Callable[[Any], None]:
                 compare(f"{words}: what is said", (text.output, found.output), (b"", b""))
             else:
                 said = text.output.decode().split("\n")[:-1]
-                lines = lines_of(known_objects(found.output))
-                compare(f"{words}: what is said", lines or said[1:], said if lines else [])
+                compare(f"{words}: what is said", lines_of(known_objects(found.output)), said)
     return tried

@@ -5,18 +5,17 @@ import random
 from collections.abc import Callable
 from typing import Any
 
-from driving import Failure, compare
+from driving import compare
 from json_objects import Object, objects_of
 
-FIELDS: dict[str, tuple[dict[str, type], ...]] = {
-    "question": ({"text": str},),
-    "change": ({"line": int, "statement": str, "before": str, "after": str},),
-    "statement": ({"line": int, "statement": str, "state": str},),
-    "sum": ({"changes": int, "standing": int}, {"standing": int, "kept": int}),
+FIELDS: dict[str, dict[str, type]] = {
+    "question": {"text": str},
+    "change": {"line": int, "statement": str, "of": str, "before": str, "after": str},
+    "change of more": {"line": int, "statement": str, "of": str, "address": int, "before": str, "after": str},
+    "sum": {"changes": int, "standing": int},
 }
-QUESTIONS = (["--log"], ["--register", "1,1"], ["--name", "P1"], ["--subpool", "1"], ["--holds", "X'6000'"],
-             ["--taken", "X'6000'"])
-BYTES = (["0x6000", "256"], ["X'6FF8'", "16"], ["X'5000'"])
+QUESTIONS = (["--register", "1"], ["--name", "P1"], ["--subpool", "1"], ["--oldest-first", "--register", "1"])
+PLACES = (["0x6000", "256"], ["X'6FF8'", "16"], ["X'5000'"], ["24576", "--oldest-first"], ["P1", "2"])
 
 
 def known_objects(output: bytes) -> list[Object]:
@@ -24,8 +23,8 @@ def known_objects(output: bytes) -> list[Object]:
     objects = objects_of(output, "who")
     for it in objects:
         fields = [(name, type(value)) for name, value in it.items()]
-        if not any(fields == [("kind", str), *known.items()] for known in FIELDS[it["kind"]]):
-            raise Failure(f"fields of {it}")
+        kind = "change of more" if "address" in it else it["kind"]
+        compare(f"fields of {it}", fields, [("kind", str), *FIELDS[kind].items()])
     return objects
 
 
@@ -39,22 +38,17 @@ def text_of(it: Object) -> str:
         case "question":
             return it["text"]
         case "change":
-            return f"line {it['line']} {it['statement']:44} | {it['before']} -> {it['after']}"
-        case "statement":
-            return f"line {it['line']} {it['statement']:44} | {it['state']}"
-        case _ if "changes" in it:
-            looked = "which was" if it["standing"] == 1 else "all of which were"
-            return f"{it['changes']} of {counted(it['standing'], 'standing statement')}, {looked} looked at"
+            where = f"at {it['address']:08X} " if "address" in it else ""
+            return f"line {it['line']} {it['statement']:44} | {where}{it['before']} -> {it['after']}"
         case _:
-            are = "is" if it["standing"] == 1 else "are"
-            return f"{counted(it['standing'], 'statement')} {are} in effect, {it['kept']} of them kept"
+            return f"{it['changes']} of {counted(it['standing'], 'statement')} in effect"
 
 
 def same_changes(data: bytes, options: list[str]) -> Callable[[Any], None]:
     """Each question of a script has the same answer in both forms, and the same status and standard error."""
     def tried(programs: Any) -> None:
         file = programs.put(data)
-        for words in (*([*it, file] for it in QUESTIONS), *([file, *it] for it in BYTES)):
+        for words in (*([*it, file] for it in QUESTIONS), *([file, *it] for it in PLACES)):
             text = programs.explained(["who", *options, *words])
             found = programs.explained(["who", "--json", *options, *words])
             compare(f"{words}: status and standard error", (found.status, found.errors), (text.status, text.errors))

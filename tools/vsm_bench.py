@@ -83,15 +83,19 @@ class Answer(NamedTuple):
 
 def answers(output: bytes) -> list[Answer]:
     """The answers of an output in turn."""
-    found: list[tuple[int, str, list[str]]] = []
+    found: list[Answer] = []
+    rests: dict[int, list[str]] = {}    # by their answers' places
     for number, line in enumerate(output.decode("ascii", "replace").split("\n"), 1):
-        if line.startswith(" ") and found:
-            found[-1][2].append(line)
-        elif line[:7].isdigit() and line[7:8] == " ":
-            found.append((int(line[:7]), line[8:], []))
+        first, blank, text = line.partition(" ")
+        if len(first) == 7 and first.isdigit() and blank:
+            found.append(Answer(int(first), text))
+        elif line.startswith(" ") and found:
+            rests.setdefault(len(found) - 1, []).append(line)
         elif line:
             raise Fault("no answer of vsm: '%s'" % line[:60], "the output", number)
-    return [Answer(line, text, tuple(rest)) for line, text, rest in found]
+    for at, rest in rests.items():
+        found[at] = found[at]._replace(rest=tuple(rest))
+    return found
 
 
 class Code(IntEnum):

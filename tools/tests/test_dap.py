@@ -2,6 +2,7 @@
 from __future__ import annotations
 
 import base64
+import json
 import os
 import random
 import shutil
@@ -18,11 +19,12 @@ from conftest import SECONDS, TOP
 from editors import BAD, LIES, Debugged, Message, damaged_value, framed, tree
 from load_scripts import small_script
 from protocols import check_dap
+from test_damaged import SCRIPTS as FILES, damaged
 
 from vsmtools import bench, debugging, rpc
 from vsmtools.command import Fault
 from vsmtools.debugging import Adapter
-from vsmtools.lines import is_continued, options_for
+from vsmtools.lines import is_continued, options_for, statements
 from vsmtools.maps import Map, parse_map
 from vsmtools.rpc import Stream, parsed
 from vsmtools.walking import Script
@@ -59,6 +61,10 @@ class Inner:
         check_dap(message)
         self.came.append(message)
 
+    def put(self, messages: list[str]) -> None:
+        for it in messages:
+            self.write(json.loads(it))
+
     def ask(self, command: str, **arguments: Any) -> Message:
         self.sent, self.came = self.sent + 1, []
         self.adapter.handle({"seq": self.sent, "type": "request", "command": command, "arguments": arguments})
@@ -68,10 +74,10 @@ class Inner:
         assert found["success"], found
         return found.get("body") or {}
 
-    def begin(self, script: Path) -> None:
+    def begin(self, script: Path, **more: Any) -> None:
         self.ask("initialize", adapterID="vsm")
         self.adapter.handle({"seq": 0, "type": "request", "command": "launch",
-                             "arguments": {"program": str(script), "stopOnEntry": True}})
+                             "arguments": {"program": str(script), "stopOnEntry": True, **more}})
         self.ask("configurationDone")
 
     def go(self, command: str) -> Message:
@@ -566,10 +572,10 @@ def test_the_library_is_asked_if_no_program_is_named(vsm: str, tmp_path: Path, m
         asked.append(options)
         return bench.Partner(vsm, options)
 
-    def told(named: Optional[str]) -> list[Message]:
-        found: list[Message] = []
+    def told(named: Optional[str]) -> list[str]:
+        found: list[str] = []
         stream = rpc.Stream(-1, -1)
-        monkeypatch.setattr(stream, "write", found.append)
+        monkeypatch.setattr(stream, "put", found.extend)
         adapter = debugging.Adapter(stream, named)
         for name, arguments in (("initialize", {}), ("launch", {"program": str(path)}), ("configurationDone", {})):
             adapter.handle({"type": "request", "seq": 1, "command": name, "arguments": arguments})
@@ -584,6 +590,69 @@ def test_the_library_is_asked_if_no_program_is_named(vsm: str, tmp_path: Path, m
     monkeypatch.setattr(vsm_bench, "opened", opened)
     assert told(vsm) == by_program and not asked
     assert told(None) == by_program and len(by_program) > 20 and len(asked) == 1
+
+
+class Several(vsm_bench.Bench):
+    """A bench that's asked as the library's is, over a program."""
+
+    def __init__(self, vsm: str, options: list[str]) -> None:
+        self.partner, self.said = bench.Partner(vsm, options), b""
+
+    def write(self, text: bytes) -> None:    # type: ignore[override]
+        lines = text.split(b"\n")
+        for first, last in statements(lines[:-1]):
+            answer = self.partner.ask(b"".join(line + b"\n" for line in lines[first - 1:last]))
+            self.said += "\n".join(["%07d %s" % (answer.line, answer.text), *answer.rest, ""]).encode()
+
+    def read(self) -> bytes:
+        said, self.said = self.said, b""
+        return said
+
+    def close(self) -> None:
+        self.partner.close()
+
+
+def told_at_random(vsm: Optional[str], path: Path, seed: int) -> list[Message]:
+    """All that a client hears of a script that's walked at random, and all that it's shown at each stop."""
+    chance, client, told = random.Random(seed), Inner(vsm), []
+    count = len(path.read_bytes().split(b"\n"))
+    client.begin(path, noDebug=chance.randrange(8) == 0)
+    if client.adapter.course is None:    # its options are wrong
+        return told
+    for _ in range(5):
+        told += client.came
+        if client.adapter.is_over:
+            break
+        client.ask("threads")
+        told += [*client.came, tree(client.ask, client.came[0]["body"]["threads"][0]["id"])]
+        client.ask("setExceptionBreakpoints", filters=[it for it in debugging.FILTERS if chance.randrange(3) == 0])
+        client.ask("setBreakpoints", source={"path": str(path)}, breakpoints=[
+            {"line": chance.randrange(count) + 1, **chance.choice(({}, {}, {"condition": "answer contains RC=0"},
+                                                                    {"logMessage": "{R1} {answer}"}))}
+            for _ in range(chance.choice((0, 0, 1, 3)))])
+        client.ask(chance.choice(("continue", "continue", "next", "stepBack", "reverseContinue")), threadId=1)
+    client.close()
+    return told + client.came
+
+
+def test_several_statements_at_once_are_told_as_one_at_a_time(vsm: str, tmp_path: Path, request: Any,
+                                                              monkeypatch: pytest.MonkeyPatch) -> None:
+    """The client gets the same messages, of the library too, if it's made."""
+    library = vsm_bench.opened if vsm_bench.find() else None
+    monkeypatch.setattr(debugging, "find_program", lambda named=None, is_needed=True: named or vsm)
+    most = 0
+    for seed in range(request.config.getoption("--damaged")):
+        path = tmp_path / "damaged.vsm"
+        chance = random.Random(seed)
+        path.write_bytes(damaged(chance, FILES) if seed % 2 else generated(seed).encode("utf-8", "surrogateescape"))
+        print("script", seed, path.read_bytes())    # shown if it fails
+        one_at_a_time = told_at_random(vsm, path, seed)
+        for it in (lambda options: Several(vsm, options), library):
+            if it:
+                monkeypatch.setattr(vsm_bench, "opened", it)
+                assert told_at_random(None, path, seed) == one_at_a_time
+        most = max(most, len(one_at_a_time))
+    assert most > 60
 
 
 def test_half_a_message_and_a_byte_at_a_time(vsm: str) -> None:

@@ -113,9 +113,9 @@ def test_neovim(trial: Callable[..., None], vsm: str, tmp_path: Path) -> None:
         path = tmp_path / source.name
         data = source.read_bytes().replace(b" STORAGE OBTAIN,L", " STORAGE OBTAIN,RELATED='é€😀',L".encode())
         path.write_bytes(data)
-        words = ["list", *options_for("", data), "--check", str(path)]
+        words = ["check", *options_for("", data), str(path)]
         said = bench.run_anyhow(bench.find_explain(vsm), words, b"").output.decode()
-        found = re.findall(r"(?m)^.*?\.vsm:(\d+:\d+: (?!NOT CARRIED OUT|WARNING).*)", said)
+        found = re.findall(r"(?m)^.*?\.vsm:(\d+:\d+: (?!NOT CARRIED OUT|WARNING|ABEND|REFUSED).*)", said)
         path.with_suffix(".vsm.wanted").write_text("".join(it + "\n" for it in found))
         files.append(str(path))
     words = ["nvim", "--headless", "-u", configuration("init.lua", tmp_path), "-i", "NONE", "-c", "luafile neovim.lua"]

@@ -71,7 +71,7 @@ def test_each_answer_of_a_lesson_is_shown(client: Edited, vsm: str, path: Path) 
         assert it["title"].startswith("fold")
 
 
-def test_faults_are_at_the_columns_that_list_says(client: Edited, explain: str, tmp_path: Path) -> None:
+def test_faults_are_at_the_columns_that_check_says(client: Edited, explain: str, tmp_path: Path) -> None:
     """Also after letters of several bytes, in lessons and scripts of the conformance suite."""
     client.begin(UTF8)
     path = tmp_path / "script.vsm"
@@ -82,10 +82,10 @@ def test_faults_are_at_the_columns_that_list_says(client: Edited, explain: str, 
             text.decode()
         except UnicodeDecodeError:
             continue
-        words = [explain, "list", *options_for("", text), "--check", str(path)]
+        words = [explain, "check", *options_for("", text), str(path)]
         said = bench.run_anyhow(words[0], words[1:], b"").output.decode()
         lines, wanted = text.split(b"\n"), set()
-        for line, column, rest in re.findall(r":(\d+):(\d+): (?!NOT CARRIED OUT)(.*)", said):
+        for line, column, rest in re.findall(r":(\d+):(\d+): (?!NOT CARRIED OUT|ABEND|REFUSED)(.*)", said):
             # An editor has no columns after a line's end, and none within a letter.
             before = lines[int(line) - 1][:int(column) - 1].decode("utf-8", "ignore").encode()
             wanted.add("%s:%d: %s" % (line, len(before) + 1, rest))
@@ -205,7 +205,7 @@ def test_hover_completion_and_names(client: Edited) -> None:
     assert hover(3, 6) == "P = 00006000 by line 1" and hover(3, 10) == "Q = 00006008 by line 3"
     assert hover(2, 16) == "cell pool P: at 00006008 by line 2" and hover(6, 36).endswith("00006000 by line 1")
     assert "no room" in hover(11, 8) and hover(4, 26) == "SP: the subpool's number; left out: 0"
-    assert hover(13, 13).startswith("LV: how many bytes") and hover(13, 9).startswith("RU: length: a value; ")
+    assert hover(13, 13).startswith("LV: the number of bytes") and hover(13, 9).startswith("RU: length: a value; ")
     assert "GETMAIN RC|RU" in hover(13, 18)    # KEY: STATEMENTS has no row of it
     assert "line 1: 8 bytes" in hover(0, 3) and "STORAGE OBTAIN,LENGTH" in hover(0, 3)
     assert labels(7, 17) == ["P"] and labels(8, 5) == ["P", "Q", "1"]
@@ -232,7 +232,7 @@ def test_each_operand_has_what_statements_says_of_it() -> None:
                 assert re.match(word + r": \S.*\S$", said) and "](" not in said, (operation, form, word)
     for words, said in ((("GETMAIN", "RC", "RC"), "RC: length: a value; the address goes to: register 1; "),
                         (("FREEMAIN", "EU", "EU"), "EU: a missing area, or one with cells: U3003, SA05, U3006; "),
-                        (("GETMAIN", "EC", "A"), "A: what else gets the address, next to register 1"),
+                        (("GETMAIN", "EC", "A"), "A: what gets the address in addition to register 1"),
                         (("CPOOL", "GET", "U"), "U: if no cell is free, an extent is made; "),
                         (("CPOOL", "FREE", "CELL"), "CELL: Frees the cell at the address CELL."),
                         (("ATTACH", "", "SHSPL"), "SHSPL: SHSPV and SHSPL share subpools with the new task: ")):
@@ -298,6 +298,7 @@ def test_settings(vsm: str, explain: str) -> None:
     client.begin(options={"low": 128})
     assert client.edit(URI, text) == [] and len(client.edit(URI, "*! --low 4\n" + text)) == 1
     assert client.edit(URI, "\n*! --low 5\n" + text)[0]["code"] == "settings"
+    assert client.edit(URI, "\n*! --history %s\n" % ("1" * 5000) + text)[0]["code"] == "settings"
     found = client.edit(URI, "\n*! --low\n" + text)
     assert found[0]["message"].startswith("not options of vsm") and found[0]["range"]["start"]["line"] == 1
     assert client.edit(URI, "") == []
@@ -474,11 +475,11 @@ def test_a_bad_message_has_an_error_and_is_passed_over(client: Edited, data: byt
     assert [it for it in client.told if it.get("id", 0) is None]
 
 
-def test_damaged_scripts(client: Edited) -> None:
+def test_damaged_scripts(client: Edited, request: Any) -> None:
     """Each request is answered at any place of any text, by the rules."""
     client.begin()
     chance = random.Random(3)
-    for k in range(150):
+    for k in range(max(150, request.config.getoption("--damaged"))):
         text = damaged(chance, SCRIPTS).decode("utf-8", "replace")
         uri, count = "%s-%d" % (URI, k), len(text.splitlines()) + 1
         print("script", k, repr(text))    # shown if it fails
@@ -621,6 +622,21 @@ def test_no_program_beneath_it(vsm: str, explain: str, tmp_path: Path) -> None:
         assert "explain" in found[0]["message"], (text, found)
         where = {"textDocument": {"uri": URI}, "position": {"line": 0, "character": 1}}
         assert text.endswith("cat\n") or client.error("textDocument/hover", where) == Code.FAILED
+    client.finish()
+
+
+def test_a_refused_statement_without_an_operation(vsm: str, tmp_path: Path) -> None:
+    """No vsm-explain lists one. It would be marked as a whole."""
+    program = tmp_path / "explain"
+    program.write_text("""#!/bin/sh
+cat >/dev/null
+echo '{"version":1,"command":"list"}'
+echo '{"kind":"answer","first":1,"last":1,"answer":"REFUSED MEMORY","refused":true,"kept":0}'
+""")
+    program.chmod(0o755)
+    client = Edited(vsm, str(program))
+    client.begin()
+    assert [(it["code"], it["range"]) for it in client.edit(URI, "NAME\n")] == [("REFUSED MEMORY", span(0, 0, 0, 4))]
     client.finish()
 
 

@@ -336,6 +336,8 @@ def test_what_is_saved_runs_alike(run: Callable, vsm: str, tmp_path: Path) -> No
     for path in ("/dev/full", "/nowhere/x", str(tmp_path)):
         _, told = talk(run, vsm, "map\n.save --over %s\n" % path)
         assert len(told) == 1 and told[0].startswith("vsm-prompt: %s: can't be written: " % path)
+    _, told = talk(run, vsm, "map\n.save a\0b\n.save --over a\0b\n.view a\0b\n")
+    assert told == ["vsm-prompt: a\\x00b: can't be written: embedded null byte"] * 3
 
 
 def test_back_until_changes(run: Callable, vsm: str) -> None:

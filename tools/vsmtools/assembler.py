@@ -94,8 +94,7 @@ def read_statement(lines: list[str], first: int) -> Statement:
         last += 1
     head = re.match(r"(\S*)\s*(\S*)\s*", line[:71])
     assert head
-    it = Statement(first, last, head[1].upper(), head[2].upper())
-    quoted = False
+    it, quoted = Statement(first, last, head[1].upper(), head[2].upper()), False
     for number in range(first, last + 1):
         start = head.end() if number == first else 15
         part = lines[number][start:71]

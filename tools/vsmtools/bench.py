@@ -97,9 +97,8 @@ def compiled(launcher: str, words: Sequence[str] = ()) -> str:
     child = start_compile(launcher, words)
     try:
         status = child.wait()
-    except BaseException:
+    finally:
         end_compile(child)
-        raise
     if status:
         raise not_compiled(launcher, status)
     return launcher
@@ -188,8 +187,7 @@ def end_group(child: subprocess.Popen[bytes]) -> None:
     child.wait()
 
 
-def run(program: str, options: Sequence[str], script: bytes, seconds: float = SECONDS,
-        most: int = MOST_OUTPUT) -> Run:
+def run(program: str, options: Sequence[str], script: bytes, seconds: float = SECONDS, most: int = MOST_OUTPUT) -> Run:
     """A run that came to the script's end (status 0 or 4); any other is a fault with vsm's own words."""
     done = run_anyhow(program, options, script, seconds, most)
     if done.status not in (0, 4):
@@ -282,6 +280,7 @@ class Session(AbstractContextManager):
         self._partner: Union[vsm_bench.Bench, Partner, None] = None if program else vsm_bench.opened(options)
         if self._partner is None:
             self._partner = Partner(program or find_program(), options, seconds)
+        self.takes_several = isinstance(self._partner, vsm_bench.Bench)    # statements at once
 
     def __exit__(self, *_: object) -> None:
         self.close()
@@ -289,17 +288,17 @@ class Session(AbstractContextManager):
     def say(self, lines: Sequence[str]) -> Answer:
         """The answer to the lines of one statement."""
         check_is_one(lines)
-        return self.ask(text_of(lines))
+        return self.ask(text_of(lines))[0]
 
-    def ask(self, text: bytes) -> Answer:
-        """The answer to a text that is one statement's lines."""
+    def ask(self, text: bytes) -> list[Answer]:
+        """The answers to a text of whole statements: of one, unless it takes several."""
         with self._lock:
             if self._partner is None:
                 raise Fault("the session is closed")
-            if b"\0" in text and isinstance(self._partner, vsm_bench.Bench):   # it can't be asked as a C string
+            if isinstance(self._partner, vsm_bench.Bench):
                 self._partner.write(text)
-                return answers(self._partner.read())[0]
-            return self._partner.ask(text)
+                return answers(self._partner.read())
+            return [self._partner.ask(text)]
 
     def close(self) -> None:
         """Ends the bench."""

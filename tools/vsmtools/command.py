@@ -31,8 +31,7 @@ class Fault(Exception):
 
 def one_line(text: str) -> str:
     """The text with every control character and line end shown as an escape."""
-    return "".join(c if c.isprintable() else c.encode("unicode_escape", "backslashreplace").decode()
-                   for c in text)
+    return "".join(c if c.isprintable() else c.encode("unicode_escape", "backslashreplace").decode() for c in text)
 
 
 def version() -> str:
@@ -51,8 +50,7 @@ class Words(argparse.ArgumentParser):
         given.setdefault("formatter_class", argparse.RawDescriptionHelpFormatter)
         given.setdefault("allow_abbrev", False)
         super().__init__(**given)  # type: ignore[arg-type]
-        self.add_argument("--version", action="version", version=version(),
-                          help="say which release this is, and exit")
+        self.add_argument("--version", action="version", version=version(), help="say which release this is, and exit")
 
     def error(self, message: str) -> NoReturn:
         raise Fault("%s; %s --help lists the arguments" % (message, self.prog), status=WORDS)
@@ -90,10 +88,11 @@ def read_input(path: Optional[str]) -> tuple[str, bytes]:
 def write_file(path: str, data: bytes, is_over: bool = True, most: int = 0o7777) -> None:
     """Puts bytes in a file's place at once: it keeps what it had if that fails. An existing file is replaced only if it
     may be, and what is no file never. It has at most the permissions `most`."""
-    whole, made = os.path.realpath(path), ""
+    made = ""
     if not is_over and os.path.lexists(path):
         raise Fault("there is one already: --over %s replaces it" % path, path)
     try:
+        whole = os.path.realpath(path)
         before = os.stat(whole) if os.path.exists(whole) else None
         if before and not stat.S_ISREG(before.st_mode):
             raise Fault("can't be written: it's no regular file", path)

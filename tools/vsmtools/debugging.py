@@ -12,15 +12,16 @@ from .bench import LAUNCHER, Answer, Session, find_program, not_compiled
 from .command import Fault, one_line
 from .console import SECONDS, Console
 from .lines import LAST_COLUMN, options_for
-from .rpc import WRONG
+from .rpc import WRONG, encoded
 from .running import FILTERS, Break, Course, Going, Stop, condition_of
 from .runs import Runs
 from .showing import Variable
-from .walking import Lost, Script, Walk
+from .walking import Lost, Script, Step, Walk
 
 Arguments = dict[str, Any]
 PAGED_FROM = 100    # longer lists are shown in parts
 SLICE = 64          # statements between two looks at what the client sends
+SHOWN = '{"seq":%d,"type":"event","event":"output","body":{"category":"stdout","output":%s,"source":%s,"line":%d}}'
 SUPPORTED = (
     "ConfigurationDoneRequest", "ConditionalBreakpoints", "LogPoints", "StepBack", "RestartRequest", "TerminateRequest",
     "EvaluateForHovers", "ReadMemoryRequest", "WriteMemoryRequest", "DataBreakpoints", "DataBreakpointBytes",
@@ -165,6 +166,7 @@ class Adapter:
             raise Fault("launch needs 'program', the script's path")
         self.program = os.path.abspath(os.path.join(arguments.get("cwd") or "", path))
         self.source = {"name": os.path.basename(self.program), "path": self.program}
+        self.source_json = encoded(self.source)
         self.vsm = find_program(arguments.get("vsm") or self.named, is_needed=False)
         if self.vsm == LAUNCHER and not self.is_compiled:
             self.runs.compile(self.vsm, (), partial(self.compiled, request))
@@ -320,33 +322,38 @@ class Adapter:
 
     def go_on(self) -> None:
         """Continues the run for a slice of statements."""
-        going, course = self.going, self.need()
+        going, course, left = self.going, self.need(), SLICE
         assert going
         try:
-            for _ in range(SLICE):
-                stop = course.back(going) if going.is_back else self.one(course, going)
+            while left > 0 and self.going:
+                place = course.walk.place
+                steps, stop = ([], course.back(going)) if going.is_back else course.on(going, left)
+                self.show(place, steps)
+                left -= len(steps) or 1
                 going.is_first = False
                 if stop and stop.reason == "end" and going.is_plain:
                     self.finish()
                 elif stop and not going.is_plain:
                     self.stopped(stop)
-                if not self.going:
-                    return
-            if going.is_paused:
+            if self.going and going.is_paused:
                 self.stopped(Stop("pause"))
         except Lost as fault:
             self.lose(fault)
 
-    def one(self, course: Course, going: Going) -> Optional[Stop]:
-        """Carries out a statement, and shows its answer."""
-        step, stop = course.on(going)
-        if step and step.statement is not None:
-            first = self.script.extents[step.statement].first
-            self.say("\n".join(["%07d %s" % (first, step.answer.text), *step.answer.rest]), statement=step.statement)
-            for it in course.breaks.get(step.statement, ()):
-                if it.log is not None:
-                    self.say(self.logged(it.log, step.answer), "console", step.statement)
-        return stop
+    def show(self, place: int, steps: list[Step]) -> None:
+        """Shows the answers of statements from a place on, of which only the first may have a breakpoint. Their JSON is
+        formed here, since it's most of a run."""
+        course, other, shown = self.need(), self.line(0), []
+        for step, extent in zip(steps, self.script.extents[place:place + len(steps)]):
+            answer = step.answer
+            text = "\n".join([answer.text, *answer.rest]) if answer.rest else answer.text
+            self.sequence += 1
+            shown.append(SHOWN % (self.sequence, encoded("%07d %s\n" % (extent.first, text)), self.source_json,
+                                  extent.first + other))
+        self.stream.put(shown)
+        for it in course.breaks.get(place, ()):
+            if it.log is not None and steps:
+                self.say(self.logged(it.log, steps[0].answer), "console", place)
 
     def logged(self, text: str, answer: Answer) -> str:
         assert self.console

@@ -106,8 +106,7 @@ def read_script(name: str, data: bytes) -> Script:
     return script
 
 
-def take_comment(script: Script, current: Optional[Tested], ahead: list[ExpectedLine], number: int,
-                 text: str) -> None:
+def take_comment(script: Script, current: Optional[Tested], ahead: list[ExpectedLine], number: int, text: str) -> None:
     """Takes one comment line, if it's an expectation or has options."""
     if text.startswith(OPTIONS):
         take_options(script, current, number, text)
@@ -205,8 +204,7 @@ def wrong_run(name: str, script: Script, done: Run, given: Sequence[Answer], sai
         return "%s was ended by signal %d" % (name, -done.status)
     if done.status not in (0, 4):
         return "%s ended with status %d: %s" % (name, done.status, said or "nothing on standard error")
-    begins = {it.extent.first for it in script.tested}
-    before = 0
+    begins, before = {it.extent.first for it in script.tested}, 0
     for answer in given:
         if answer.line not in begins:
             return "%s answered line %d, '%s', where no statement begins" % (name, answer.line, answer.text)
@@ -244,8 +242,7 @@ def unanswered(tested: Tested) -> Difference:
 
 def differs(tested: Tested, got: list[str]) -> Optional[Difference]:
     """How an answer differs from what is expected of a statement, and in which line of the script first."""
-    wanted = [it.text for it in tested.expected]
-    statement = tested.extent.first
+    wanted, statement = [it.text for it in tested.expected], tested.extent.first
     if tested.is_blank:
         line = next(it.line for it in tested.expected if it.text == BLANK)
         return Difference(line, "the answer to line %d is to be filled in" % statement, (), statement)
@@ -314,8 +311,7 @@ def filled_in(script: Script, given: Iterable[Answer]) -> bytes:
         if it.extent.first not in wanted:
             lost = unanswered(it)
             raise script.wrong(lost.text, lost.line)
-    right = {it.extent.first for it in script.tested
-             if [line.text for line in it.expected] == wanted[it.extent.first]}
+    right = {it.extent.first for it in script.tested if [line.text for line in it.expected] == wanted[it.extent.first]}
     return replace_expectations(script, {line: text for line, text in wanted.items() if line not in right})
 
 

@@ -131,8 +131,7 @@ def complete(_server: Server, document: Document, params: Message, _number: Any)
     if label and label[1].upper() not in FORMS:
         head = head[label.end():]
     world = world_at(document, extent.first)
-    found = proposals(head, typed, world)
-    where = document.range((line, column - len(typed)), (line, column))
+    found, where = proposals(head, typed, world), document.range((line, column - len(typed)), (line, column))
     return [item(it, k, where, world) for k, it in enumerate(found)]
 
 

@@ -54,8 +54,7 @@ class Judge:
 
     def subpools(self) -> None:
         seen: dict[tuple[int, int], int] = {}
-        numbers = {task.number for task in self.map.tasks}
-        before = (-1, 0)
+        numbers, before = {task.number for task in self.map.tasks}, (-1, 0)
         for it in self.map.subpools:
             self.check(before < (it.number, it.owner) and it.number <= MOST_SUBPOOL, it.line,
                        "subpools ascend by number and owner, from 0 to %d" % MOST_SUBPOOL)

@@ -11,7 +11,6 @@ from .bench import EXPLAIN_LAUNCHER, MOST_OUTPUT, WITHOUT_INPUT, find_explain, f
 from .command import Fault, one_line, version
 from .documents import FAR, Document
 from .lines import Extent, options_for
-from .reading import Part
 from .rpc import WRONG, Code, Failure, Message
 from .runs import Runs
 
@@ -243,7 +242,7 @@ class Server:
         try:
             options = self.options(document)
             known = dict(zip(options[::2], options[1::2])).get("--history", "")
-            document.limit = int(known) if known.isdecimal() else 1024
+            document.limit = int(known) if known.isdecimal() and len(known) < 9 else 1024
             self.runs.start([self.explain, "list", "--json", *options], document.data,
                             lambda output, status: self.listed(document, output, status), document.uri)
         except Fault as fault:
@@ -312,10 +311,10 @@ class Server:
                 yield self.diagnostic(where, severity, it.message, code or "FAULT " + it.fault)
         for answer in shown.refused:
             if answer.text.startswith(REFUSED):
-                operation = document.statement(answer.extent).operation or Part("", 0, 1)
+                part = document.statement(answer.extent).operation
                 cause = answer.cause or features.undefined(document, answer.extent) or manuals.meaning(answer.text)
-                yield self.diagnostic(document.range_of(answer.extent, operation), WARNING,
-                                      ": ".join(filter(None, [answer.text, cause])), answer.text)
+                where = document.range_of(answer.extent, part) if part else document.lines_range(*answer.extent)
+                yield self.diagnostic(where, WARNING, ": ".join(filter(None, [answer.text, cause])), answer.text)
 
 
 METHODS: dict[str, Callable[[Server, Message], Any]] = {

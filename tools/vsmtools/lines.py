@@ -30,8 +30,7 @@ def split_lines(script: bytes) -> list[bytes]:
 
 def text_of(lines: Sequence[str]) -> bytes:
     """A script of lines, of which split_lines gives these again."""
-    text = "".join(line + ("\r\n" if line.endswith("\r") else "\n") for line in lines)
-    return text.encode("utf-8", "surrogateescape")
+    return "\n".join([*lines, ""]).replace("\r\n", "\r\r\n").encode("utf-8", "surrogateescape")
 
 
 def is_continued(line: bytes) -> bool:

@@ -9,8 +9,7 @@ from .assembler import SYMBOL, Statement, Unknown, split_operands
 from .contents import Content, Contents
 
 # Forms whose lengths are a list in storage, and those that have the length of a list of one as an operand.
-SINGLE = {"GETMAIN": {"LC": "EC", "LU": "EU", "VC": "VRC", "VU": "VRU"},
-          "FREEMAIN": {"L": "E", "LC": "EC", "LU": "EU"}}
+SINGLE = {"GETMAIN": {"LC": "EC", "LU": "EU", "VC": "VRC", "VU": "VRU"}, "FREEMAIN": {"L": "E", "LC": "EC", "LU": "EU"}}
 
 
 @dataclass
@@ -130,8 +129,7 @@ class Lists:
                   line: int) -> list[tuple[int, str]]:
         """The operands of an execute form, the positional one first."""
         own = dict(keyed(text) for _, text in given)
-        rest = [(at, "%s=%s" % (key, text) if key else text) for key, text in form.operands.items()
-                if key not in own]
+        rest = [(at, "%s=%s" % (key, text) if key else text) for key, text in form.operands.items() if key not in own]
         lost = next((key for key in form.stored if key not in own), None)
         if lost is not None:
             raise Unknown("%s of list %s is what line %d stored there from a register"

@@ -113,8 +113,7 @@ class Loader:
     def attach_with(self, number: int, given: list[Key], shared: list[Key]) -> None:
         """ATTACH of a task with its subpools. Lists of them are in storage only for that."""
         lists = [sorted({key[0] for key in keys} - {0}) for keys in (given, shared)]
-        room = Area(LOW_START, 256)
-        words = ["EP=T%d" % number]
+        room, words = Area(LOW_START, 256), ["EP=T%d" % number]
         is_listed = any(len(numbers) > 1 for numbers in lists)
         if is_listed:
             self.script.obtain(room, 0)
@@ -251,8 +250,7 @@ class Pages:
 
     def make_free_cells(self, pool: CellPool) -> None:
         """Obtains the cells that are in use, and frees the others, the first to be obtained last."""
-        last, free = pool.extent_cells(len(pool.extents) - 1), pool.free_cells
-        same = 0
+        last, free, same = pool.extent_cells(len(pool.extents) - 1), pool.free_cells, 0
         while same < min(self.unused[pool.name], len(free)) and free[-1 - same] == last[-1 - same]:
             same += 1
         self.script.get(pool, self.unused[pool.name] - same)

@@ -114,16 +114,14 @@ PATTERNS = {
     "PAGES": re.compile(" PAGES LOW %s OF %s HIGH %s OF %s" % ((NUMBER,) * 4)),
     "BYTES": re.compile(" BYTES TAKEN %s FREE %s" % (NUMBER, NUMBER)),
     "NAME": re.compile(" NAME %s %s" % (NAME, HEX)),
-    "HISTORY": re.compile(" HISTORY KEPT %s OF %s" % (NUMBER, NUMBER)),
-}
+    "HISTORY": re.compile(" HISTORY KEPT %s OF %s" % (NUMBER, NUMBER))}
 # What can follow a line of each kind; "" is the map's begin.
 FOLLOWS = {
     "": "TASK", "TASK": "R0", "R0": "R8", "R8": "TASK SUBPOOL CELLPOOL PAGES",
     "SUBPOOL": "EXTENT SUBPOOL CELLPOOL PAGES", "EXTENT": "EXTENT FREE SUBPOOL CELLPOOL PAGES",
     "FREE": "FREE SUBPOOL CELLPOOL PAGES", "CELLPOOL": "POOLEXTENT",
     "POOLEXTENT": "POOLEXTENT FREECELL CELLPOOL PAGES", "FREECELL": "FREECELL CELLPOOL PAGES",
-    "PAGES": "BYTES", "BYTES": "NAME HISTORY", "NAME": "NAME HISTORY", "HISTORY": "",
-}
+    "PAGES": "BYTES", "BYTES": "NAME HISTORY", "NAME": "NAME HISTORY", "HISTORY": ""}
 
 
 def area_of(found: re.Match[str]) -> Area:
@@ -145,8 +143,7 @@ TAKERS: dict[str, Callable[[Map, re.Match[str], int], None]] = {
         CellPool(found[1], *map(int, found.groups()[1:7]), found[8], line=line)),
     "POOLEXTENT": lambda it, found, _: it.cell_pools[-1].extents.append(area_of(found)),
     "FREECELL": lambda it, found, _: it.cell_pools[-1].free_cells.append(int(found[1], 16)),
-    "NAME": lambda it, found, line: it.names.append(Name(found[1], int(found[2], 16), line)),
-}
+    "NAME": lambda it, found, line: it.names.append(Name(found[1], int(found[2], 16), line))}
 
 
 def parse_map(lines: Sequence[str], source: str = "the map", first: int = 1) -> Map:
@@ -175,18 +172,20 @@ def parse_map(lines: Sequence[str], source: str = "the map", first: int = 1) -> 
     return shown
 
 
+def sharers(it: Subpool) -> str:
+    return ",".join(map(str, it.sharers)) or "NONE"
+
+
 def map_lines(shown: Map) -> list[str]:
     """The lines of a map, as vsm prints them."""
     lines: list[str] = []
     for task in shown.tasks:
-        lines.append(" TASK %d PARENT %d%s"
-                     % (task.number, task.parent, " CURRENT" if task.is_current else ""))
+        lines.append(" TASK %d PARENT %d%s" % (task.number, task.parent, " CURRENT" if task.is_current else ""))
         for start in (0, 8):
             words = task.registers[start:start + 8]
             lines.append("  R%d" % start + "".join(" %08X" % word for word in words))
     for subpool in shown.subpools:
-        sharers = ",".join(map(str, subpool.sharers)) or "NONE"
-        lines.append(" SUBPOOL %d OWNER %d SHARERS %s" % (subpool.number, subpool.owner, sharers))
+        lines.append(" SUBPOOL %d OWNER %d SHARERS %s" % (subpool.number, subpool.owner, sharers(subpool)))
         lines += ["  EXTENT %08X %08X" % (it.start, it.length) for it in subpool.extents]
         lines += ["  FREE %08X %08X" % (it.start, it.length) for it in subpool.free]
     for pool in shown.cell_pools:

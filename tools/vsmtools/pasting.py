@@ -475,8 +475,7 @@ class Paste:
                               "more than one length, or its last lacks the mark X'80'" % form, at + 1)
             length = "%d" % (words[0] & 0x7FFFFFFF)
         it.notes.append("%s has its lengths in list %s, and is taken as %s,LV=%s" % (form, text, to, length))
-        found = [(0, to)] + [(k, "LV=" + length if keyed(other)[0] == "LA" else other)
-                             for k, other in operands[1:]]
+        found = [(0, to)] + [(k, "LV=" + length if keyed(other)[0] == "LA" else other) for k, other in operands[1:]]
         it.form, it.is_list = to, it.operation == "GETMAIN"
         return self.with_answer(it, found) + [(at, "LOC=BELOW")] if to.startswith("V") else found
 
@@ -645,8 +644,7 @@ class Paste:
             if content is None or content.kind != "pool":
                 raise Unknown("%s isn't known to name a cell pool that an earlier BUILD made" % text)
             if content.what != text.upper():
-                self.note(it.line, 1, "CPID=%s is taken as %s, of line %d"
-                          % (text, content.what, content.line), True)
+                self.note(it.line, 1, "CPID=%s is taken as %s, of line %d" % (text, content.what, content.line), True)
             return str(content.what)
         name = text.upper() if register is None else "CPID%d" % register
         if not NAME.fullmatch(name):

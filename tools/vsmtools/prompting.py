@@ -94,8 +94,7 @@ class Bench:
     def ask(self, lines: Sequence[str]) -> Answer:
         """The answer of vsm to one statement's lines; not to be cut in two by Ctrl+C."""
         if self.session is None:
-            raise Fault("vsm has ended (%s); .save FILE keeps the lines, .restart runs them again"
-                        % self.ended)
+            raise Fault("vsm has ended (%s); .save FILE keeps the lines, .restart runs them again" % self.ended)
         check_is_one(lines)
         try:
             return self.session.say(lines)
@@ -107,8 +106,7 @@ class Bench:
     def carry_out(self, lines: Sequence[str]) -> Answer:
         """One statement's lines: into the log, to vsm, and its answer with its number in the log."""
         with deferred():
-            answer = self.ask(lines)
-            begin = len(self.log)
+            answer, begin = self.ask(lines), len(self.log)
             self.log += lines
             self.count(answer, begin)
         self.show("%07d %s" % (begin + 1, answer.text))
@@ -268,8 +266,7 @@ class Prompt:
         for lines in self.rest:
             at += len(lines)
             if not is_passed_over(lines[0].encode("utf-8", "surrogateescape")):
-                self.show("  next is line %d: %s"
-                          % (at - len(lines) + 1, one_line(lines[0].strip()[:LAST_COLUMN])))
+                self.show("  next is line %d: %s" % (at - len(lines) + 1, one_line(lines[0].strip()[:LAST_COLUMN])))
                 return
         self.show("  the file is at its end")
 

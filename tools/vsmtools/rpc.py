@@ -8,12 +8,12 @@ import select
 import signal
 import sys
 from enum import IntEnum
-from typing import Any, NoReturn, Optional, Sequence
+from typing import Any, Iterable, NoReturn, Optional, Sequence
 
 from .command import Fault
 
 Message = dict[str, Any]
-ENCODER = json.JSONEncoder(ensure_ascii=False, separators=(",", ":"))
+encoded = json.JSONEncoder(ensure_ascii=False, separators=(",", ":")).encode
 WRONG = (LookupError, TypeError, ValueError, AttributeError, OverflowError)    # what wrong parameters raise
 MOST_HEADER = 8192
 MOST_BODY = 512 << 20    # a script of 268,435,456 bytes, and what JSON adds to it
@@ -140,12 +140,16 @@ class Stream:
         return True
 
     def write(self, message: Message) -> None:
-        """Sends a message before more is read, or once much is to be sent."""
-        # A script's bytes that are no UTF-8 become question marks: clients take half characters for errors.
-        body = ENCODER.encode(message).encode("utf-8", "replace")
-        self.unsent += b"Content-Length: %d\r\n\r\n%b" % (len(body), body)
-        if len(self.unsent) > 1 << 16:
-            self.flush()
+        self.put([encoded(message)])
+
+    def put(self, messages: Iterable[str]) -> None:
+        """Sends messages, each as JSON, before more is read, or once much is to be sent."""
+        for message in messages:
+            # A script's bytes that are no UTF-8 become question marks: clients take half characters for errors.
+            body = message.encode("utf-8", "replace")
+            self.unsent += b"Content-Length: %d\r\n\r\n%b" % (len(body), body)
+            if len(self.unsent) > 1 << 16:
+                self.flush()
 
     def flush(self) -> None:
         """Sends what isn't sent yet; a fault if the client has gone."""

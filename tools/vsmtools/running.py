@@ -142,23 +142,31 @@ class Course:
                       if (it.holds(step) if step else it.log is None and it.condition is None))
         return Stop("breakpoint", breaks=found) if found else None
 
-    def on(self, going: Going) -> tuple[Optional[Step], Optional[Stop]]:
-        """Carries out the next statement: its step, and why the run stops; no step if it stops before it."""
+    def on(self, going: Going, most: int) -> tuple[list[Step], Optional[Stop]]:
+        """Carries out at most that many of the next statements: their steps, and why the run stops; no step if it stops
+        before the first one."""
         walk = self.walk
         place = walk.place
         if walk.is_at_end:
-            return None, END
+            return [], END
         is_new = place in self.breaks and not (going.is_first or going.is_plain)
         stop = self._hit(place, None) if is_new else None
         if stop:
-            return None, stop
-        step = walk.forward()
-        stop = self._hit(place, step) if is_new else None
+            return [], stop
+        # One with a breakpoint, or if something is watched, by itself.
+        most = next((at for at in range(most) if place + at in self.breaks), most) or 1
+        steps = walk.forward(1 if self.watched or going.is_step else most)
+        stop = self._hit(place, steps[0]) if is_new else None
         if stop:
             walk.back()
-            return None, Stop("breakpoint", "it will be answered %s" % step.answer.text, breaks=stop.breaks)
-        changed = self._changed(step)
-        return step, self._refused(step) or changed or (Stop("step") if going.is_step else None)
+            return [], Stop("breakpoint", "it will be answered %s" % steps[0].answer.text, breaks=stop.breaks)
+        changed = self._changed(steps[0])
+        for at, step in enumerate(steps if self.filters and not going.is_plain else (), 1):
+            stop = self._refused(step)
+            if stop:
+                del walk.steps[len(walk.steps) - len(steps) + at:]
+                return steps[:at], stop
+        return steps, changed or (Stop("step") if going.is_step else None)
 
     def back(self, going: Going) -> Optional[Stop]:
         """Steps back over one statement; why the run stops there."""

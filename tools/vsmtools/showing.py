@@ -6,7 +6,7 @@ from dataclasses import dataclass
 from functools import partial
 from typing import Callable, Optional, Sequence
 
-from .maps import PAGE, Area, CellPool, Map, Subpool, Task, map_lines
+from .maps import PAGE, Area, CellPool, Map, Subpool, Task, map_lines, sharers
 
 Children = Callable[[], list["Variable"]]
 REGISTER = re.compile(r"(?i)(?:\(R?(1[0-5]|[0-9])\)|R(1[0-5]|[0-9]))$")
@@ -85,10 +85,6 @@ def subpools(shown: Map) -> list[Variable]:
         watched="subpool:%d:%d" % (it.number, it.owner)) for it in shown.subpools]
 
 
-def sharers(it: Subpool) -> str:
-    return ",".join(map(str, it.sharers)) or "NONE"
-
-
 def subpool(it: Subpool) -> list[Variable]:
     return [Variable("number", str(it.number)), Variable("owner", str(it.owner)), Variable("sharers", sharers(it)),
             listed("extents", areas(it.extents, "extent")), listed("free", areas(it.free, "free"))]
@@ -161,8 +157,7 @@ def address_of(text: str, shown: Map) -> Optional[int]:
         return int(text, 16)
     if text.isdecimal():
         return int(text) if int(text) < 1 << 32 else None
-    found = named(shown, text)
-    register = REGISTER.match(text)
+    found, register = named(shown, text), REGISTER.match(text)
     if found is None and register:
         return current_of(shown).registers[int(register[1] or register[2])]
     return found

@@ -49,10 +49,6 @@ class History:
     kept: int = 0
     undone: Optional[Undone] = None
 
-    def accepted(self, lines: Sequence[str], limit: int) -> History:
-        """After one more kept change."""
-        return History(State(self.state, tuple(lines), self.state.depth + 1), min(self.kept + 1, limit))
-
     def reaches(self, kept: int) -> bool:
         """Whether a BACK or FORWARD can lead to that number of kept changes."""
         back, ahead = self.kept - kept, self.undone.count if self.undone else 0
@@ -69,10 +65,11 @@ class History:
             state, undone = undone.state, undone.rest
         return History(state, kept, undone)
 
-    def after(self, answer: Answer, lines: Sequence[str], limit: int) -> History:
+    def after(self, answer: Answer, lines: tuple[str, ...], limit: int) -> History:
         """After a statement with this answer."""
         if answer.is_kept:
-            return self.accepted(lines, limit)
+            state, kept = self.state, self.kept
+            return History(State(state, lines, state.depth + 1), kept + 1 if kept < limit else limit)
         return self if answer.kept is None else self.stepped(answer.kept)
 
 
@@ -169,8 +166,11 @@ class Walk:
         return self.place >= len(self.script.extents)
 
     def _say(self, lines: Sequence[str]) -> Answer:
-        text = text_of(lines)
-        if len(text) > LAST_COLUMN and is_continued(split_lines(text)[-1]):
+        return self._say_all(lines)[0]
+
+    def _say_all(self, lines: Sequence[str]) -> list[Answer]:
+        text, last = text_of(lines), text_of(lines[-1:])
+        if len(last) > LAST_COLUMN and is_continued(split_lines(last)[-1]):
             # The script ends within a statement: a line that can't continue it ends it with the same answer.
             text += b" BACK 0\n"
         self.asked += len(lines)
@@ -179,10 +179,21 @@ class Walk:
         except Fault as fault:
             raise Lost(str(fault)) from None
 
-    def forward(self) -> Step:
-        """Carries out the statement that comes next."""
-        place = self.place
-        return self.carry_out(self.script.text(place), place)
+    def forward(self, most: int) -> list[Step]:
+        """Carries out at most that many of the next statements, which can all be undone together; only one if vsm can't be
+        asked several, or if its history isn't that of the way."""
+        self.settle()
+        place, here, steps = self.place, self.here, self.steps
+        most = min(most, self.limit, len(self.script.extents) - place)
+        if most < 2 or not self.session.takes_several or not self._answers_alike("FORWARD"):
+            return [self.carry_out(self.script.text(place), place)]
+        texts = [tuple(self.script.text(it)) for it in range(place, place + most)]
+        for lines, answer in zip(texts, self._say_all([line for lines in texts for line in lines])):
+            here = here.after(answer, lines, self.limit)
+            steps.append(Step(place, lines, answer, here))
+            place += 1
+        self.now = here
+        return steps[-most:]
 
     def carry_out(self, lines: Sequence[str], statement: Optional[int] = None) -> Step:
         """Carries out a statement here; without a number it's one of the console."""
@@ -191,11 +202,11 @@ class Walk:
         if asks and not self._answers_alike(asks[1].upper()):
             self.run_anew()
         answer = self._say(lines)
-        after = self.here.after(answer, lines, self.limit)
+        after = self.here.after(answer, tuple(lines), self.limit)
         if answer.is_kept:
             self.now = History(after.state, min(self.now.kept + 1, self.limit))
         else:
-            self.now = self.now.after(answer, lines, self.limit)
+            self.now = self.now.after(answer, (), self.limit)
         step = Step(statement, tuple(lines), answer, after)
         self.steps.append(step)
         return step

@@ -10,13 +10,10 @@ FORMS: dict[str, tuple[str, ...]] = {
     **dict.fromkeys("ATTACH DETACH RUN ENDTASK POKE PEEK MAP BACK FORWARD".split(), ())}
 KEYWORDS = {
     "STORAGE OBTAIN": ("LENGTH", "SP", "ADDR", "BNDRY", "LOC", "COND"),
-    "STORAGE RELEASE": ("LENGTH", "ADDR", "SP", "COND"),
-    "GETMAIN": ("LV", "SP", "A", "BNDRY", "LOC"),
-    "FREEMAIN": ("LV", "A", "SP"),
-    "CPOOL BUILD": ("PCELLCT", "SCELLCT", "CSIZE", "CPID", "SP", "LOC", "HDR"),
-    "CPOOL GET": ("CPID", "CELL"), "CPOOL FREE": ("CPID", "CELL"), "CPOOL DELETE": ("CPID",),
-    "ATTACH": ("EP", "GSPV", "GSPL", "SHSPV", "SHSPL", "SZERO"),
-}
+    "STORAGE RELEASE": ("LENGTH", "ADDR", "SP", "COND"), "FREEMAIN": ("LV", "A", "SP"),
+    "GETMAIN": ("LV", "SP", "A", "BNDRY", "LOC"), "CPOOL GET": ("CPID", "CELL"), "CPOOL FREE": ("CPID", "CELL"),
+    "CPOOL BUILD": ("PCELLCT", "SCELLCT", "CSIZE", "CPID", "SP", "LOC", "HDR"), "CPOOL DELETE": ("CPID",),
+    "ATTACH": ("EP", "GSPV", "GSPL", "SHSPV", "SHSPL", "SZERO")}
 VALUES = {"BNDRY": ("DBLWD", "PAGE"), "LOC": ("BELOW", "24", "ANY", "31", "RES"),
           "COND": ("YES", "NO"), "SZERO": ("YES", "NO")}
 NAMED = ("ADDR", "A", "CELL", "LENGTH", "LV", "GSPL", "SHSPL")

@@ -14,7 +14,7 @@ use Rattle.storage_changes.specs.Props.{Fit-prop, NamedState-set, Reply-set, Out
 use Rattle.storage_swap.specs.declared.storage.Parts.{Parts}
 use Rattle.storage_swap.specs.declared.change.Change.{Change as RawChange}
 use Rattle.storage_swap.specs.Apart.{AreWhole}
-use Rattle.storage_swap.specs.HistoryKept.{apart-put, hold-append, frames-append}
+use Rattle.storage_swap.specs.HistoryKept.{apart-put, hold-append, blanks-append, frames-append}
 use Rattle.storage_swap.specs.ReservedFit.{reserve-others, reserve-apart, reserve-whole}
 use Rattle.vsm_machine.specs.Meaning.{state_in_place, settings_of}
 use Rattle.vsm_machine.specs.Planned.{IsIdFor, change_for, reply_of}
@@ -47,6 +47,7 @@ whole_put : (xs ys : List RawChange) (c : RawChange) (p : Parts) → AreWhole p 
 whole_put xs ys c p h = record {
   apart = apart-put xs ys c p h.apart;
   all = λ i live. omega (arith, h.all i live, hold-append p.elements xs (c ∷ ys) i, hold-append p.elements xs ys i);
+  all_aside = omega (arith, h.all_aside, blanks-append xs (c ∷ ys), blanks-append xs ys);
   all_out = omega (arith, h.all_out, frames-append xs (c ∷ ys), frames-append xs ys);
 }
 

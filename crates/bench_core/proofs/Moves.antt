@@ -115,13 +115,28 @@ module _ (n : ℕ) (old new : Log MachineChange) (s t : Machine) (h : Directed o
 -- after steps, or a refusal of them: the memory
 
 memory_same : (s : Machine) → HasSameMemory s s
-memory_same s = record { as_many = refl; spare = refl; frames = record { spare = refl; made = refl } }
+memory_same s = record {
+  storage = record {
+    as_many = refl;
+    spare = refl;
+    frames = record { spare = refl; made = refl };
+    tables = record { tables = λ page. refl; segments = λ page. refl };
+  };
+  names = refl;
+}
 
 memory_then : (s t u : Machine) (c d : MachineChange) → HasSameMemory s t → Swaps t c u d → HasSameMemory s u
-memory_then s t u c d k w = record {
-  as_many = w.storage.as_many ∙ k.as_many;
-  spare = w.storage.spare ∙ k.spare;
-  frames = record { spare = w.storage.frames.spare ∙ k.frames.spare; made = w.storage.frames.made ∙ k.frames.made };
+memory_then s t u c d k w = let one = k.storage in let two = w.storage in record {
+  storage = record {
+    as_many = two.as_many ∙ one.as_many;
+    spare = two.spare ∙ one.spare;
+    frames = record { spare = two.frames.spare ∙ one.frames.spare; made = two.frames.made ∙ one.frames.made };
+    tables = record {
+      tables = λ page. two.tables.tables page ∙ one.tables.tables page;
+      segments = λ page. two.tables.segments page ∙ one.tables.segments page;
+    };
+  };
+  names = w.same ∙ k.names;
 }
 
 memory_back : (n : ℕ) (p q : Moment Machine MachineChange) → Times (StepsBack Swaps) n p q → HasSameMemory p.state q.state

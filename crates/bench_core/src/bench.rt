@@ -48,6 +48,11 @@ impl Bench {
     /// of elements is made for it, and no frame.
     ///
     /// Refused with `Setting` if a setting is out of its limits, and with `NoMemory` if there is no memory for it.
+    ///
+    /// ```
+    /// let bench = Bench::new(rt.alloc(), DEFAULT_SETTINGS)?;
+    /// assert_eq!(rt; bench.kept(), 0);
+    /// ```
     pub fn new(alloc: Global, settings: Settings) -> Result<Bench, NewFault>
         ensures { IsNew settings result }
     {
@@ -76,12 +81,34 @@ impl Bench {
     /// weighs (subpools that it gives or shares, cells that it makes, and what leaves by it), or fewer frames, or
     /// tables, than pages that it newly assigns, or if there is no room for a name that it defines.
     ///
-    /// A statement that is refused for anything else takes no memory. For one that is accepted or refused with
-    /// `NoMemory`, at most a block of elements is made beyond the live ones and those of its weight, and no frame
-    /// beyond those of the pages that it newly assigns. What was made for a refused one stays, as spare elements and
-    /// frames.
+    /// A statement that is refused for anything else leaves the machine as it is, and takes no memory. For one that is
+    /// accepted or refused with `NoMemory`, at most a block of elements is made beyond the live ones and those of its
+    /// weight, no frame beyond those of the pages that it newly assigns, a table only for a segment of these pages, and
+    /// no other name is added than the one that it defines. What was made for a refused one stays, as spare elements
+    /// and frames and as tables.
     ///
     /// It's a call of its own, so that no other line of a script pays for the room of a plan.
+    ///
+    /// ```
+    /// let mut bench = Bench::new(rt.alloc(), DEFAULT_SETTINGS)?;
+    /// let obtain = Statement::Obtain {
+    ///     length: Length::Fixed(Value::Number(12)),
+    ///     subpool: Value::Number(1),
+    ///     place: None,
+    ///     boundary: Boundary::Doubleword,
+    ///     location: Location::Low,
+    ///     form: Form {
+    ///         family: Family::S,
+    ///         conditional: false,
+    ///     },
+    /// };
+    /// let obtained = Reply::Obtained {
+    ///     address: 0x6000,
+    ///     length: 16,
+    /// };
+    /// assert!(rt; obtain.valid());
+    /// assert!(rt; bench.apply(&obtain) == Ok(obtained));
+    /// ```
     #[inline(never)]
     pub fn apply(&mut self, statement: &Statement) -> Result<Reply, Refusal>
         requires valid { IsValidAct (act_in statement.now) }
@@ -129,6 +156,13 @@ impl Bench {
     ///
     /// Refused with `Name` if the address is a name that isn't defined, and with `Abend` (0C4) if one of the bytes
     /// doesn't lie in an assigned page; `out` is then unchanged. If `out` has room for no byte, no page is needed.
+    ///
+    /// ```
+    /// let bench = Bench::new(rt.alloc(), DEFAULT_SETTINGS)?;
+    /// let mut bytes = [0; 4];
+    /// // No page is assigned yet.
+    /// assert!(rt; bench.peek(Value::Number(0x6000), &mut bytes).is_err());
+    /// ```
     pub fn peek(&self, address: Value, out: &mut [u8]) -> Result<(), Refusal>
         requires valid { IsValue (written_in address) }
         ensures shown { OnOk result (shown_at (bench_of self.now).present (written_in address) (length out.old)
@@ -146,8 +180,19 @@ impl Bench {
         }
     }
 
-    /// Undoes the last `n` changes, or none if fewer are kept. No element and no frame is made, and the same numbers
-    /// are spare.
+    /// Undoes the last `n` changes, or none if fewer are kept. No element, frame or table is made, the same numbers of
+    /// elements and frames are spare, and the table of names has the same ones.
+    ///
+    /// ```
+    /// let mut bench = Bench::new(rt.alloc(), DEFAULT_SETTINGS)?;
+    /// let turn = Statement::Run {
+    ///     task: Value::Number(1),
+    /// };
+    /// assert!(rt; turn.valid());
+    /// assert!(rt; bench.apply(&turn).is_ok());
+    /// assert!(rt; bench.back(1).is_ok());
+    /// assert_eq!(rt; (bench.kept(), bench.undone()), (0, 1));
+    /// ```
     pub fn back(&mut self, n: u32) -> Result<(), TooFar>
         ensures keeps { Keeps (statement_step (settings_in self.old)) (settings_in self.old).history (bench_of self.old)
             (Back n) (answer_to_back result) (bench_of self.new) }
@@ -157,8 +202,20 @@ impl Bench {
         self.history.back(&mut self.machine, n)
     }
 
-    /// Makes the first `n` undone changes again, or none if fewer are undone. No element and no frame is made, and the
-    /// same numbers are spare.
+    /// Makes the first `n` undone changes again, or none if fewer are undone. No element, frame or table is made, the
+    /// same numbers of elements and frames are spare, and the table of names has the same ones.
+    ///
+    /// ```
+    /// let mut bench = Bench::new(rt.alloc(), DEFAULT_SETTINGS)?;
+    /// let turn = Statement::Run {
+    ///     task: Value::Number(1),
+    /// };
+    /// assert!(rt; turn.valid());
+    /// assert!(rt; bench.apply(&turn).is_ok());
+    /// assert!(rt; bench.back(1).is_ok());
+    /// assert!(rt; bench.forward(1).is_ok());
+    /// assert_eq!(rt; (bench.kept(), bench.undone()), (1, 0));
+    /// ```
     pub fn forward(&mut self, n: u32) -> Result<(), TooFarAhead>
         ensures keeps { Keeps (statement_step (settings_in self.old)) (settings_in self.old).history (bench_of self.old)
             (Forward n) (answer_to_forward result) (bench_of self.new) }

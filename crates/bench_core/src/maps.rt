@@ -52,6 +52,13 @@ impl Bench {
 
     /// Writes the map of the bench as it is. After a fault what was written is a prefix of the text; a writer that
     /// takes nothing gives an error of the kind `WriteZero`. Takes no memory.
+    ///
+    /// ```
+    /// let bench = Bench::new(rt.alloc(), DEFAULT_SETTINGS)?;
+    /// let mut map = Vec::new(rt.alloc());
+    /// assert!(rt; bench.write_map(&mut map).is_ok());
+    /// assert!(rt; map.as_slice().starts_with(b" TASK 1 PARENT 0 CURRENT\n"));
+    /// ```
     pub fn write_map<W: Write>(&self, writer: &mut W) -> Result<(), io::Error>
         ensures { Writes (W.contents writer.old) (W.contents writer.new)
             (map_text (settings_in self.now) (bench_of self.now).present (length (bench_of self.now).past)) result }

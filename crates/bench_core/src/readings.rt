@@ -17,6 +17,11 @@ use vsm_model::{Cause, Service};
 
 impl Bench {
     /// The private storage as it is, to be read by its walks.
+    ///
+    /// ```
+    /// let bench = Bench::new(rt.alloc(), DEFAULT_SETTINGS)?;
+    /// assert_eq!(rt; bench.storage().current(), 1);
+    /// ```
     pub fn storage(&self) -> &Storage
         ensures state { state_of result.now ≡ (bench_of self.now).present.storage }
         ensures settings { settings_of result.now ≡ settings_in self.now }
@@ -39,6 +44,11 @@ impl Bench {
     }
 
     /// The word of a register of a task: 0 if no such task exists, and for a number past 15.
+    ///
+    /// ```
+    /// let bench = Bench::new(rt.alloc(), DEFAULT_SETTINGS)?;
+    /// assert_eq!(rt; bench.register(1, 3), 0);
+    /// ```
     pub fn register(&self, task: u8, register: u8) -> u32
         ensures { result ≡ (bench_of self.now).present.storage.words task register }
     {
@@ -46,6 +56,11 @@ impl Bench {
     }
 
     /// The word that a value stands for; `None` if it's a name that isn't defined.
+    ///
+    /// ```
+    /// let bench = Bench::new(rt.alloc(), DEFAULT_SETTINGS)?;
+    /// assert!(rt; bench.word(&Value::Number(8)) == Some(8));
+    /// ```
     pub fn word(&self, value: &Value) -> Option<u32>
         requires { IsValue (written_in value.now) }
         ensures { result ≡ looked_up (bench_of self.now).present (written_in value.now) }
@@ -69,6 +84,14 @@ impl Bench {
 
     /// The first cause of a statement: why it would be refused, or, in its conditional form, return 4; none if it would
     /// have its effect, or if a conditional GET would return 4. It only reads, and takes no memory.
+    ///
+    /// ```
+    /// let bench = Bench::new(rt.alloc(), DEFAULT_SETTINGS)?;
+    /// let end = Statement::EndTask;
+    /// assert!(rt; end.valid());
+    /// // The first task can't end.
+    /// assert!(rt; matches!(bench.cause_of(&end), Ok(Some(_))));
+    /// ```
     pub fn cause_of(&self, statement: &Statement) -> Result<Option<Cause>, UnknownName>
         requires { IsValidAct (act_in statement.now) }
         ensures { IsFirstCause (settings_in self.now) (bench_of self.now).present (act_in statement.now) result }

@@ -10,8 +10,8 @@ use Rattle.free_queue.specs.declared.queue.FreeQueue.{FreeQueue}
 use Rattle.free_queue.specs.FreeQueue.{is_free, owned, IsFreeQueue}
 use Rattle.run_set.specs.Runs.{Run, inside, contains}
 use Rattle.vsm_model.specs.declared.Subpool.{Subpool}
-use Rattle.cell_extents.specs.declared.settings.Extent.{Extent}
-use Rattle.cell_extents.specs.declared.settings.CellSettings.{CellSettings as PoolSettings}
+use Rattle.cell_pool.specs.declared.settings.Extent.{Extent}
+use Rattle.cell_pool.specs.declared.settings.CellSettings.{CellSettings as PoolSettings}
 use Rattle.cell_pool.specs.Pools.{Pool}
 use Rattle.subpool_storage.specs.Subpools.{Subpools, with_free}
 use Rattle.storage_changes.specs.declared.record.Record.{Record}
@@ -22,6 +22,7 @@ use Rattle.storage_swap.specs.declared.builder.ChangeBuilder.{ChangeBuilder}
 use Rattle.storage_swap.specs.Builder.{records_in, parked_in, IsBuilding, Builds, Pushes}
 use Rattle.storage_swap.specs.Growth.{MakesElements}
 use Rattle.storage_swap.proofs.KeptLemmas.{over}
+use Rattle.storage_swap.proofs.AsideLemmas.{made-same, aside-same}
 use Rattle.storage_swap.proofs.BuilderLemmas.{Leads, leads-all, leads-room, makes-follow}
 use Rattle.storage_changes.specs.CellActions.{extents_given_back}
 use Rattle.cell_plans.specs.Areas.{areas_of}
@@ -276,17 +277,17 @@ module _ (p : Subpool) (pool : ℕ) (s : Parts) (a : ChangeBuilder) where
               ∙ ap (λ (z : List Record). records_in t b ++ z) (sym front) ∙ w.records
 
           -- and it was noted
-          module _ (e : Store) (r : FreeQueue) (stand : IsFreeQueue e r) (moves : Moves u.elements e (λ i. times i (owned u.elements q)) (λ i. times i (owned e r))) where
+          module _ (e : Store) (r : FreeQueue) (stand : IsFreeQueue e r) (moves : Moves u.elements e (λ i. times i (owned u.elements q)) (λ i. times i (owned e r))) (kept : e.aside ≡ u.elements.aside) where
             pub noted_so : BuildsBeside s a (over u e) c r
-            noted_so = noted-builds s a u c q pushed_builds e r stand moves
+            noted_so = noted-builds s a u c q pushed_builds e r stand moves kept
 
             pub area_more :
                 count + 1 < 2 ^ 30 → ((d : ℕ) → is_free e r d ≡ (inside d area || is_free u.elements q d))
                 → NotesOne u.elements e (noted_count u q) (length (owned e r)) → AreasLead p pool s a (over u e) c (count + 1) r
             area_more small set one = record {
               builds = noted_so;
-              records = ap (λ (z : List Record). z ++ rest_from (count + 1)) (noted-records u c q pushed_builds.beside e (λ i. times i (owned e r)) moves) ∙ pushed_records;
-              parked = noted-parked u c q pushed_builds.beside e (λ i. times i (owned e r)) moves ∙ pushes.parked ∙ w.parked;
+              records = ap (λ (z : List Record). z ++ rest_from (count + 1)) (noted-records u c q pushed_builds.beside e (λ i. times i (owned e r)) moves kept) ∙ pushed_records;
+              parked = noted-parked u c q pushed_builds.beside e (λ i. times i (owned e r)) moves kept ∙ pushes.parked ∙ w.parked;
               spare = omega (arith, w.spare, lengths, pushes.spare, one.spare, count_stays);
               live = omega (arith, w.live, lengths, pushes.live, one.live, count_stays);
               made =
@@ -306,16 +307,16 @@ module _ (s : Parts) (a : ChangeBuilder) (added : List Record) (room : ℕ) (t :
     (f : Leaves t.elements e (owned t.elements q) []) (within : noted_count t q ≤ live_count t.elements) where
   pub all_gone : PushesBeside s a added (noted_count t q) room t b → PushesBeside s a added 0 room (over t e) b
   all_gone k = record {
-    records = noted-records t b q w.beside e (λ i. 0) (gone-moves s a t b q w e f) ∙ k.records;
-    parked = noted-parked t b q w.beside e (λ i. 0) (gone-moves s a t b q w e f) ∙ k.parked;
+    records = noted-records t b q w.beside e (λ i. 0) (gone-moves s a t b q w e f) (aside-same t.elements e f.as_many) ∙ k.records;
+    parked = noted-parked t b q w.beside e (λ i. 0) (gone-moves s a t b q w e f) (aside-same t.elements e f.as_many) ∙ k.parked;
     spare = omega (arith, k.spare, f.spare);
     live = omega (arith, k.live, leaves-live t.elements e (owned t.elements q) [] f within);
-    made = omega (arith, k.made, f.as_many);
+    made = omega (arith, k.made, made-same t.elements e f.as_many);
   }
 
   -- that much was made before, and nothing then
   pub still_made : (n : ℕ) → MakesElements s.elements t.elements n → MakesElements s.elements e n
-  still_made n k = omega (arith, k, f.as_many)
+  still_made n k = omega (arith, k, made-same t.elements e f.as_many)
 
 -- records before and after
 pub pushed-before : (s t u : Parts) (a b c : ChangeBuilder) (xs ys : List Record) (room : ℕ) → Pushes s a xs t b → PushesBeside t b ys 0 room u c → PushesBeside s a (xs ++ ys) 0 room u c

@@ -30,7 +30,7 @@ use Rattle.vsm_model.proofs.Chosen.{Stepped}
 use Rattle.service_laws.specs.CellKept.{BuildLeavesWellFormed}
 use Rattle.service_laws.proofs.CellLists.{cell_bounds}
 use Rattle.service_laws.proofs.Cases.{none_from, some_from}
-use Rattle.cell_extents.specs.declared.settings.CellSettings.{CellSettings}
+use Rattle.cell_pool.specs.declared.settings.CellSettings.{CellSettings}
 use Rattle.cell_pool.specs.Pools.{Pool}
 use Rattle.storage_changes.specs.NamedPools.{AreNamed}
 use Rattle.storage_changes.specs.PoolTable.{cell_pool_of}

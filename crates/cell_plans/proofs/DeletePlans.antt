@@ -25,7 +25,7 @@ use Rattle.service_laws.proofs.CellLists.{cell_bounds}
 use Rattle.service_laws.proofs.Pools.{sound_of}
 use Rattle.service_laws.proofs.Spans.{all_unmapped, in-among}
 use Rattle.service_laws.proofs.Words.{low_page}
-use Rattle.cell_extents.specs.declared.settings.Extent.{Extent}
+use Rattle.cell_pool.specs.declared.settings.Extent.{Extent}
 use Rattle.cell_pool.specs.Pools.{Pool}
 use Rattle.storage_changes.specs.NamedPools.{AreNamed}
 use Rattle.storage_changes.specs.PoolTable.{cell_pool_of, extent_of}

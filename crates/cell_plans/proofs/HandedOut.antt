@@ -24,7 +24,7 @@ use Rattle.vsm_model.specs.Step.{answered, replied, step}
 use Rattle.vsm_model.proofs.Chosen.{Stepped}
 use Rattle.service_laws.specs.CellKept.{GetLeavesWellFormed}
 use Rattle.service_laws.proofs.CellLists.{some_doublewords}
-use Rattle.cell_extents.specs.declared.settings.CellSettings.{CellSettings}
+use Rattle.cell_pool.specs.declared.settings.CellSettings.{CellSettings}
 use Rattle.cell_pool.specs.Pools.{Pool, extended}
 use Rattle.storage_changes.specs.NamedPools.{AreNamed}
 use Rattle.storage_changes.specs.PoolTable.{cell_pool_of}

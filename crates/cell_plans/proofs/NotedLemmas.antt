@@ -19,11 +19,12 @@ use Rattle.storage_swap.specs.Growth.{MakesElements}
 use Rattle.storage_swap.specs.Swap.{Ready}
 use Rattle.storage_swap.specs.Builder.{so_far, records_in, parked_in, builder_holds, IsBuilding, Keeps, Builds}
 use Rattle.storage_swap.proofs.KeptLemmas.{over, holds-live, with-live, kept-hold, kept-parked-hold, kept-stands, kept-state, kept-unassigned, kept-parked}
+use Rattle.storage_swap.proofs.AsideLemmas.{made-same, aside-same}
 use Rattle.storage_swap.proofs.BuilderLemmas.{builds-none, keeps-follow, keeps-like}
 use Rattle.cell_plans.specs.Noted.{noted_count, holds_noted, StandBeside, BuildsBeside, NotesOne}
 
 -- different live elements are no more than all live ones
-pub owned-live : (s : Store) (mine : List ℕ) → Owns s mine → ((all : List ℕ) → AreLive s all → length all ≡ live_count s) → length mine ≤ live_count s
+pub owned-live : (s : Store) (mine : List ℕ) → Owns s mine → ((all : List ℕ) → AreLive s all → length all + s.aside ≡ live_count s) → length mine ≤ live_count s
 owned-live s mine own counted =
     let all = live_listed s in
     let few = length-subset mine (live_upto s (128 * length s.blocks)) own.distinct (λ i m. all.every i (own.live i m)) in
@@ -35,14 +36,14 @@ live-step blocks e t had has same within = omega (arith, same, within)
 -- a queue of `had` elements then has `has`, while nothing is made
 module _ (e t : Store) (had has : List ℕ) (f : Leaves e t had has) (within : length had ≤ live_count e) where
   pub leaves-live : live_count t + length had ≤ live_count e + length has
-  leaves-live = omega (arith, live-step (made e) e.spare t.spare (length had) (length has) f.spare within, f.as_many)
+  leaves-live = omega (arith, live-step (made e) e.spare t.spare (length had) (length has) f.spare within, made-same e t f.as_many)
 
   pub notes-one : (s : Store) (was : ℕ) → was ≡ length had → s.spare ≤ e.spare → MakesElements s e 2 → live_count e ≡ live_count s → e.spare ≤ t.spare + 1 → NotesOne s t was (length has)
   notes-one s was is grows grown live spares = record {
     few = omega (arith, is, f.spare, spares);
     spare = omega (arith, is, f.spare, grows);
     live = omega (arith, is, leaves-live, live);
-    made = omega (arith, f.as_many, grown);
+    made = omega (arith, made-same e t f.as_many, grown);
   }
 
 -- made elements leave the queue as it was
@@ -118,10 +119,11 @@ module _ (t : Parts) (b : ChangeBuilder) (q : FreeQueue) (h : StandBeside t b q)
     kept = k.keeps.kept;
     moves = moves-by t.elements u.elements (builder_holds t b) (builder_holds u c) (holds_noted t b q) (holds_noted u c q) k.keeps.moves
         (λ i. omega arith) (λ i. omega (arith, ap (times i) stays.3));
+    aside = k.keeps.aside;
   }
 
 -- The queue becomes another, or is dropped, and the change that is made stays.
-module _ (t : Parts) (b : ChangeBuilder) (q : FreeQueue) (h : StandBeside t b q) (e : Store) (g : ℕ → ℕ) (m : Moves t.elements e (λ i. times i (owned t.elements q)) g) where
+module _ (t : Parts) (b : ChangeBuilder) (q : FreeQueue) (h : StandBeside t b q) (e : Store) (g : ℕ → ℕ) (m : Moves t.elements e (λ i. times i (owned t.elements q)) g) (kept : e.aside ≡ t.elements.aside) where
   abbrev had : ℕ → ℕ
   had i = times i (owned t.elements q)
 
@@ -169,7 +171,7 @@ module _ (t : Parts) (b : ChangeBuilder) (q : FreeQueue) (h : StandBeside t b q)
     ready = record {
       stands = kept-stands t b.parked e ready.stands had g m with-once;
       records = chain-stays.0;
-      blanks = record { first = refl; count = refl; held = tt; distinct = tt };
+      aside = omega arith;
       once = λ i. omega (arith, ready.once i, same-holds i, same-parked i, same-ids i);
       frameless = λ page n. ready.frameless page (sym (kept-unassigned t b.parked e ready.stands had g m with-once page) ∙ n);
       out = ready.out;
@@ -185,6 +187,7 @@ module _ (t : Parts) (b : ChangeBuilder) (q : FreeQueue) (h : StandBeside t b q)
     held = same-holds;
     kept = λ i n. rest-kept i (omega (arith, n));
     moves = moves-by t.elements e had g (holds_noted t b q) (λ i. builder_holds (over t e) b i + g i) m (λ i. omega arith) (λ i. omega (arith, same-builder i));
+    aside = kept;
   }
 
   pub noted-records : records_in (over t e) b ≡ records_in t b
@@ -198,14 +201,14 @@ module _ (t : Parts) (b : ChangeBuilder) (q : FreeQueue) (h : StandBeside t b q)
 
 -- The queue became another one, which is well formed.
 module _ (s : Parts) (a : ChangeBuilder) (t : Parts) (b : ChangeBuilder) (q : FreeQueue) (w : BuildsBeside s a t b q) (e : Store) (r : FreeQueue) (stand : IsFreeQueue e r)
-    (m : Moves t.elements e (λ i. times i (owned t.elements q)) (λ i. times i (owned e r))) where
+    (m : Moves t.elements e (λ i. times i (owned t.elements q)) (λ i. times i (owned e r))) (kept : e.aside ≡ t.elements.aside) where
   own : (i : ℕ) → times i (owned e r) ≤ 1
   own i = times-once i (owned e r) (queues_stand e r stand).1.distinct
 
   pub noted-builds : BuildsBeside s a (over t e) b r
   noted-builds = record {
-    beside = record { building = noted-building t b q w.beside e (λ i. times i (owned e r)) m; queue = stand; once = noted-once t b q w.beside e (λ i. times i (owned e r)) m own };
-    keeps = keeps-follow s t (over t e) (builder_holds s a) (holds_noted t b q) (holds_noted (over t e) b r) w.keeps (noted-keeps t b q w.beside e (λ i. times i (owned e r)) m);
+    beside = record { building = noted-building t b q w.beside e (λ i. times i (owned e r)) m kept; queue = stand; once = noted-once t b q w.beside e (λ i. times i (owned e r)) m kept own };
+    keeps = keeps-follow s t (over t e) (builder_holds s a) (holds_noted t b q) (holds_noted (over t e) b r) w.keeps (noted-keeps t b q w.beside e (λ i. times i (owned e r)) m kept);
   }
 
 -- The queue is gone.
@@ -215,9 +218,9 @@ module _ (s : Parts) (a : ChangeBuilder) (t : Parts) (b : ChangeBuilder) (q : Fr
 
   pub gone-builds : Builds s a (over t e) b
   gone-builds = record {
-    building = noted-building t b q w.beside e (λ i. 0) gone-moves;
+    building = noted-building t b q w.beside e (λ i. 0) gone-moves (aside-same t.elements e f.as_many);
     keeps = keeps-like s (over t e) (builder_holds s a) (λ i. builder_holds (over t e) b i + 0) (builder_holds s a) (builder_holds (over t e) b)
-        (keeps-follow s t (over t e) (builder_holds s a) (holds_noted t b q) (λ i. builder_holds (over t e) b i + 0) w.keeps (noted-keeps t b q w.beside e (λ i. 0) gone-moves))
+        (keeps-follow s t (over t e) (builder_holds s a) (holds_noted t b q) (λ i. builder_holds (over t e) b i + 0) w.keeps (noted-keeps t b q w.beside e (λ i. 0) gone-moves (aside-same t.elements e f.as_many)))
         (λ i. refl) (λ i. omega arith);
   }
 

@@ -10,7 +10,7 @@ use Rattle.vsm_model.specs.Cells.{is_in_use}
 use Rattle.vsm_model.specs.CellPools.{with_extent, extent_cells}
 use Rattle.vsm_model.specs.CellPools as model
 use Rattle.vsm_model.specs.Search.{is_in}
-use Rattle.cell_extents.specs.declared.settings.Extent.{Extent}
+use Rattle.cell_pool.specs.declared.settings.Extent.{Extent}
 use Rattle.cell_pool.specs.Pools.{Pool, cells_from, cells_of, extended, uses}
 use Rattle.storage_changes.specs.PoolTable.{cell_pool_of, extent_of}
 

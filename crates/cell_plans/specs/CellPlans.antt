@@ -78,7 +78,8 @@ pub record IsOpen (m : StorageState) (name : List ℕ) (b : Build) : Type 0 wher
 -- the cell pool that is created, under an id: the cells of its one extent are free
 abbrev pub new_pool : BuildPlan → ℕ → Pool
 new_pool plan id =
-    built_pool id plan.name.now plan.settings (option_map (λ text. text.now) plan.header) plan.start plan.settings.primary
+    built_pool id plan.name.now plan.settings (option_map (λ text. text.now) plan.header) plan.start
+    plan.settings.primary
 
 -- the change that creates it
 abbrev pub build_change : BuildPlan → ℕ → Change

@@ -3,7 +3,7 @@ use Rattle.std.specs.Prelude.{◌≡◌, ℕ, ◌+◌, ◌*◌, ◌^◌, ◌<◌
 use Rattle.vsm_model.specs.declared.replies.Reply.TheVariants.{Cell}
 use Rattle.vsm_model.specs.Regions.{doublewords}
 use Rattle.vsm_model.specs.Registers.{named_register}
-use Rattle.cell_extents.specs.declared.settings.CellSettings.{CellSettings}
+use Rattle.cell_pool.specs.declared.settings.CellSettings.{CellSettings}
 use Rattle.storage_changes.specs.CellActions.{extent_blanks, extent_records, handed_out_records}
 use Rattle.storage_changes.specs.StorageActions.{register_records}
 use Rattle.storage_changes.specs.State.{StorageState}

@@ -196,8 +196,8 @@ fn plan_pool<'a>(
 
 /// A plan for a new cell pool (*Assembler Services Reference*, CPOOL BUILD): with one extent of the primary number of
 /// cells, all of them free, in the subpool that the current task sees at the number, or in a new one of its own.
-/// Register 15 gets 0. Only reads, and takes no memory. The plan's records are in `room`, in place of what that had; its
-/// texts stay where they were read.
+/// Register 15 gets 0. Only reads, and takes no memory. The plan's records are in `room`, in place of what that had;
+/// its texts stay where they were read.
 ///
 /// The causes that refuse it, in order: a number above 127 (`UnsupportedSubpool` for 131 and 132, otherwise
 /// `SubpoolNotAllowed`), `BadCells` for a size that isn't a multiple of 4 from 4 to 4,096 bytes or a number of cells

@@ -82,6 +82,7 @@ pub(crate) fn note(storage: &mut Parts, noted: &mut FreeQueue, area: Run) -> Res
     ensures same { storage.new ≡ record storage.old { elements = storage.new.elements } }
     ensures moves { Moves storage.old.elements storage.new.elements
         (λ i. times i (owned storage.old.elements noted.old)) (λ i. times i (owned storage.new.elements noted.new)) }
+    ensures aside { storage.new.elements.aside ≡ storage.old.elements.aside }
     ensures set { OnOk result ((d : ℕ) → is_free storage.new.elements noted.new d
         ≡ (inside d area || is_free storage.old.elements noted.old d)) }
     ensures one { OnOk result (NotesOne storage.old.elements storage.new.elements

@@ -13,7 +13,7 @@ use Rattle.list_table.specs.Kept.{listed}
 use Rattle.list_table.specs.ListTable.{entries}
 use Rattle.list_table.specs.ListTable
 use Rattle.list_table.proofs.ListParts.{in_left, in_cases, Apart-sym, Apart-left, Apart-both}
-use Rattle.cell_extents.proofs.EntryLemmas.{eqb_refl, eqb_same}
+use Rattle.cell_pool.proofs.EntryLemmas.{eqb_refl, eqb_same}
 use Rattle.cell_pool.specs.declared.pools.CellPools.{CellPools}
 use Rattle.cell_pool.specs.Pools.{Pool, is_of, lies_in, only, all_but, either_of, holds_of, GoTogether}
 use Rattle.cell_pool.specs.Kept.{pools_of}

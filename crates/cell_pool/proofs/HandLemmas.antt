@@ -1,5 +1,5 @@
 -- Pools that are passed to another owner.
-use Rattle.std.proofs.Common.{◌≡◌, ℕ, ◌+◌, ◌%◌, ◌<◌, ◌≤◌, ◌==◌, take, drop, Bool, true, false, List, [], ◌∷◌, ◌++◌, length, Some, refl, sym, ap, ◌∙◌, subst, arith, append_assoc, length-append, length-drop}
+use Rattle.std.proofs.Common.{◌≡◌, ℕ, ◌+◌, ◌*◌, ◌/◌, ◌%◌, ◌<◌, ◌≤◌, ◌==◌, take, drop, Bool, true, false, List, [], ◌∷◌, ◌++◌, length, Some, refl, sym, ap, ◌∙◌, subst, arith, append_assoc, length-append, length-drop}
 use Rattle.std.proofs.lemmas.Bool.{cond-false, cond-true}
 use Rattle.std.specs.Prelude.{map, option_map, slice_get, if◌then◌else◌}
 use Rattle.std.specs.Str.{bytes_eq}
@@ -14,12 +14,14 @@ use Rattle.list_table.specs.Entries.{Entry, word}
 use Rattle.list_table.specs.Kept.{entry_in}
 use Rattle.list_table.specs.ListTable.{entries, earlier, later, IsTable, IsPlace}
 use Rattle.list_table.specs.declared.table.ListTable.{ListTable}
-use Rattle.cell_extents.specs.Items.{pool_of, subpool_in, IsSound}
+use Rattle.cell_pool.specs.Items.{pool_of, subpool_in, IsSound}
 use Rattle.cell_pool.specs.declared.pools.CellPools.{CellPools}
 use Rattle.cell_pool.specs.Pools.{Pool, Single, pool_in, id_in, is_named, is_of, lies_in, handed_on}
 use Rattle.cell_pool.specs.Kept.{pools_of, AllSound, IsKept}
 use Rattle.cell_pool.specs.CellPools.{pool, by_id}
 use Rattle.cell_pool.proofs.PoolLemmas.{entry_ids, first_map, single_map}
+use Rattle.cell_pool.specs.Reach.{owned_by}
+use Rattle.cell_pool.proofs.ReachLemmas.{within_owned}
 use Rattle.cell_pool.proofs.ParkLemmas.{earlier_is, later_is, front_is}
 
 -- the place of a row depends only on the ids of the rows
@@ -56,7 +58,7 @@ same_place s t q k before same place = record {
 
 -- one row
 abbrev pub given : ℕ → Entry → Entry
-given to e = record { id = e.id; words = word e.words 0 ∷ to ∷ []; items = e.items; used = e.used; extents = e.extents; places = e.places }
+given to e = record { id = e.id; words = owned_by to e.words; items = e.items; used = e.used; extents = e.extents; places = e.places }
 
 abbrev pub hand : Subpool → ℕ → Entry → Entry
 hand subpool to e = if same_subpool (subpool_in e.words) subpool then given to e else e
@@ -68,12 +70,12 @@ hand_id subpool to e = go (same_subpool (subpool_in e.words) subpool) where
   go false = refl
 
 module _ (subpool : Subpool) (to : ℕ) (small : to < 256) where
-  byte : to % 256 ≡ to
-  byte = omega (arith, small)
+  byte : (blocks : ℕ) → (256 * blocks + to) % 256 ≡ to
+  byte blocks = omega (arith, small)
 
   given_pool : (e : Entry) → pool_of (given to e) ≡ record (pool_of e) { settings = record (pool_of e).settings { subpool = record (pool_of e).settings.subpool { owner = to } } }
   unfolding pool_of
-  given_pool e = ap (λ (z : ℕ). record (pool_of e) { settings = record (pool_of e).settings { subpool = record (pool_of e).settings.subpool { owner = z } } }) byte
+  given_pool e = ap (λ (z : ℕ). record (pool_of e) { settings = record (pool_of e).settings { subpool = record (pool_of e).settings.subpool { owner = z } } }) (byte (word e.words 1 / 256))
 
   hand_pool : (e : Entry) → pool_of (hand subpool to e) ≡ handed_on subpool to (pool_of e)
   unfolding pool_of
@@ -93,6 +95,7 @@ module _ (subpool : Subpool) (to : ℕ) (small : to < 256) where
     numbered = h.numbered;
     separate = h.separate;
     placed = h.placed;
+    within = within_owned to small e.words (pool_of e).settings.size (pool_of e).extents h.within;
     cells = record { once = h.cells.once; inside = h.cells.inside; apart = h.cells.apart };
     noted = h.noted;
   }

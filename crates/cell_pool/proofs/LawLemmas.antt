@@ -11,15 +11,15 @@ use Rattle.list_table.specs.ListTable.{entries, IsTable}
 use Rattle.list_table.specs.ListTable
 use Rattle.list_table.proofs.TableLemmas.{tables_own, tables_kept, tables_stay, growth_keeps_tables}
 use Rattle.cell_pool.specs.declared.pools.CellPools.{CellPools}
-use Rattle.cell_extents.specs.declared.settings.Extent.{Extent}
+use Rattle.cell_pool.specs.declared.settings.Extent.{Extent}
 use Rattle.cell_pool.specs.Pools.{Pool, Single, is_named, is_of, pool_in, id_in, cells_from, IsExtended, HasCells, first_with, either_of}
-use Rattle.cell_extents.specs.Items.{pool_of, IsSound}
+use Rattle.cell_pool.specs.Items.{pool_of, IsSound}
 use Rattle.cell_pool.specs.Kept.{pools_of, AllSound, IsKept}
 use Rattle.cell_pool.specs.CellPools.{pools, pool, by_id, owned, IsCellPools}
 use Rattle.cell_pool.specs.Laws.{AreOne, PoolsAreOne, PoolsOwn, AreSame, PoolsKept, PoolsStay, GrowthKeepsPools, RetractsBack, ParkedPoolsComeBack, PoolsHaveCells, IdsAreSmall, NamesAreSingle, PoolsAreListed}
 use Rattle.std.proofs.Common.{subst}
 use Rattle.cell_pool.proofs.PoolLemmas.{found_passes, found_other, one_named, one_of, name_refl}
-use Rattle.cell_extents.proofs.EntryLemmas.{pool_id, eqb_refl, eqb_same}
+use Rattle.cell_pool.proofs.EntryLemmas.{pool_id, eqb_refl, eqb_same}
 use Rattle.cell_pool.proofs.ParkLemmas.{pools_distinct}
 
 pub pools_are_one : PoolsAreOne

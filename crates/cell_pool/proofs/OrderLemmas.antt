@@ -9,7 +9,7 @@ use Rattle.std.specs.Cmp.Lexicographic.{slice_cmp, nat_list_cmp_total}
 use Rattle.std.proofs.lemmas.Slice.Eq.{bytes_eq-Decides}
 use Rattle.vsm_elements.proofs.ChainLemmas.{not_both}
 use Rattle.cell_pool.specs.Pools.{Pool, first_with, is_named, pool_in}
-use Rattle.cell_extents.specs.Items.{pool_of}
+use Rattle.cell_pool.specs.Items.{pool_of}
 use Rattle.cell_pool.specs.Kept.{pools_of}
 use Rattle.cell_pool.specs.Order.{is_before, is_after, is_between}
 use Rattle.list_table.specs.Entries.{Entry}

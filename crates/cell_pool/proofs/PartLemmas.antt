@@ -19,14 +19,15 @@ use Rattle.list_table.specs.ListTable.{entry_of}
 use Rattle.list_table.specs.declared.row.ListRow.{ListRow}
 use Rattle.list_table.specs.Laws.{ChangesTo}
 use Rattle.list_table.proofs.StockLemmas.{items_change, used_change, extents_change, places_change}
-use Rattle.cell_extents.specs.declared.settings.Extent.{Extent}
-use Rattle.cell_extents.specs.Notes.{is_noted, AreNumbered}
-use Rattle.cell_extents.specs.Places.{place_words, placed_at, overlaps_place, ArePlaced, AreSeparate}
-use Rattle.cell_extents.proofs.MeetLemmas.{met}
-use Rattle.cell_extents.proofs.SeparateLemmas.{begins_elsewhere, begins_last}
-use Rattle.cell_extents.specs.Items.{extent_of, cell_item, cell_items, pool_of, IsSound}
-use Rattle.cell_extents.proofs.ShapeLemmas.{own_extents, count_cells}
-use Rattle.cell_extents.proofs.SoundLemmas.{taken_all, taken_sound, put_all, put_sound, grown_all, grown_sound, cut_all, cut_sound}
+use Rattle.cell_pool.specs.declared.settings.Extent.{Extent}
+use Rattle.cell_pool.specs.Notes.{is_noted, AreNumbered}
+use Rattle.cell_pool.specs.Places.{place_words, placed_at, overlaps_place, ArePlaced, AreSeparate}
+use Rattle.cell_pool.specs.Reach.{Widens}
+use Rattle.cell_pool.proofs.MeetLemmas.{met}
+use Rattle.cell_pool.proofs.SeparateLemmas.{begins_elsewhere, begins_last}
+use Rattle.cell_pool.specs.Items.{extent_of, cell_item, cell_items, pool_of, IsSound}
+use Rattle.cell_pool.proofs.ShapeLemmas.{own_extents, count_cells}
+use Rattle.cell_pool.proofs.SoundLemmas.{taken_all, taken_sound, put_all, put_sound, grown_all, grown_sound, cut_all, cut_sound}
 use Rattle.cell_pool.specs.Pools.{Pool, IsExtended, uses, meets, without_first, with_first, extended, retracted}
 use Rattle.cell_pool.proofs.LawLemmas.{retracts_back, some_extent, end_is, last_is, last_cells}
 
@@ -131,19 +132,19 @@ module _ (s s1 : Store) (k : Stock) (h : IsStock s k) (extents : RowTable) (f : 
   pub items_still : (s2 : Store) (places : RowTable) → Leaves s1 s2 (RowTable.owned s1 k.places) (RowTable.owned s2 places) → IsTable s2 places → IsChain s2 k.items × (links s2 k.items ≡ links s k.items)
   items_still s2 places m e = let r = places_change s1 s2 (record { items = k.items; used = k.used; extents = extents; places = k.places }) places behind_extents.0.stands m e in (r.0.stands.items, r.1 ∙ behind_extents.1)
 
--- a row's stock became another by calls on its parts, and its pool changed so
-pub record Becomes (s t : Store) (r : ListRow) (d : Stock) (f : Pool → Pool) : Type 0 where
+-- a row's stock became another by calls on its parts, and its pool changed so, with these words
+pub record Becomes (s t : Store) (r : ListRow) (words : List ℕ) (d : Stock) (f : Pool → Pool) : Type 0 where
   pub leaves : Leaves s t (holdings s r.stock) (holdings t d)
   pub stands : IsStock t d
-  pub made : pool_of (entry_with r.id r.words (contents t d)) ≡ f (pool_of (entry_of s r))
-  pub sound : IsSound (entry_with r.id r.words (contents t d))
+  pub made : pool_of (entry_with r.id words (contents t d)) ≡ f (pool_of (entry_of s r))
+  pub sound : IsSound (entry_with r.id words (contents t d))
 
 -- the first free cell is now in use
 pub taken : (s s1 s2 : Store) (r : ListRow) (h : IsStock s r.stock) → IsSound (entry_of s r) → (items : Chain) → Leaves s s1 (Chain.owned s r.stock.items) (Chain.owned s1 items) → IsChain s1 items
     → (used : RowTable) → Leaves s1 s2 (RowTable.owned s1 r.stock.used) (RowTable.owned s2 used) → IsTable s2 used
     → items_of (links s1 items) ≡ take 5 (items_of (links s r.stock.items)) ++ drop 6 (items_of (links s r.stock.items)) → (cell : ℕ) → slice_get (pool_of (entry_of s r)).cells 0 ≡ Some cell
     → ((a : ℕ) → is_noted a (rows_of (rows s2 used)) ≡ ((a == cell) || is_noted a (rows_of (rows s1 r.stock.used))))
-    → Becomes s s2 r (record { items = items; used = used; extents = r.stock.extents; places = r.stock.places }) without_first
+    → Becomes s s2 r r.words (record { items = items; used = used; extents = r.stock.extents; places = r.stock.places }) without_first
 taken s s1 s2 r h sound items f c used g d out cell first now =
     let x = entry_of s r in
     let its : items_of (links s2 items) ≡ take 5 x.items ++ drop 6 x.items = ap items_of (taken_items s s1 s2 r.stock h items f c used g d) ∙ out in
@@ -165,7 +166,7 @@ pub put : (s s1 s2 : Store) (r : ListRow) (h : IsStock s r.stock) → IsSound (e
     → (items : Chain) → Leaves s1 s2 (Chain.owned s1 r.stock.items) (Chain.owned s2 items) → IsChain s2 items → (cell : ℕ)
     → items_of (links s2 items) ≡ take 5 (items_of (links s1 r.stock.items)) ++ cell_item cell ∷ drop 5 (items_of (links s1 r.stock.items)) → uses (pool_of (entry_of s r)) cell ≡ true
     → ((a : ℕ) → is_noted a (rows_of (rows s1 used)) ≡ (not (a == cell) && is_noted a (rows_of (rows s r.stock.used))))
-    → Becomes s s2 r (record { items = items; used = used; extents = r.stock.extents; places = r.stock.places }) (with_first cell)
+    → Becomes s s2 r r.words (record { items = items; used = used; extents = r.stock.extents; places = r.stock.places }) (with_first cell)
 put s s1 s2 r h sound used f c items g d cell in_front in_use now =
     let x = entry_of s r in
     let its : items_of (links s2 items) ≡ take 5 x.items ++ cell_item cell ∷ drop 5 x.items = in_front ∙ ap (λ (z : List Link). take 5 (items_of z) ++ cell_item cell ∷ drop 5 (items_of z)) (used_items s s1 r.stock h used f c).1 in
@@ -189,8 +190,8 @@ pub grown : (s s1 s2 s3 : Store) (r : ListRow) (h : IsStock s r.stock) → IsSou
     → map extent_of (rows_of (rows s1 extents)) ≡ map extent_of (rows_of (rows s r.stock.extents)) ++ record { start = start; count = count } ∷ []
     → ((a : ℕ) → placed_at a (rows_of (rows s2 places)) ≡ (if a == start then Some (place_words size (record { start = start; count = count })) else placed_at a (rows_of (rows s1 r.stock.places))))
     → 0 < count → meets start (count * (pool_of (entry_of s r)).settings.size) (pool_of (entry_of s r)) ≡ false
-    → Becomes s s3 r (record { items = items; used = r.stock.used; extents = extents; places = places }) (extended start count)
-grown s s1 s2 s3 r h sound extents f c places m o items g d size start count is behind numbered more placed some clear =
+    → (words : List ℕ) → Widens r.words words size (record { start = start; count = count }) → Becomes s s3 r words (record { items = items; used = r.stock.used; extents = extents; places = places }) (extended start count)
+grown s s1 s2 s3 r h sound extents f c places m o items g d size start count is behind numbered more placed some clear words wide =
     let x = entry_of s r in
     let its : items_of (links s3 items) ≡ x.items ++ cell_items (pool_of x).settings.size start count =
     behind ∙ ap (λ (z : List Link). items_of z ++ cell_items size start count) (items_still s s1 r.stock h extents f c s2 places m o).1 ∙ ap (λ (z : ℕ). x.items ++ cell_items z start count) is in
@@ -202,15 +203,17 @@ grown s s1 s2 s3 r h sound extents f c places m o items g d size start count is 
     λ a. ap (λ (z : List Row). placed_at a (rows_of z)) p ∙ placed a
     ∙ ap (λ (z : List Row). if a == start then Some (place_words size (record { start = start; count = count })) else placed_at a (rows_of z)) (places_still s s1 r.stock h extents f c).1
     ∙ ap (λ (z : ℕ). if a == start then Some (place_words z (record { start = start; count = count })) else placed_at a x.places) is in
+    let V : ℕ → Type 0 = λ z. Widens r.words words z (record { start = start; count = count }) in
+    let wider : Widens r.words words (pool_of x).settings.size (record { start = start; count = count }) = subst V is wide in
     let N : List Row → Type 0 = λ z. AreNumbered 0 (rows_of z) in
-    let P : List Row → Type 0 = λ z. IsSound (record { id = r.id; words = r.words; items = items_of (links s3 items); used = rows_of z; extents = rows_of (rows s3 extents); places = rows_of (rows s3 places) }) in
+    let P : List Row → Type 0 = λ z. IsSound (record { id = r.id; words = words; items = items_of (links s3 items); used = rows_of z; extents = rows_of (rows s3 extents); places = rows_of (rows s3 places) }) in
     record {
       leaves = grown_leaves s s1 s2 s3 r.stock h extents f c places m o items g d;
       stands = grown_stands s s1 s2 s3 r.stock h extents f c places m o items g d;
       made =
-          ap (λ (z : List Row). pool_of (record { id = r.id; words = r.words; items = items_of (links s3 items); used = rows_of z; extents = rows_of (rows s3 extents); places = rows_of (rows s3 places) })) u
-          ∙ grown_all x sound (items_of (links s3 items)) (rows_of (rows s3 extents)) (rows_of (rows s3 places)) start count its its_extents;
-      sound = subst P (sym u) (grown_sound x sound (items_of (links s3 items)) (rows_of (rows s3 extents)) (rows_of (rows s3 places)) start count its its_extents (subst N (sym e) numbered) some clear its_places);
+          ap (λ (z : List Row). pool_of (record { id = r.id; words = words; items = items_of (links s3 items); used = rows_of z; extents = rows_of (rows s3 extents); places = rows_of (rows s3 places) })) u
+          ∙ grown_all x sound words (items_of (links s3 items)) (rows_of (rows s3 extents)) (rows_of (rows s3 places)) start count wider its its_extents;
+      sound = subst P (sym u) (grown_sound x sound words (items_of (links s3 items)) (rows_of (rows s3 extents)) (rows_of (rows s3 places)) start count wider its its_extents (subst N (sym e) numbered) some clear its_places);
     }
 
 -- how long the list is when its last extent goes
@@ -245,7 +248,7 @@ pub shrunk : (s s1 s2 s3 : Store) (r : ListRow) (h : IsStock s r.stock) → IsSo
     → items_of (links s3 items) ≡ take end (items_of (links s2 r.stock.items)) ++ drop (end + y.count) (items_of (links s2 r.stock.items)) → end + y.count ≡ length (items_of (links s r.stock.items)) → 5 ≤ end
     → AreNumbered 0 (rows_of (rows s1 extents)) → map extent_of (rows_of (rows s r.stock.extents)) ≡ map extent_of (rows_of (rows s1 extents)) ++ y ∷ []
     → ((a : ℕ) → placed_at a (rows_of (rows s2 places)) ≡ (if a == y.start then None else placed_at a (rows_of (rows s1 r.stock.places)))) → (x : IsExtended (pool_of (entry_of s r))) → x.last ≡ y
-    → Becomes s s3 r (record { items = items; used = r.stock.used; extents = extents; places = places }) (retracted y.count)
+    → Becomes s s3 r r.words (record { items = items; used = r.stock.used; extents = extents; places = places }) (retracted y.count)
 shrunk s s1 s2 s3 r h sound extents f c places m o items g d y end cut size some numbered less placed ext same =
     let x = entry_of s r in
     let its : items_of (links s3 items) ≡ take end x.items ++ drop (end + y.count) x.items = cut ∙ ap (λ (z : List Link). take end (items_of z) ++ drop (end + y.count) (items_of z)) (items_still s s1 r.stock h extents f c s2 places m o).1 in

@@ -7,7 +7,7 @@ use Rattle.std.proofs.Math.Seq.{drop-cons}
 use Rattle.row_table.specs.declared.row.Row.{Row}
 use Rattle.list_table.specs.Entries.{Entry}
 use Rattle.list_table.specs.Stocks.{rows_of}
-use Rattle.cell_extents.specs.Items.{extent_of, cell_of, pool_of}
+use Rattle.cell_pool.specs.Items.{extent_of, cell_of, pool_of}
 
 abbrev Items : Type 0
 Items = List (List ℕ)

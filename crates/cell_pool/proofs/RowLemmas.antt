@@ -8,12 +8,12 @@ use Rattle.list_table.specs.Entries.{Entry}
 use Rattle.list_table.specs.Stocks.{items_of}
 use Rattle.list_table.specs.ListTable.{entries, entry_of, IsTable, IsOpen}
 use Rattle.list_table.specs.declared.row.ListRow.{ListRow}
-use Rattle.cell_extents.specs.declared.label.Label.{Label}
-use Rattle.cell_extents.specs.Names.{packed, spelled, same_label, AreBytes}
-use Rattle.cell_extents.specs.Items.{label_of, pool_of, IsSound}
-use Rattle.cell_extents.proofs.NameLemmas.{names_tell}
+use Rattle.cell_pool.specs.declared.label.Label.{Label}
+use Rattle.cell_pool.specs.Names.{packed, spelled, same_label, AreBytes}
+use Rattle.cell_pool.specs.Items.{label_of, pool_of, IsSound}
+use Rattle.cell_pool.proofs.NameLemmas.{names_tell}
 use Rattle.list_table.proofs.ItemLemmas.{length-items}
-use Rattle.cell_extents.proofs.EntryLemmas.{pool_id, pool_name, eqb_refl}
+use Rattle.cell_pool.proofs.EntryLemmas.{pool_id, pool_name, eqb_refl}
 use Rattle.cell_pool.specs.declared.pools.CellPools.{CellPools}
 use Rattle.cell_pool.specs.Pools.{Pool, first_with, is_of, id_in}
 use Rattle.cell_pool.specs.Kept.{pools_of, AllSound}

@@ -5,7 +5,7 @@ use Rattle.list_table.specs.Entries.{Entry}
 use Rattle.list_table.specs.ListTable.{entries, IsTable}
 use Rattle.list_table.specs.declared.table.ListTable.{ListTable}
 use Rattle.cell_pool.specs.Pools.{Pool, Single}
-use Rattle.cell_extents.specs.Items.{pool_of, IsSound}
+use Rattle.cell_pool.specs.Items.{pool_of, IsSound}
 
 abbrev pub pools_of : List Entry → List Pool
 pools_of es = map pool_of es

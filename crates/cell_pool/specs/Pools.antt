@@ -4,11 +4,9 @@ use Rattle.std.specs.Str.{bytes_eq}
 use Rattle.vsm_model.specs.declared.Subpool.{Subpool}
 use Rattle.vsm_model.specs.Subpools.{same_subpool}
 -- A pool by itself, and its cells and extents.
-pub use Rattle.cell_extents.specs.declared.settings.Extent.{Extent}
-pub use Rattle.cell_extents.specs.declared.settings.CellSettings.{CellSettings}
-pub use Rattle.cell_extents.specs.Pool.{Pool, cells_of, AreApart, HasCells, uses, rounded, overlaps, meets}
-pub use Rattle.cell_extents.specs.Pool.{without_first, with_first, extended, retracted, IsExtended}
-unfoldable pub use Rattle.cell_extents.specs.Pool.{cells_from}
+pub use Rattle.cell_pool.specs.Pool.{Pool, cells_of, AreApart, HasCells, uses, rounded, overlaps, meets}
+pub use Rattle.cell_pool.specs.Pool.{without_first, with_first, extended, retracted, IsExtended}
+unfoldable pub use Rattle.cell_pool.specs.Pool.{cells_from}
 
 -- the first pool of which the test holds
 abbrev pub first_with : (Pool → Bool) → List Pool → Option Pool

@@ -15,13 +15,14 @@ use Rattle.list_table.specs.Kept.{AllStand}
 use Rattle.list_table.specs.Kept as rows
 use Rattle.list_table.specs.ListTable.{IsTable}
 use Rattle.list_table.specs.declared.table.ListTable.{ListTable}
-use Rattle.cell_extents.specs.declared.label.Label.{Label}
-use Rattle.cell_extents.specs.declared.settings.CellSettings.{CellSettings}
-use Rattle.cell_extents.specs.declared.settings.Extent.{Extent}
-use Rattle.cell_extents.specs.Names.{AreBytes, AreTexts}
-use Rattle.cell_extents.specs.Notes.{AreNumbered}
-use Rattle.cell_extents.specs.Places.{LiesBeside, AreSeparate}
-use Rattle.cell_extents.specs.Items.{IsSound}
+use Rattle.cell_pool.specs.declared.label.Label.{Label}
+use Rattle.cell_pool.specs.declared.settings.CellSettings.{CellSettings}
+use Rattle.cell_pool.specs.declared.settings.Extent.{Extent}
+use Rattle.cell_pool.specs.Names.{AreBytes, AreTexts}
+use Rattle.cell_pool.specs.Notes.{AreNumbered}
+use Rattle.cell_pool.specs.Places.{LiesBeside, AreSeparate}
+use Rattle.cell_pool.specs.Reach.{AreWithin}
+use Rattle.cell_pool.specs.Items.{IsSound}
 use Rattle.cell_pool.specs.declared.pools.CellPools.{CellPools}
 use Rattle.cell_pool.specs.Pools.{Pool, AreApart, HasCells, Single}
 use Rattle.cell_pool.specs.Kept.{AllSound, IsKept}
@@ -83,11 +84,16 @@ AreSeparate-prop : (size : ℕ) (extents : List Extent) → IsProp (AreSeparate 
 AreSeparate-prop size [] = Unit-prop
 AreSeparate-prop size (x ∷ xs) = hlevel (LiesBeside-prop, AreSeparate-prop size xs, props)
 
+AreWithin-prop : (words : List ℕ) (size : ℕ) (extents : List Extent) → IsProp (AreWithin words size extents)
+AreWithin-prop words size [] = Unit-prop
+AreWithin-prop words size (x ∷ xs) = hlevel (AreWithin-prop words size xs, props)
+
 HasCells-prop : (p : Pool) → IsProp (HasCells p)
 HasCells-prop p = hlevel (Distinct-prop, AreApart-prop, props)
 
 IsSound-prop : (e : Entry) → IsProp (IsSound e)
-IsSound-prop e = hlevel (Label-set, AreTexts-prop, AreNumbered-prop, AreSeparate-prop, HasCells-prop, props)
+IsSound-prop e =
+    hlevel (Label-set, AreTexts-prop, AreNumbered-prop, AreSeparate-prop, AreWithin-prop, HasCells-prop, props)
 
 AllSound-prop : (es : List Entry) → IsProp (AllSound es)
 AllSound-prop [] = Unit-prop

@@ -4,8 +4,8 @@ use Rattle.vsm_elements.specs.Store.{Store}
 use Rattle.vsm_elements.specs.Chain.{links, last_or, IsChain}
 use Rattle.row_table.specs.RowTable.{rows, place_index, IsTable, IsPlace}
 use Rattle.list_table.specs.Stocks.{items_of, rows_of}
-use Rattle.cell_extents.specs.Items.{cell_of, extent_of}
-use Rattle.cell_extents.specs.declared.settings.Extent.{Extent}
+use Rattle.cell_pool.specs.Items.{cell_of, extent_of}
+use Rattle.cell_pool.specs.declared.settings.Extent.{Extent}
 use Rattle.cell_pool.specs.declared.walks.ItemPlace.{ItemPlace}
 use Rattle.cell_pool.specs.declared.walks.CellExtentPlace.{CellExtentPlace}
 use Rattle.cell_pool.specs.declared.walks.CellPlace.{CellPlace}

@@ -5,16 +5,17 @@ ghost use Rattle.std.specs.Prelude.{Some, IsSome, IfSome, option_map, slice_get,
 ghost use Rattle.vsm_elements.specs.Chain.{IsChain};
 ghost use Rattle.vsm_elements.specs.Ownership.{Leaves};
 ghost use Rattle.list_table.specs.ListTable.{entry_of};
-ghost use Rattle.cell_extents.specs.Items.{pool_of};
+ghost use Rattle.cell_pool.specs.Items.{pool_of};
 ghost use Rattle.cell_pool.specs.Pools.{at_id, without_first, with_first, extended, retracted, IsExtended};
 ghost use Rattle.cell_pool.specs.Pools.{uses, meets};
 
+use crate::extents::{pop, push};
+use crate::lists::{TEXTS, append_cells, cell_of};
+use crate::places::{displace, place};
 use crate::pools::CellPools;
-use cell_extents::extents::{pop, push};
-use cell_extents::lists::{TEXTS, append_cells, cell_of};
-use cell_extents::places::{displace, place};
-use cell_extents::used::{note, strike};
-use cell_extents::{CellId, Extent};
+use crate::reach::with_extent;
+use crate::used::{note, strike};
+use crate::{CellId, Extent};
 use list_table::items::{insert, item, remove};
 use list_table::{ListRow, Stock};
 use vsm_elements::Elements;
@@ -134,6 +135,7 @@ impl CellPools {
         push(&mut extents, elements, extent);
         place(&mut places, elements, size, extent);
         append_cells(&mut items, elements, size, start, count);
+        row.words = with_extent(row.words, size, extent);
         row.stock = Stock {
             items,
             extents,

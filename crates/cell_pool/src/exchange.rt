@@ -4,10 +4,11 @@ ghost use Rattle.std.specs.Prelude.{◌≡◌, ℕ, ◌++◌, ◌==◌, List, No
 ghost use Rattle.vsm_elements.specs.Ownership.{Leaves, Apart};
 ghost use Rattle.cell_pool.specs.Pools.{only, all_but, either_of, is_of, handed_on, exchanged, GoTogether};
 
+use crate::CellId;
 use crate::parked::ParkedCells;
 use crate::pools::{CellPools, TablePlace};
-use cell_extents::CellId;
-use cell_extents::texts::says_subpool;
+use crate::reach::with_owner;
+use crate::texts::says_subpool;
 use vsm_elements::Elements;
 use vsm_model::Subpool;
 
@@ -40,7 +41,7 @@ impl CellPools {
             };
             if says_subpool(row.words, subpool) {
                 let mut given = row;
-                given.words = [row.words[0], u32::from(to)];
+                given.words = with_owner(row.words, to);
                 self.table.write(elements, given);
             }
         }

@@ -3,10 +3,10 @@
 ghost use Rattle.std.specs.Prelude.{◌≡◌, IsSome, IfSome, IfNone, option_map};
 ghost use Rattle.cell_pool.specs.Order.{is_after, is_between, IsNext, IsLast};
 
+use crate::lists::label;
 use crate::pools::{CellPools, TablePlace};
-use cell_extents::lists::label;
-use cell_extents::texts::name_of;
-use cell_extents::{CellId, CellPoolName};
+use crate::texts::name_of;
+use crate::{CellId, CellPoolName};
 use vsm_elements::Elements;
 
 // The pool whose name is the first after the given one so far.

@@ -1,17 +1,31 @@
 //! What is asked of cell pools.
 
 ghost use Rattle.std.specs.Prelude.{◌≡◌, ◌↔◌, IsSome, IsTrue, IfSome, option_map, slice_get};
-ghost use Rattle.cell_pool.specs.Pools.{uses, Meets};
+ghost use Rattle.list_table.specs.ListTable.{entry_of};
+ghost use Rattle.list_table.specs.Stocks.{IsStock};
+ghost use Rattle.cell_pool.specs.Items.{pool_of, IsSound};
+ghost use Rattle.cell_pool.specs.Pools.{uses, meets, Meets};
 
+use crate::extents::extent_at;
+use crate::lists::label;
+use crate::places::meets;
 use crate::pools::{CellPools, TablePlace};
-use cell_extents::extents::extent_at;
-use cell_extents::lists::label;
-use cell_extents::places::meets;
-use cell_extents::texts::{header_of, location_of, name_of, subpool_of};
-use cell_extents::used::is_noted;
-use cell_extents::{CellId, CellPoolHeader, CellPoolName, CellSettings, Extent};
+use crate::reach::may_meet;
+use crate::texts::{header_of, location_of, name_of, subpool_of};
+use crate::used::is_noted;
+use crate::{CellId, CellPoolHeader, CellPoolName, CellSettings, Extent};
+use list_table::ListRow;
 use list_table::items::item;
 use vsm_elements::Elements;
+
+// Whether an area of `len` bytes overlaps an extent of the pool in a row.
+fn row_meets(row: ListRow, elements: &Elements, start: u32, len: u32) -> bool
+    requires stock { IsStock elements.now row.stock }
+    requires sound { IsSound (entry_of elements.now row) }
+    ensures { result ≡ meets start len (pool_of (entry_of elements.now row)) }
+{
+    may_meet(row.words, start, len) && meets(row.stock.places, elements, start, len)
+}
 
 impl CellPools {
     ghost use Rattle.cell_pool.specs.CellPools.{pool, by_id, IsCellPools};
@@ -27,7 +41,8 @@ impl CellPools {
     }
 
     /// Whether the area of that many bytes from an address on overlaps an extent of some pool, up to the end of the
-    /// last doubleword of which a cell is a part. It costs one look-up for each pool.
+    /// last doubleword of which a cell is a part. It costs one element for each pool, and one look-up for each that
+    /// reaches so far.
     pub fn holds(&self, elements: &Elements, start: u32, len: u32) -> bool
         requires { IsCellPools elements.now self.now }
         ensures { IsTrue result ↔ Meets (pool elements.now self.now) start len }
@@ -39,7 +54,7 @@ impl CellPools {
         };
         while place.index < count {
             let row = self.table.row(elements, place.index, place.before);
-            if meets(&row.stock.places, elements, start, len) {
+            if row_meets(row, elements, start, len) {
                 return true;
             }
             place = TablePlace {

@@ -6,10 +6,10 @@ ghost use Rattle.vsm_elements.specs.Chain.{links, IsChain};
 ghost use Rattle.list_table.specs.Stocks.{items_of};
 ghost use Rattle.cell_pool.specs.Walks.{items_left, StandsAt, IsExtentPlace, extents_left, IsCellPlace, cells_left};
 
+use crate::extents::extent_of;
+use crate::lists::{TEXTS, cell_of};
 use crate::pools::CellPools;
-use cell_extents::extents::extent_of;
-use cell_extents::lists::{TEXTS, cell_of};
-use cell_extents::{CellId, Extent};
+use crate::{CellId, Extent};
 use list_table::items::before;
 use row_table::{RowPlace, RowTable};
 use vsm_elements::{Chain, Elements, Id};

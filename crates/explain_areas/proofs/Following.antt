@@ -25,13 +25,13 @@ use Rattle.script_steps.specs.declared.responses.Response.TheVariants as respons
 use Rattle.script_steps.specs.declared.session.Session.{Session}
 use Rattle.script_steps.proofs.Standings.{stands_for}
 use Rattle.vsm_bench.proofs.Served.{accepted_is_its_service}
-use Rattle.newly_taken.specs.Newly.{taken_by, newly_between}
-use Rattle.newly_taken.proofs.ByReply.{taken_by_the_reply}
-use Rattle.line_changes.specs.Lined.{plain}
-use Rattle.line_changes.specs.Notes.{with_told}
-use Rattle.line_changes.specs.Trails.{Marks}
-use Rattle.line_changes.proofs.Followed.{IsRead, Marked_by, acts_of, alone_after, alone_is, follow_more, lined, state_behind}
-use Rattle.line_changes.proofs.Lines.{lines_are_of_statements}
+use Rattle.explain_areas.specs.Newly.{taken_by, newly_between}
+use Rattle.explain_areas.proofs.ByReply.{taken_by_the_reply}
+use Rattle.explain_who.specs.Lined.{plain}
+use Rattle.explain_who.specs.Notes.{with_told}
+use Rattle.explain_who.specs.Trails.{Marks}
+use Rattle.explain_who.proofs.Followed.{IsRead, Marked_by, acts_of, alone_after, alone_is, follow_more, lined, state_behind}
+use Rattle.explain_who.proofs.LineLemmas.{lines_are_of_statements}
 use Rattle.explain_areas.specs.Followed.{IsKnown, noted, taken_in}
 use Rattle.explain_areas.specs.Takings.{newly_after}
 use Rattle.explain_areas.specs.declared.tracing.Known.{Known}

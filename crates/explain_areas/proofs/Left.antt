@@ -14,16 +14,16 @@ use Rattle.storage_core.specs.Meaning.{state_in_place, state_of}
 use Rattle.subpool_storage.specs.Order.{subpools_in_order}
 use Rattle.script_steps.specs.Output.{alone_now}
 use Rattle.script_steps.proofs.Standings.{stands_for}
-use Rattle.line_areas.specs.Ahead.{AreLinesOf}
-use Rattle.line_areas.specs.Areas.{areas_of}
-use Rattle.line_areas.specs.declared.parts.LineArea.{LineArea}
-use Rattle.line_areas.specs.declared.taken.Taking.{Taking}
-use Rattle.line_changes.specs.Lined.{lined_all}
-use Rattle.line_changes.specs.Trails.{marks_of}
-use Rattle.line_changes.specs.declared.trail.TrailEntry.{TrailEntry}
-use Rattle.line_changes.proofs.Followed.{alone_after, alone_is}
-use Rattle.line_changes.proofs.Lines.{lines_are_of_statements}
-use Rattle.line_changes.proofs.Moves.{standing_marks}
+use Rattle.explain_areas.specs.Ahead.{AreLinesOf}
+use Rattle.explain_areas.specs.Areas.{areas_of}
+use Rattle.explain_areas.specs.declared.parts.LineArea.{LineArea}
+use Rattle.explain_areas.specs.declared.lines_at.Taking.{Taking}
+use Rattle.explain_who.specs.Lined.{lined_all}
+use Rattle.explain_who.specs.Trails.{marks_of}
+use Rattle.explain_who.specs.declared.trail.TrailEntry.{TrailEntry}
+use Rattle.explain_who.proofs.Followed.{alone_after, alone_is}
+use Rattle.explain_who.proofs.LineLemmas.{lines_are_of_statements}
+use Rattle.explain_who.proofs.Moves.{standing_marks}
 use Rattle.explain_areas.specs.Followed.{IsFollowedBy}
 use Rattle.explain_areas.specs.Since.{acts, storage_after, taken_areas}
 use Rattle.explain_areas.specs.Takings.{newly_after, taking, takings_of}

@@ -20,9 +20,9 @@ use Rattle.storage_core.specs.declared.storage.Storage.{Storage}
 use Rattle.storage_core.specs.Meaning.{state_in_place, state_of, settings_of}
 use Rattle.subpool_storage.specs.Order.{subpools_in_order}
 use Rattle.subpool_storage.specs.Subpools.{is_there}
-use Rattle.line_areas.specs.Ahead.{AreLinesOf}
-use Rattle.line_areas.specs.Areas.{areas_of}
-use Rattle.line_areas.proofs.Bounds.{both_ways, free_in_page, is_false, same_to}
+use Rattle.explain_areas.specs.Ahead.{AreLinesOf}
+use Rattle.explain_areas.specs.Areas.{areas_of}
+use Rattle.explain_areas.proofs.Bounds.{both_ways, free_in_page, is_false, same_to}
 use Rattle.explain_areas.specs.Since.{acts, line_of, storage_after, taken_areas, taken_since}
 use Rattle.explain_areas.proofs.Newest.{all_taken, is_taken, lined, not_taken}
 

@@ -11,12 +11,12 @@ use Rattle.vsm_model.specs.Regions.{among}
 use Rattle.vsm_model.specs.Runs.{runs, with_first}
 use Rattle.vsm_model.specs.Standing.{Stood}
 use Rattle.vsm_model.specs.State.{State}
-use Rattle.newly_taken.specs.Newly.{is_newly, newly_between}
-use Rattle.line_areas.specs.Taken.{has, line_at}
-use Rattle.line_areas.specs.declared.taken.Taking.{Taking}
-use Rattle.line_changes.specs.Trails.{seen_along}
-use Rattle.line_changes.specs.declared.trail.TrailEntry.{TrailEntry}
-use Rattle.line_changes.proofs.Moves.{onto, onto_turned, seen_both, turned}
+use Rattle.explain_areas.specs.Newly.{is_newly, newly_between}
+use Rattle.explain_areas.specs.LinesAt.{has, line_at}
+use Rattle.explain_areas.specs.declared.lines_at.Taking.{Taking}
+use Rattle.explain_who.specs.Trails.{seen_along}
+use Rattle.explain_who.specs.declared.trail.TrailEntry.{TrailEntry}
+use Rattle.explain_who.proofs.Moves.{onto, onto_turned, seen_both, turned}
 use Rattle.explain_areas.specs.Since.{acts, since, storage_after, taken_since}
 use Rattle.explain_areas.specs.Takings.{newly_after, taking}
 

@@ -13,7 +13,7 @@ use Rattle.std.proofs.lemmas.List.MinMax.{IsStrictWeakOrder-by_number, IsStrictW
 use denote.Param.Members.{Mut}
 use denote.Ref.{Bor}
 use Rattle.explain_areas.specs.Orders.{IsInOrder, IsLongestFirst, is_longer}
-use Rattle.line_areas.specs.declared.parts.LineArea.{LineArea}
+use Rattle.explain_areas.specs.declared.parts.LineArea.{LineArea}
 use Rattle.explain_areas.specs.declared.orders.AreaOrder.{AreaOrder}
 use Rattle.explain_areas.specs.declared.orders.AreaOrder.TheVariants as order
 

@@ -23,3 +23,4 @@ stopped_before settings script n s last fault.Dropped h = inl h
 stopped_before settings script n s last fault.Write h = absurd h
 stopped_before settings script n s last (fault.New x) h = absurd h
 stopped_before settings script n s last (fault.NoLine k) h = absurd h
+stopped_before settings script n s last (fault.NoTask task) h = absurd h

@@ -2,17 +2,17 @@
 use Rattle.std.proofs.Common.{◌≡◌, ℕ, List, Option, Err, sym, subst, ◌∙◌}
 use Rattle.text_output.proofs.Known.{appends_nothing}
 use Rattle.vsm_model.specs.declared.limits.Settings.{Settings}
-use Rattle.line_changes.specs.Faults.{FollowsNot}
-use Rattle.line_changes.specs.declared.faults.WhoFault.{WhoFault}
-use Rattle.line_changes.specs.declared.faults.WhoFault.TheVariants as fault
+use Rattle.explain_who.specs.Faults.{FollowsNot}
+use Rattle.explain_who.specs.declared.faults.WhoFault.{WhoFault}
+use Rattle.explain_who.specs.declared.faults.WhoFault.TheVariants as fault
 use Rattle.bench_core.specs.Stands.{bench_of, settings_in}
 use Rattle.storage_core.specs.declared.storage.Storage.{Storage}
 use Rattle.storage_core.specs.Meaning.{state_of, settings_of}
-use Rattle.line_areas.specs.declared.parts.LineArea.{LineArea}
+use Rattle.explain_areas.specs.declared.parts.LineArea.{LineArea}
 use Rattle.explain_areas.specs.Followed.{IsFollowedBy}
 use Rattle.explain_areas.specs.Orders.{IsInOrder}
 use Rattle.explain_areas.specs.Since.{taken_areas}
-use Rattle.listed_text.specs.declared.json.Form.{Form}
+use Rattle.explain_text.specs.declared.json.Form.{Form}
 use Rattle.explain_areas.specs.Forms.{areas_in}
 use Rattle.explain_areas.specs.Told.{TellsPart, IsLeftText, standing}
 use Rattle.explain_areas.specs.declared.orders.AreaOrder.{AreaOrder}

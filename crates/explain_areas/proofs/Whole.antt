@@ -8,10 +8,10 @@ use Rattle.script_steps.specs.Output.{Marked}
 use Rattle.script_steps.specs.Steps.{IsLineOf}
 use Rattle.script_steps.specs.Taken.{Took}
 use Rattle.script_steps.specs.declared.session.Session.{Session}
-use Rattle.line_changes.specs.Faults.{FollowsNot}
-use Rattle.line_changes.specs.Notes.{IsNextLine}
-use Rattle.line_changes.specs.declared.faults.WhoFault.{WhoFault}
-use Rattle.line_changes.specs.declared.trail.Trail.{Trail}
+use Rattle.explain_who.specs.Faults.{FollowsNot}
+use Rattle.explain_who.specs.Notes.{IsNextLine}
+use Rattle.explain_who.specs.declared.faults.WhoFault.{WhoFault}
+use Rattle.explain_who.specs.declared.trail.Trail.{Trail}
 use Rattle.explain_areas.specs.Followed.{Follows, FollowsLine, FollowsEnd, IsEndFollowed, IsFollowed}
 use Rattle.explain_areas.specs.declared.tracing.Followed.{Followed}
 

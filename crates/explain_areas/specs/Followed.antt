@@ -11,15 +11,15 @@ use Rattle.script_steps.specs.Taken.{Led, Took, Ended}
 use Rattle.script_steps.specs.declared.responses.Response.{Response}
 use Rattle.script_steps.specs.declared.responses.Response.TheVariants as response
 use Rattle.script_steps.specs.declared.session.Session.{Session}
-use Rattle.newly_taken.specs.Newly.{taken_by}
-use Rattle.line_changes.specs.Faults.{FollowsNot}
-use Rattle.line_changes.specs.Lined.{lined_all}
-use Rattle.line_changes.specs.Notes.{IsNextLine}
-use Rattle.line_changes.specs.ScriptLines.{LinesBegin}
-use Rattle.line_changes.specs.Trails as marks
-use Rattle.line_changes.specs.Trails.{marks_of}
-use Rattle.line_changes.specs.declared.faults.WhoFault.{WhoFault}
-use Rattle.line_changes.specs.declared.trail.Trail.{Trail}
+use Rattle.explain_areas.specs.Newly.{taken_by}
+use Rattle.explain_who.specs.Faults.{FollowsNot}
+use Rattle.explain_who.specs.Lined.{lined_all}
+use Rattle.explain_who.specs.Notes.{IsNextLine}
+use Rattle.explain_who.specs.ScriptLines.{LinesBegin}
+use Rattle.explain_who.specs.Trails as marks
+use Rattle.explain_who.specs.Trails.{marks_of}
+use Rattle.explain_who.specs.declared.faults.WhoFault.{WhoFault}
+use Rattle.explain_who.specs.declared.trail.Trail.{Trail}
 use Rattle.explain_areas.specs.Takings.{newly_after}
 use Rattle.explain_areas.specs.declared.tracing.Followed.{Followed}
 use Rattle.explain_areas.specs.declared.tracing.Known.{Known}

@@ -1,13 +1,13 @@
 -- What is written of what is taken, as text or as JSON.
 use Rattle.std.specs.Prelude.{ℕ, true, List, [], ◌++◌, length, flat_map, codes}
-use Rattle.listed_text.specs.Json.{json_head}
-use Rattle.listed_text.specs.declared.json.Form.{Form}
-use Rattle.listed_text.specs.declared.json.Form.TheVariants as form
+use Rattle.explain_text.specs.Json.{json_head}
+use Rattle.explain_text.specs.declared.json.Form.{Form}
+use Rattle.explain_text.specs.declared.json.Form.TheVariants as form
 use Rattle.vsm_model.specs.declared.limits.Settings.{Settings}
 use Rattle.vsm_model.specs.CellPools.{CellPools}
 use Rattle.vsm_model.specs.Map.{total_bytes}
 use Rattle.vsm_model.specs.State.{State}
-use Rattle.line_areas.specs.declared.parts.LineArea.{LineArea}
+use Rattle.explain_areas.specs.declared.parts.LineArea.{LineArea}
 use Rattle.explain_areas.specs.Objects.{area_json, sum_json}
 use Rattle.explain_areas.specs.Texts.{area_text, sum_text}
 

@@ -1,3 +1,8 @@
+pub mod Newly
+pub mod LinesAt
+pub mod Rising
+pub mod Areas
+pub mod Ahead
 pub mod Since
 pub mod Takings
 pub mod Followed

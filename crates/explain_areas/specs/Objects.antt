@@ -2,12 +2,12 @@
 use Rattle.std.specs.Prelude.{ℕ, ◌*◌, List, [], ◌++◌, codes}
 use Rattle.vsm_model.specs.declared.Subpool.{Subpool}
 use Rattle.vsm_model.specs.CellPools.{CellPools}
-use Rattle.listed_text.specs.Json.{number_field, object_end, object_start, string_field}
-use Rattle.line_changes.specs.Texts.{line_fields}
-use Rattle.taken_places.specs.Taken.{taken_by}
-use Rattle.taken_places.specs.declared.takers.Taken.{Taken}
-use Rattle.taken_places.specs.declared.takers.Taken.TheVariants as taken
-use Rattle.line_areas.specs.declared.parts.LineArea.{LineArea}
+use Rattle.explain_text.specs.Json.{number_field, object_end, object_start, string_field}
+use Rattle.explain_who.specs.LineTexts.{line_fields}
+use Rattle.explain_who.specs.Taken.{taken_by}
+use Rattle.explain_who.specs.declared.takers.Taken.{Taken}
+use Rattle.explain_who.specs.declared.takers.Taken.TheVariants as taken
+use Rattle.explain_areas.specs.declared.parts.LineArea.{LineArea}
 use Rattle.explain_areas.specs.Texts.{shown_address}
 
 -- a number of bytes at an address, of a subpool and its owner

@@ -11,8 +11,8 @@ use Rattle.vsm_model.specs.Standing.{alone}
 use Rattle.vsm_model.specs.State.{State}
 use Rattle.vsm_model.specs.Subpools.{same_subpool}
 use Rattle.bench_core.specs.Machine.{statement_step}
-use Rattle.line_areas.specs.Areas.{areas_of}
-use Rattle.line_areas.specs.declared.parts.LineArea.{LineArea}
+use Rattle.explain_areas.specs.Areas.{areas_of}
+use Rattle.explain_areas.specs.declared.parts.LineArea.{LineArea}
 
 -- statements without their lines
 abbrev pub acts : List (ℕ × Act) → List Act

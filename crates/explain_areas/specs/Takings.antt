@@ -3,9 +3,9 @@ use Rattle.std.specs.Prelude.{ℕ, ◌+◌, min, List, [], ◌∷◌, flat_map, 
 use Rattle.arrayvec.specs.ArrayVec.{ArrayVec}
 use Rattle.macro_statements.specs.Requests.{Act}
 use Rattle.vsm_model.specs.declared.limits.Settings.{Settings}
-use Rattle.line_changes.specs.declared.trail.TrailEntry.{TrailEntry}
-use Rattle.line_areas.specs.declared.taken.Taking.{Taking}
-use Rattle.newly_taken.specs.Newly.{newly_between}
+use Rattle.explain_who.specs.declared.trail.TrailEntry.{TrailEntry}
+use Rattle.explain_areas.specs.declared.lines_at.Taking.{Taking}
+use Rattle.explain_areas.specs.Newly.{newly_between}
 use Rattle.explain_areas.specs.Since.{storage_after}
 
 -- what the newest of these statements took, which is first

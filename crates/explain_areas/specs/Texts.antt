@@ -5,12 +5,12 @@ use Rattle.vsm_model.specs.declared.Subpool.{Subpool}
 use Rattle.vsm_model.specs.CellPools.{CellPools}
 use Rattle.vsm_model.specs.Map.{line}
 use Rattle.vsm_model.specs.Texts.{hexadecimal}
-use Rattle.line_changes.specs.Texts.{counted, line_text}
-use Rattle.taken_places.specs.Taken.{taken_by}
-use Rattle.taken_places.specs.Texts.{subpool_text}
-use Rattle.taken_places.specs.declared.takers.Taken.{Taken}
-use Rattle.taken_places.specs.declared.takers.Taken.TheVariants as taken
-use Rattle.line_areas.specs.declared.parts.LineArea.{LineArea}
+use Rattle.explain_who.specs.LineTexts.{counted, line_text}
+use Rattle.explain_who.specs.Taken.{taken_by}
+use Rattle.explain_who.specs.TakenTexts.{subpool_text}
+use Rattle.explain_who.specs.declared.takers.Taken.{Taken}
+use Rattle.explain_who.specs.declared.takers.Taken.TheVariants as taken
+use Rattle.explain_areas.specs.declared.parts.LineArea.{LineArea}
 
 -- the address of an area
 abbrev pub shown_address : LineArea → ℕ

@@ -1,18 +1,18 @@
 -- What is written of a script: what is taken, by lines; and what each fault means.
 use Rattle.std.specs.Prelude.{◌≡◌, ℕ, List, [], map, take, Option, Result, Ok, Err}
 use Rattle.std.specs.Io.KnownBytes.{Appends}
-use Rattle.listed_text.specs.declared.json.Form.{Form}
+use Rattle.explain_text.specs.declared.json.Form.{Form}
 use Rattle.macro_statements.specs.Requests.{Act}
 use Rattle.text_output.specs.Writing.{AppendsFront}
 use Rattle.vsm_model.specs.declared.limits.Settings.{Settings}
 use Rattle.vsm_model.specs.Standing.{nothing_stands}
 use Rattle.script_steps.specs.Output.{Marked}
 use Rattle.script_steps.specs.Taken.{Ended}
-use Rattle.line_changes.specs.Faults.{FollowsNot}
-use Rattle.line_changes.specs.Lined.{lined_all}
-use Rattle.line_changes.specs.declared.faults.WhoFault.{WhoFault}
-use Rattle.line_changes.specs.declared.faults.WhoFault.TheVariants as fault
-use Rattle.line_areas.specs.declared.parts.LineArea.{LineArea}
+use Rattle.explain_who.specs.Faults.{FollowsNot}
+use Rattle.explain_who.specs.Lined.{lined_all}
+use Rattle.explain_who.specs.declared.faults.WhoFault.{WhoFault}
+use Rattle.explain_who.specs.declared.faults.WhoFault.TheVariants as fault
+use Rattle.explain_areas.specs.declared.parts.LineArea.{LineArea}
 use Rattle.explain_areas.specs.Ends.{IsEndOf, LacksEndOf}
 use Rattle.explain_areas.specs.Forms.{areas_in}
 use Rattle.explain_areas.specs.Orders.{IsInOrder}

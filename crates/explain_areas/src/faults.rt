@@ -1,7 +1,7 @@
 //! Why areas aren't written.
 
 use explain_report::ReportFault;
-use line_changes::WhoFault;
+use explain_who::WhoFault;
 
 /// Why areas aren't written, or only a part of them.
 #[derive(Clone, Copy)]

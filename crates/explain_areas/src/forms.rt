@@ -2,13 +2,13 @@
 ghost use Rattle.std.specs.Prelude.{◌≡◌, []};
 ghost use Rattle.text_output.specs.Writing.{Puts};
 ghost use Rattle.storage_core.specs.Meaning.{state_of};
-ghost use Rattle.line_changes.specs.ScriptLines.{LinesBegin};
+ghost use Rattle.explain_who.specs.ScriptLines.{LinesBegin};
 ghost use Rattle.explain_areas.specs.Forms.{area_in, head_in, sum_in};
 
 use crate::objects::{put_area_object, put_sum_object};
+use crate::parts::LineArea;
 use crate::texts::{put_area_line, put_sum_line};
-use line_areas::LineArea;
-use listed_text::Form;
+use explain_text::Form;
 use std::io::Write;
 use storage_core::Storage;
 use text_output::Gathered;
@@ -20,7 +20,7 @@ pub(crate) fn put_head<W: Write>(gathered: &mut Gathered, writer: &mut W, form: 
 {
     match form {
         Form::Text => (),
-        Form::Json => listed_text::put_head(gathered, writer, b"report"),
+        Form::Json => explain_text::put_head(gathered, writer, b"report"),
     }
 }
 

@@ -4,14 +4,19 @@
 mod ends;
 mod faults;
 mod forms;
+pub mod laws;
+mod layers;
+mod lines_at;
+mod newly;
 mod objects;
 mod orders;
 mod output;
+mod parts;
 mod takings;
 mod texts;
 mod tracing;
+mod walks;
 
 pub use faults::AreasFault;
 pub use orders::AreaOrder;
 pub use output::areas;
-pub use tracing::{Followed, follow};

@@ -2,16 +2,15 @@
 ghost use Rattle.std.specs.Prelude.{◌≡◌, []};
 ghost use Rattle.text_output.specs.Writing.{Puts};
 ghost use Rattle.storage_core.specs.Meaning.{state_of};
-ghost use Rattle.line_changes.specs.ScriptLines.{LinesBegin};
+ghost use Rattle.explain_who.specs.ScriptLines.{LinesBegin};
 ghost use Rattle.explain_areas.specs.Objects.{area_json, cells_field, place_fields, pool_field, sum_json};
 
+use crate::parts::LineArea;
 use crate::texts::{bytes_of, shown_address};
-use line_areas::LineArea;
-use line_changes::put_line_fields;
-use listed_text::{put_number_field, put_object_end, put_object_start, put_string_field};
+use explain_text::{put_number_field, put_object_end, put_object_start, put_string_field};
+use explain_who::{Taken, put_line_fields, taken_by};
 use std::io::Write;
 use storage_core::Storage;
-use taken_places::{Taken, taken_by};
 use text_output::Gathered;
 use vsm_model::Subpool;
 

@@ -2,7 +2,7 @@
 ghost use Rattle.std.specs.Prelude.{OnOk};
 ghost use Rattle.explain_areas.specs.Orders.{IsInOrder};
 
-use line_areas::LineArea;
+use crate::parts::LineArea;
 use std::alloc::AllocError;
 
 /// The order in which areas are shown.

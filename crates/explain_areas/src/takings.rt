@@ -2,9 +2,9 @@
 ghost use Rattle.std.specs.Prelude.{◌≡◌, ◌++◌, IfOk, OnOk, map};
 ghost use Rattle.explain_areas.specs.Takings.{taking, takings_of};
 
-use line_areas::Taking;
-use line_changes::TrailEntry;
-use newly_taken::Newly;
+use crate::lines_at::Taking;
+use crate::newly::TakenRun;
+use explain_who::TrailEntry;
 use std::alloc::{AllocError, Global};
 
 /// Adds runs that the statement of a line took.
@@ -24,7 +24,7 @@ fn add_runs(takings: &mut Vec<Taking>, line: u32, runs: &[(u32, u32)]) -> Result
 /// What these statements took, the newest first; they are given with the oldest first.
 pub(crate) fn takings(
     alloc: Global,
-    entries: &[TrailEntry<Newly>],
+    entries: &[TrailEntry<TakenRun>],
 ) -> Result<Vec<Taking>, AllocError>
     ensures { IfOk result (λ takings. takings.items ≡ takings_of entries.now) }
 {

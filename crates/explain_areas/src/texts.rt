@@ -2,14 +2,13 @@
 ghost use Rattle.std.specs.Prelude.{◌≡◌, ◌*◌, []};
 ghost use Rattle.text_output.specs.Writing.{Puts};
 ghost use Rattle.storage_core.specs.Meaning.{state_of};
-ghost use Rattle.line_changes.specs.ScriptLines.{LinesBegin};
+ghost use Rattle.explain_who.specs.ScriptLines.{LinesBegin};
 ghost use Rattle.explain_areas.specs.Texts.{area_text, cells_text, place_text, pool_text, shown_address, sum_text};
 
-use line_areas::LineArea;
-use line_changes::{put_count, put_line};
+use crate::parts::LineArea;
+use explain_who::{Taken, put_count, put_line, put_subpool, taken_by};
 use std::io::Write;
 use storage_core::Storage;
-use taken_places::{Taken, put_subpool, taken_by};
 use text_output::{Gathered, put_decimal, put_hexadecimal};
 use vsm_model::Subpool;
 

@@ -2,12 +2,12 @@
 ghost use Rattle.std.specs.Prelude.{◌≡◌, ◌≤◌, [], ◌∷◌, ◌++◌, drop, length, OnOk};
 ghost use Rattle.bench_core.specs.Stands.{bench_of};
 ghost use Rattle.script_steps.specs.Script.{NoFeed};
-ghost use Rattle.line_changes.specs.Notes.{with_told};
-ghost use Rattle.line_changes.specs.Trails.{marks_of};
+ghost use Rattle.explain_who.specs.Notes.{with_told};
+ghost use Rattle.explain_who.specs.Trails.{marks_of};
 ghost use Rattle.explain_areas.specs.Followed.{IsEndFollowed, IsFollowed, IsKnown, IsLineFollowed, noted, taken_in};
 
-use line_changes::{Trail, WhoFault};
-use newly_taken::{Newly, taken_by};
+use crate::newly::{TakenRun, taken_by};
+use explain_who::{Trail, WhoFault};
 use script_steps::{Bench, Response, Session, Watch};
 use std::alloc::{AllocError, Global};
 use storage_map::totals;
@@ -15,11 +15,11 @@ use vsm_model::Settings;
 
 /// A script that was followed to its end.
 #[derive(Drop)]
-pub struct Followed {
+pub(crate) struct Followed {
     /// The bench as the script left it.
     pub bench: Bench,
     /// The statements in effect, and those that are undone, each with its line and what it took.
-    pub trail: Trail<Newly>,
+    pub trail: Trail<TakenRun>,
     /// Where each line begins in the script.
     pub starts: Vec<usize>,
 }
@@ -52,7 +52,7 @@ fn known_of(bench: &Bench) -> Known
 
 /// Notes what a line brought: an accepted statement with what it took, or a step over some.
 fn note(
-    trail: &mut Trail<Newly>,
+    trail: &mut Trail<TakenRun>,
     bench: &Bench,
     before: Known,
     told: &Option<(u32, Response)>,
@@ -95,7 +95,7 @@ fn note_start(starts: &mut Vec<usize>, at: usize) -> Result<(), AllocError>
 /// taken, if there is no line feed from there on.
 fn follow_at(
     session: &mut Session,
-    trail: &mut Trail<Newly>,
+    trail: &mut Trail<TakenRun>,
     script: &[u8],
     at: usize,
 ) -> Result<Option<usize>, WhoFault>
@@ -117,7 +117,7 @@ fn follow_at(
 /// Notes where a line begins, and follows it as `follow_at` does.
 fn follow_line(
     session: &mut Session,
-    trail: &mut Trail<Newly>,
+    trail: &mut Trail<TakenRun>,
     starts: &mut Vec<usize>,
     script: &[u8],
     at: usize,
@@ -133,7 +133,7 @@ fn follow_line(
 }
 
 /// Follows the bytes after the last line feed, and gives the bench after them.
-fn follow_end(session: Session, trail: &mut Trail<Newly>, rest: &[u8]) -> Result<Bench, WhoFault>
+fn follow_end(session: Session, trail: &mut Trail<TakenRun>, rest: &[u8]) -> Result<Bench, WhoFault>
     requires { NoFeed rest.now }
     ensures { IsEndFollowed rest.now session trail.old trail.new result }
 {
@@ -173,7 +173,7 @@ pub(crate) fn rest_from(script: &[u8], at: usize) -> &[u8]
 }
 
 /// Follows a script on a new bench under these settings, to its end.
-pub fn follow<P: Watch>(
+pub(crate) fn follow<P: Watch>(
     alloc: Global,
     script: &[u8],
     settings: Settings,

@@ -9,8 +9,8 @@ use Rattle.vsm_model.specs.Names.{NamedState}
 use Rattle.vsm_model.specs.Standing.{Bench, Standing, Call, Apply, Back, Forward, Look, Answer, Replied, RefusedFor, NoMemory, Moved, TooFar, Shown, nothing_stands, stand}
 use Rattle.bench_core.specs.Refusal.{Refusal}
 use Rattle.bench_core.specs.Refusal.TheVariants as refusal
-use Rattle.listed_text.specs.declared.json.Form.{Form}
-use Rattle.listed_text.specs.declared.json.Form.TheVariants as form
+use Rattle.explain_text.specs.declared.json.Form.{Form}
+use Rattle.explain_text.specs.declared.json.Form.TheVariants as form
 use Rattle.bench_core.specs.Machine.{Why, shown_at}
 use Rattle.script_steps.specs.Answers.{AreShown}
 use Rattle.script_steps.specs.Output.{Marked, alone_now, answer_to, bytes_shown, responded, stands_after, stands_all, stands_with}
@@ -21,12 +21,12 @@ use Rattle.script_steps.specs.declared.responses.Response.TheVariants as respons
 use Rattle.script_steps.proofs.Standings.{stands_for, stands_push}
 use Rattle.text_output.specs.Writing.{Puts}
 use Rattle.text_output.specs.declared.writing.Gathered.{Gathered}
-use Rattle.statement_faults.specs.declared.lines.SourceLine.{SourceLine}
-use Rattle.explain_list.specs.Pages.{fault_answered, fault_told}
-use Rattle.explain_list.specs.Listing.{ArePageRows, AreNotesTo, IsNoted, fault_asked, fault_of, paged, is_written, item_text, one_of, page_text, HoldsListing, IsItemOf, PutsPage}
-use Rattle.list_rows.specs.Answers.{AreNotes, AreNotesOf, Notes, answer_in}
-use Rattle.list_rows.specs.Causes.{IsCauseFor, IsCauseText}
-use Rattle.list_rows.specs.Rows.{Row, row_in, IsLineAt, IsRowOf}
+use Rattle.explain_faults.specs.declared.lines.SourceLine.{SourceLine}
+use Rattle.explain_list.specs.Pages.{fault_answered, fault_asked, fault_of, fault_told, one_of}
+use Rattle.explain_list.specs.Listing.{ArePageRows, AreNotesTo, IsNoted, paged, is_written, item_text, page_text, HoldsListing, IsItemOf, PutsPage}
+use Rattle.explain_list.specs.Answers.{AreNotes, AreNotesOf, Notes, answer_in}
+use Rattle.explain_list.specs.Causes.{IsCauseFor, IsCauseText}
+use Rattle.explain_list.specs.Rows.{Row, row_in, IsLineAt, IsRowOf}
 use Rattle.explain_list.specs.declared.layouts.Layout.{Layout}
 use Rattle.explain_list.proofs.Items.{holds_item}
 
@@ -64,7 +64,7 @@ module _ (settings : Settings) where
   taken [] = None
   taken (m ∷ ms) = Some m
 
-  taken_is : (answers more : List Marked) (told : Option (ℕ × Response)) → Brings settings answers more told → one_of (taken more) ≡ more
+  pub taken_is : (answers more : List Marked) (told : Option (ℕ × Response)) → Brings settings answers more told → one_of (taken more) ≡ more
   taken_is answers [] None brings = refl
   taken_is answers (m ∷ []) (Some told) brings = refl
   taken_is answers [] (Some told) brings = absurd brings
@@ -128,7 +128,7 @@ module _ (settings : Settings) where
   asked_fault l unmet (Ok (back n)) = call_no_fault (Back n) _ _
   asked_fault l unmet (Ok (forward n)) = call_no_fault (Forward n) _ _
 
-  fault_is : (answers more : List Marked) (told : Option (ℕ × Response)) → Brings settings answers more told → fault_told told ≡ fault_of (taken more)
+  pub fault_is : (answers more : List Marked) (told : Option (ℕ × Response)) → Brings settings answers more told → fault_told told ≡ fault_of (taken more)
   fault_is answers [] None brings = refl
   fault_is answers (m ∷ []) (Some told) brings = ap fault_answered brings.1 ∙ asked_fault (stands_all settings nothing_stands answers) m.unmet m.answer.what
   fault_is answers [] (Some told) brings = absurd brings

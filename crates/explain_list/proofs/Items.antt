@@ -10,10 +10,11 @@ use Rattle.script_steps.specs.Output.{Marked, stands_all}
 use Rattle.script_steps.proofs.Feeds.{each_append}
 use Rattle.text_output.specs.Writing.{Holds, Puts}
 use Rattle.text_output.specs.declared.writing.Gathered.{Gathered}
-use Rattle.statement_faults.specs.declared.lines.SourceLine.{SourceLine}
-use Rattle.explain_list.specs.Listing.{AreNoted, IsNoted, Item, paged, answers_in, head_in, is_written, item_text, items_text, lines_in, listing_text, one_of, stands_past, HoldsListing, IsItemOf, PutsFilePage}
-use Rattle.list_rows.specs.Answers.{Notes}
-use Rattle.list_rows.specs.Rows.{Row, lines_of, row_in}
+use Rattle.explain_faults.specs.declared.lines.SourceLine.{SourceLine}
+use Rattle.explain_list.specs.Listing.{AreNoted, IsNoted, Item, paged, answers_in, head_in, is_written, item_text, items_text, lines_in, listing_text, stands_past, HoldsListing, IsItemOf, PutsFilePage}
+use Rattle.explain_list.specs.Answers.{Notes}
+use Rattle.explain_list.specs.Pages.{one_of}
+use Rattle.explain_list.specs.Rows.{Row, lines_of, row_in}
 use Rattle.explain_list.specs.declared.layouts.Layout.{Layout}
 
 -- the answers among items, some after others

@@ -9,10 +9,10 @@ use Rattle.script_steps.specs.Steps.{StepsOver}
 use Rattle.script_steps.specs.Taken.{Took}
 use Rattle.script_steps.specs.declared.session.Session.{Session}
 use Rattle.script_steps.specs.declared.steps.Step.{Step}
-use Rattle.statement_faults.specs.declared.lines.SourceLine.{SourceLine}
+use Rattle.explain_faults.specs.declared.lines.SourceLine.{SourceLine}
 use Rattle.explain_list.specs.Pages.{TakesLast, line_of, open_of, shown_of}
 use Rattle.explain_list.specs.Pages.{AreAllLines, AreFirstLines, Follow, IsLineStart}
-use Rattle.list_rows.specs.Rows.{IsLineAt}
+use Rattle.explain_list.specs.Rows.{IsLineAt}
 use Rattle.explain_list.specs.declared.pages.ListingPage.{ListingPage}
 
 each_at : (xs : List ℕ) (n : ℕ) → n < length xs → NoFeed xs → get_or xs n 0 ≢ 10

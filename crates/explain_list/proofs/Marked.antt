@@ -7,12 +7,12 @@ use Rattle.std.proofs.lemmas.Option.{slice_get_past}
 use Rattle.std.specs.List.{AllByRecursion}
 use Rattle.macro_operands.specs.declared.faults.FaultKind.{FaultKind}
 use Rattle.script_steps.proofs.Feeds.{each_push}
-use Rattle.statement_faults.specs.Places.{first_card, further_cards, IsCaretOf}
-use Rattle.statement_faults.specs.declared.carets.Caret.{Caret}
-use Rattle.statement_faults.specs.declared.lines.SourceLine.{SourceLine}
-use Rattle.statement_faults.specs.declared.roles.Role.{Role}
+use Rattle.explain_faults.specs.Places.{first_card, further_cards, HasFault, IsCaretOf}
+use Rattle.explain_faults.specs.declared.carets.Caret.{Caret}
+use Rattle.explain_faults.specs.declared.lines.SourceLine.{SourceLine}
+use Rattle.explain_faults.specs.declared.roles.Role.{Role}
 use Rattle.explain_list.specs.Pages.{AreLinesOf, IsPage, fault_at, mark_at, marks_in, open_of, shown_of}
-use Rattle.list_rows.specs.Rows.{AreMarksOf, IsLineAt, marks_on}
+use Rattle.explain_list.specs.Rows.{AreMarksOf, IsLineAt, LacksMark, marks_on}
 use Rattle.explain_list.specs.declared.pages.ListingPage.{ListingPage}
 
 each_get : {X : Type 0} (P : X → Type 0) (xs : List X) (i : ℕ) (d : X) → i < length xs → AllByRecursion P xs → P (get_or xs i d)
@@ -43,12 +43,15 @@ pub one_more : (script : List ℕ) (before after : List SourceLine) (line : Sour
 one_more script before after line (inl is) at h = subst (AllByRecursion (IsLineAt script)) (sym is) (each_push (IsLineAt script) before line h at)
 one_more script before after line (inr is) at h = subst (AllByRecursion (IsLineAt script)) (sym is) h
 
--- a page without a fault
-pub plain_page : (script : List ℕ) (kind : Option FaultKind) (page : ListingPage) → AreLinesOf script page → page.fault ≡ None → IsPage script kind page
-plain_page script kind page lines none = record {
-  lines = lines;
-  marks = subst (λ f. IfSome f (λ x. (kind ≡ Some x.1) × IsCaretOf (first_card script page.lines.lines.items) (further_cards script page.lines.lines.items) x.1 x.0)) (sym none) tt;
-}
+-- where no lines are shown no fault has a caret, nor where they haven't the fault
+pub none_lacks : (script : List ℕ) (kind : Option FaultKind) → LacksMark script [] kind
+none_lacks script None = tt
+none_lacks script (Some kind) = tt
+
+pub lacks_of : (script : List ℕ) (lines : List SourceLine) (kind : FaultKind) → (HasFault (first_card script lines) (further_cards script lines) kind → ⊥)
+    → LacksMark script lines (Some kind)
+lacks_of script [] kind h = tt
+lacks_of script (line ∷ lines) kind h = h
 
 either_of : (b : Bool) (xs : List SourceLine) → ((if b then xs else []) ≡ xs) ⊎ ((if b then xs else []) ≡ [])
 either_of true xs = inl refl
@@ -71,6 +74,16 @@ open_none page none = ap (λ l. if is_some l then [] else page.lines.lines.items
 
 pub shown_none : (page : ListingPage) → page.last ≡ None → shown_of page ≡ []
 shown_none page none = ap (λ l. if is_some l then page.lines.lines.items else []) none
+
+-- a page that shows nothing
+pub plain_page : (script : List ℕ) (kind : Option FaultKind) (page : ListingPage) → AreLinesOf script page → page.fault ≡ None → page.last ≡ None
+    → IsPage script kind page
+plain_page script kind page lines none last = record {
+  lines = lines;
+  on = subst (λ f. IfSome f (λ (x : Caret × FaultKind). 0 < length page.lines.lines.items → x.0.place.line < length page.lines.lines.items)) (sym none) tt;
+  lacks = λ e. subst (λ ls. LacksMark script ls kind) (sym (shown_none page last)) (none_lacks script kind);
+  marks = subst (λ f. IfSome f (λ x. (kind ≡ Some x.1) × IsCaretOf (first_card script page.lines.lines.items) (further_cards script page.lines.lines.items) x.1 x.0)) (sym none) tt;
+}
 
 pub open_some : (page : ListingPage) (role : Role) → page.last ≡ Some role → open_of page ≡ []
 open_some page role some = ap (λ l. if is_some l then [] else page.lines.lines.items) some
@@ -126,25 +139,33 @@ marks_none None = refl
 marks_none (Some f) = refl
 
 -- that of a page is its fault's
+got_inside : {X : Type 0} (xs : List X) (i : ℕ) → i < length xs → slice_get xs i ≡ None → ⊥
+got_inside [] i inside is = absurd (omega arith)
+got_inside (x ∷ xs) zero inside is = cc
+got_inside (x ∷ xs) (suc i) inside is = got_inside xs i (omega (arith, inside)) is
+
 mark_is : (script : List ℕ) (lines : List SourceLine) (kind : Option FaultKind) (f : Caret × FaultKind) (o : Option SourceLine) → kind ≡ Some f.1
-    → IsCaretOf (first_card script lines) (further_cards script lines) f.1 f.0 → slice_get lines f.0.place.line ≡ o → AreMarksOf script lines kind (mark_at f o)
-mark_is script lines kind f None its own on = tt
-mark_is script lines kind f (Some line) its own on = (its, record { caret = f.0; own = own; on = on; column = refl; width = refl })
+    → IsCaretOf (first_card script lines) (further_cards script lines) f.1 f.0 → (0 < length lines → f.0.place.line < length lines)
+    → slice_get lines f.0.place.line ≡ o → AreMarksOf script lines kind (mark_at f o)
+mark_is script [] kind f None its own within on = none_lacks script kind
+mark_is script (line ∷ lines) kind f None its own within on = absurd (got_inside (line ∷ lines) f.0.place.line (within (omega arith)) on)
+mark_is script lines kind f (Some line) its own within on = (its, record { caret = f.0; own = own; on = on; column = refl; width = refl })
 
 marks_are : (script : List ℕ) (lines : List SourceLine) (kind : Option FaultKind) (fault : Option (Caret × FaultKind))
     → IfSome fault (λ f. (kind ≡ Some f.1) × IsCaretOf (first_card script lines) (further_cards script lines) f.1 f.0)
+    → IfSome fault (λ f. 0 < length lines → f.0.place.line < length lines) → (fault ≡ None → LacksMark script lines kind)
     → AreMarksOf script lines kind (marks_in lines fault)
-marks_are script lines kind None h = tt
-marks_are script lines kind (Some f) h = mark_is script lines kind f (slice_get lines f.0.place.line) h.0 h.1 refl
+marks_are script lines kind None h within lacks = lacks refl
+marks_are script lines kind (Some f) h within lacks = mark_is script lines kind f (slice_get lines f.0.place.line) h.0 h.1 within refl
 
 no_marks : (script : List ℕ) (kind : Option FaultKind) (fault : Option (Caret × FaultKind)) → AreMarksOf script [] kind (marks_in [] fault)
-no_marks script kind None = tt
-no_marks script kind (Some f) = tt
+no_marks script kind None = none_lacks script kind
+no_marks script kind (Some f) = none_lacks script kind
 
 pub page_marks : (script : List ℕ) (kind : Option FaultKind) (page : ListingPage) → IsPage script kind page
     → AreMarksOf script (shown_of page) kind (marks_in (shown_of page) page.fault)
 page_marks script kind page h =
     elim (either_of (is_some page.last) page.lines.lines.items) [
-      | inl e ↦ subst (λ ls. AreMarksOf script ls kind (marks_in ls page.fault)) (sym e) (marks_are script page.lines.lines.items kind page.fault h.marks)
+      | inl e ↦ subst (λ ls. AreMarksOf script ls kind (marks_in ls page.fault)) (sym e) (marks_are script page.lines.lines.items kind page.fault h.marks h.on (λ none. subst (λ ls. LacksMark script ls kind) e (h.lacks none)))
       | inr e ↦ subst (λ ls. AreMarksOf script ls kind (marks_in ls page.fault)) (sym e) (no_marks script kind page.fault)
     ]

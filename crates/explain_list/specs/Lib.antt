@@ -1,3 +1,5 @@
-pub mod Checked
+pub mod Answers
+pub mod Causes
+pub mod Rows
 pub mod Listing
 pub mod Pages

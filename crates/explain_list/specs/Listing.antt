@@ -1,17 +1,20 @@
 -- A listing: the lines of a script with what is said of them, and among them each answer of a run.
-use Rattle.std.specs.Prelude.{◌≡◌, ◌<◌, ◌≤◌, ◌⊎◌, ℕ, Bool, false, List, [], ◌∷◌, ◌++◌, length, take, drop, codes}
+use Rattle.std.specs.Prelude.{◌≡◌, ◌<◌, ◌≤◌, ◌⊎◌, ℕ, Bool, true, false, List, [], ◌∷◌, ◌++◌, length, take, drop, codes}
 use Rattle.std.specs.Prelude.{nat_lt, not, ◌||◌, if◌then◌else◌, Option, Some, None, Result, Ok, Err}
 use Rattle.std.specs.Io.KnownBytes.{Appends}
 use Rattle.std.specs.List.{flat_map, AllByRecursion}
-use Rattle.listed_text.specs.Json.{json_head}
-use Rattle.listed_text.specs.declared.json.Form.{Form}
-use Rattle.listed_text.specs.declared.json.Form.TheVariants as form
+use Rattle.explain_text.specs.Json.{json_head}
+use Rattle.explain_text.specs.declared.json.Form.{Form}
+use Rattle.explain_text.specs.declared.json.Form.TheVariants as form
 use Rattle.macro_operands.specs.declared.faults.FaultKind.{FaultKind}
 use Rattle.macro_statements.specs.Requests.{Act, Asked}
 use Rattle.vsm_model.specs.declared.limits.Settings.{Settings}
 use Rattle.vsm_model.specs.declared.replies.Reply.{Reply}
+use Rattle.vsm_model.specs.Regions.{settings_valid}
 use Rattle.vsm_model.specs.Names.{NamedState}
 use Rattle.vsm_model.specs.Standing.{Bench, Standing, nothing_stands}
+use Rattle.bench_core.specs.NewFault.{NewFault}
+use Rattle.bench_core.specs.NewFault.TheVariants as new_fault
 use Rattle.script_steps.specs.Output.{Marked, alone_now, bytes_shown, refusals, responded, stands_after}
 use Rattle.script_steps.specs.Responses.{is_refused}
 use Rattle.script_steps.specs.Script.{NoFeed}
@@ -21,13 +24,11 @@ use Rattle.script_steps.specs.declared.session.Session.{Session}
 use Rattle.script_steps.specs.declared.session.TooLong.{TooLong}
 use Rattle.text_output.specs.Writing.{AppendsFront, Holds, Puts}
 use Rattle.text_output.specs.declared.writing.Gathered.{Gathered}
-use Rattle.explain_list.specs.Checked.{AreAnswers, IsNewFault, Checked}
-use Rattle.statement_faults.specs.declared.lines.SourceLine.{SourceLine}
-use Rattle.explain_list.specs.Pages.{AreAllLines, AreFirstLines, AreLinesOf, Follow, IsLineStart, fault_told, open_of}
-use Rattle.list_rows.specs.Answers.{AreNotes, AreNotesOf, Notes, told_in}
-use Rattle.list_rows.specs.Rows.{AreMarksOf, IsLineAt, IsRowOf, Row, lines_of, marks_of, row_in}
-use Rattle.explain_list.specs.declared.checking.Shown.{Shown}
-use Rattle.explain_list.specs.declared.checking.Shown.TheVariants as shown
+use Rattle.explain_faults.specs.declared.lines.SourceLine.{SourceLine}
+use Rattle.explain_list.specs.Pages.{AreAllLines, AreFirstLines, AreLinesOf, Follow, IsLineStart, fault_of, fault_told}
+use Rattle.explain_list.specs.Pages.{one_of, open_of}
+use Rattle.explain_list.specs.Answers.{AreNotes, AreNotesOf, Notes, told_in}
+use Rattle.explain_list.specs.Rows.{AreMarksOf, IsLineAt, IsRowOf, Row, lines_of, marks_of, row_in}
 use Rattle.explain_list.specs.declared.faults.ListFault.{ListFault}
 use Rattle.explain_list.specs.declared.faults.ListFault.TheVariants as fault
 use Rattle.explain_list.specs.declared.layouts.Layout.{Layout}
@@ -54,11 +55,6 @@ page_text layout script settings m kept bytes rows told last notes =
 pub data Item : Type 0 where
   paged : List Row → Option Marked → SourceLine → Notes → Item
 
--- the answers of a page
-abbrev pub one_of : Option Marked → List Marked
-one_of None = []
-one_of (Some m) = m ∷ []
-
 abbrev pub answers_in : List Item → List Marked
 answers_in [] = []
 answers_in (paged rows m last notes ∷ items) = one_of m ++ answers_in items
@@ -66,15 +62,6 @@ answers_in (paged rows m last notes ∷ items) = one_of m ++ answers_in items
 abbrev pub lines_in : List Item → List SourceLine
 lines_in [] = []
 lines_in (paged rows m last notes ∷ items) = lines_of rows ++ lines_in items
-
--- the fault that is answered in a page, if any
-abbrev pub fault_asked : Result Asked FaultKind → Option FaultKind
-fault_asked (Ok asked) = None
-fault_asked (Err kind) = Some kind
-
-abbrev pub fault_of : Option Marked → Option FaultKind
-fault_of None = None
-fault_of (Some m) = fault_asked m.answer.what
 
 -- The rows of a page, and the caret among them, if any: that of the fault that is answered, over the lines of the page.
 abbrev pub ArePageRows : List ℕ → Option FaultKind → List Row → Type 0
@@ -221,10 +208,26 @@ abbrev pub IsRest : List ℕ → Result ℕ TooLong → Type 0
 IsRest script (Ok at) = (at ≤ length script) × NoFeed (drop at script)
 IsRest script (Err e) = Unit {0}
 
+-- Why there is no bench.
+abbrev pub IsNewFault : Settings → NewFault → Type 0
+IsNewFault settings new_fault.Setting = settings_valid settings ≡ false
+IsNewFault settings new_fault.NoMemory = settings_valid settings ≡ true
+
+-- The answers are those of the whole script, or those up to a byte that passes a bound.
+abbrev pub AreAnswers : Settings → List ℕ → List Marked → Type 0
+AreAnswers settings script answers = Ended settings script answers ⊎ PassesBound settings script answers
+
+-- A prefix of a listing went out, of all answers and lines or of first ones.
+abbrev pub ListsFront : Layout → Settings → List ℕ → Option (List ℕ) → Option (List ℕ) → Type 0
+ListsFront layout settings script at_first now =
+    (answers : List Marked) × (lines : List SourceLine) × AreAnswers settings script answers
+    × (AreAllLines script lines ⊎ AreFirstLines lines)
+    × AppendsFrontOfListing layout settings script at_first now answers lines
+
 -- A listing of the script is written, with all its lines, and each answer of a run over it and no other; and it says
 -- whether one of them is a refusal. If a byte passes a bound, all answers before it are written, with first lines of
--- the script: those of an open statement are missing, and how many there are isn't said. After a write fault a prefix
--- of one went out.
+-- the script: those of an open statement are missing, and how many there are isn't said. After a write fault, or if
+-- memory runs out for the text of a cause, a prefix of one went out.
 abbrev pub Listed : Layout → Settings → List ℕ → Option (List ℕ) → Option (List ℕ) → Result Bool ListFault → Type 0
 Listed layout settings script at_first now (Ok wrong) =
     (answers : List Marked) × (lines : List SourceLine) × Ended settings script answers × AreAllLines script lines
@@ -233,10 +236,8 @@ Listed layout settings script at_first now (Ok wrong) =
 Listed layout settings script at_first now (Err fault.TooLong) =
     (answers : List Marked) × (lines : List SourceLine) × PassesBound settings script answers × AreFirstLines lines
     × AppendsListing layout settings script at_first now answers lines
-Listed layout settings script at_first now (Err fault.Write) =
-    (answers : List Marked) × (lines : List SourceLine) × AreAnswers settings script answers
-    × (AreAllLines script lines ⊎ AreFirstLines lines)
-    × AppendsFrontOfListing layout settings script at_first now answers lines
+Listed layout settings script at_first now (Err fault.Write) = ListsFront layout settings script at_first now
+Listed layout settings script at_first now (Err fault.Memory) = ListsFront layout settings script at_first now
 Listed layout settings script at_first now (Err (fault.New f)) = IsNewFault settings f × Appends at_first now []
 
 -- A page is put, with these lines of the script among its rows and this answer, if any, to a statement that asked for
@@ -256,8 +257,3 @@ PutsFilePage layout script old new before after =
     (rows : List Row) × ArePageRows script None rows × (lines_of rows ≡ [])
     × Puts old new before after
     (if is_written layout None then flat_map (row_in layout.form script) rows else [])
-
--- What is shown of a script.
-abbrev pub Shows : Settings → List ℕ → Shown → Option (List ℕ) → Option (List ℕ) → Result Bool ListFault → Type 0
-Shows settings script (shown.Listing layout) at_first now r = Listed layout settings script at_first now r
-Shows settings script (shown.Check name) at_first now r = Checked settings script name.now at_first now r

@@ -3,16 +3,18 @@ use Rattle.std.specs.Prelude.{◌≡◌, ◌==◌, ◌≤◌, ◌<◌, ◌⊎◌
 use Rattle.std.specs.Prelude.{◌+◌, slice_get, slice_index, IfSome, Option, Some, None, Result, Ok, Err}
 use Rattle.std.specs.List.{AllByRecursion}
 use Rattle.macro_operands.specs.declared.faults.FaultKind.{FaultKind}
+use Rattle.macro_statements.specs.Requests.{Asked}
+use Rattle.script_steps.specs.Output.{Marked}
 use Rattle.script_steps.specs.declared.responses.Response.{Response}
 use Rattle.script_steps.specs.declared.responses.Response.TheVariants as response
 use Rattle.script_steps.specs.declared.session.TooLong.{TooLong}
 use Rattle.script_steps.specs.declared.steps.Step.{Step}
-use Rattle.statement_faults.specs.Places.{first_card, further_cards, IsCaretOf}
-use Rattle.statement_faults.specs.declared.carets.Caret.{Caret}
-use Rattle.statement_faults.specs.declared.lines.SourceLine.{SourceLine}
-use Rattle.statement_faults.specs.declared.roles.Brought.{Brought}
-use Rattle.statement_faults.specs.declared.roles.Brought.TheVariants as brought
-use Rattle.list_rows.specs.Rows.{IsLineAt, Mark, mark_of}
+use Rattle.explain_faults.specs.Places.{first_card, further_cards, IsCaretOf}
+use Rattle.explain_faults.specs.declared.carets.Caret.{Caret}
+use Rattle.explain_faults.specs.declared.lines.SourceLine.{SourceLine}
+use Rattle.explain_faults.specs.declared.roles.Brought.{Brought}
+use Rattle.explain_faults.specs.declared.roles.Brought.TheVariants as brought
+use Rattle.explain_list.specs.Rows.{IsLineAt, LacksMark, Mark, mark_of}
 use Rattle.explain_list.specs.declared.pages.ListingPage.{ListingPage}
 
 -- The line that was taken in a step, without its line feed.
@@ -68,12 +70,30 @@ abbrev pub fault_told : Option (ℕ × Response) → Option FaultKind
 fault_told None = None
 fault_told (Some told) = fault_answered told.1
 
--- And if a fault is shown, it's this one, and its caret is that of the statement over them.
+-- The answers of a page, and the fault that is answered in it, if any.
+abbrev pub one_of : Option Marked → List Marked
+one_of None = []
+one_of (Some m) = m ∷ []
+
+abbrev pub fault_asked : Result Asked FaultKind → Option FaultKind
+fault_asked (Ok asked) = None
+fault_asked (Err kind) = Some kind
+
+abbrev pub fault_of : Option Marked → Option FaultKind
+fault_of None = None
+fault_of (Some m) = fault_asked m.answer.what
+
+-- And if a fault is shown, it's this one, and its caret is that of the statement over them, on one of them; and if none
+-- is, this one has none.
 pub record IsPage (script : List ℕ) (kind : Option FaultKind) (page : ListingPage) : Type 0 where
   pub lines : AreLinesOf script page
   pub marks :
       IfSome page.fault (λ f. (kind ≡ Some f.1)
       × IsCaretOf (first_card script page.lines.lines.items) (further_cards script page.lines.lines.items) f.1 f.0)
+  pub on :
+      IfSome page.fault
+      (λ f. 0 < length page.lines.lines.items → f.0.place.line < length page.lines.lines.items)
+  pub lacks : page.fault ≡ None → LacksMark script (shown_of page) kind
 
 -- The fault that is shown, if its caret is on the line at this place among them;
 abbrev pub fault_at : Option (Caret × FaultKind) → ℕ → Option (Caret × FaultKind)

@@ -11,4 +11,6 @@ pub enum ListFault {
     TooLong,
     /// A write failed, or took no bytes.
     Write,
+    /// No memory is left for the text of a cause.
+    Memory,
 }

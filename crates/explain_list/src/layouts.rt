@@ -2,7 +2,7 @@
 ghost use Rattle.std.specs.Prelude.{◌≡◌};
 ghost use Rattle.explain_list.specs.Listing.{is_written, tells_refusal};
 
-use listed_text::Form;
+use explain_text::Form;
 use script_steps::Response;
 
 /// How a listing is written.

@@ -2,13 +2,20 @@
 #![tactic(auto)]
 
 mod answers;
-mod checking;
+pub mod causes;
 mod faults;
+mod laws;
 mod layouts;
 mod listing;
-mod pages;
-mod places;
+mod notes;
+mod objects;
+mod options;
+mod page_texts;
+pub mod pages;
+pub mod rows;
+pub mod words;
 
-pub use checking::{Shown, list};
 pub use faults::ListFault;
+pub use laws::rows_begin_as_no_answer;
 pub use layouts::Layout;
+pub use listing::{list, rest_from};

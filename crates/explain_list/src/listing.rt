@@ -1,30 +1,32 @@
 //! The listing of a script: its lines, and after each statement its answer.
-ghost use Rattle.std.specs.Prelude.{◌≡◌, ◌≤◌, ℕ, List, Ok, Option, length, drop};
+ghost use Rattle.std.specs.Prelude.{◌≡◌, ◌≤◌, ℕ, List, Ok, Err, Option, length, drop};
 ghost use Rattle.vsm_model.specs.declared.limits.Settings.{Settings};
 ghost use Rattle.bench_core.specs.Stands.{IsNew};
 ghost use Rattle.script_steps.specs.Script.{NoFeed};
 ghost use Rattle.text_output.specs.Writing.{Puts};
 ghost use Rattle.explain_list.specs.Listing.{Lists, ListsLine, ListsLines, ListsRest, IsNext, IsRest, Stops, Listed};
+ghost use Rattle.explain_list.specs.Listing.{ListsFront};
 ghost use Rattle.explain_list.specs.Listing.{PutsFilePage, head_in};
 ghost use Rattle.explain_list.specs.Pages.{line_of};
 
-use crate::answers::{put_ending, put_page};
+use crate::answers::Answered;
 use crate::faults::ListFault;
 use crate::layouts::{Layout, is_written};
+use crate::page_texts::{put_ending, put_page};
 use crate::pages::{ListingPage, rest_line};
+use crate::rows::put_file_row;
 use bench_core::Bench;
-use list_rows::{Answered, put_file_row};
-use listed_text::{Form, put_head};
+use explain_faults::lines::SourceLine;
+use explain_text::{Form, put_head};
 use macro_reader::Request;
 use script_steps::{Session, Step, TooLong, Watch};
-use statement_faults::lines::SourceLine;
 use std::alloc::Global;
-use std::io::Write;
-use text_output::Gathered;
+use std::io::{ErrorKind, Write};
+use text_output::{Gathered, WriteFault};
 use vsm_model::Settings;
 
 /// The bytes of a script from a place on.
-pub(crate) fn rest_from(script: &[u8], at: usize) -> &[u8]
+pub fn rest_from(script: &[u8], at: usize) -> &[u8]
     requires { at ≤ length script.now }
     ensures { result.now ≡ drop at script.now }
 {
@@ -106,6 +108,18 @@ fn list_lines<W: Write, P: Watch>(
     Ok(at)
 }
 
+/// Why there is no listing if a write failed: one of the text of a cause fails if no memory is left.
+fn write_fault(fault: WriteFault) -> ListFault
+    ensures { (layout : Layout) (settings : Settings) (script : List ℕ) (at_first now : Option (List ℕ))
+        → ListsFront layout settings script at_first now
+        → Listed layout settings script at_first now (Err result) }
+{
+    match fault.error.kind() {
+        ErrorKind::OutOfMemory => ListFault::Memory,
+        _ => ListFault::Write,
+    }
+}
+
 /// Hands out what is listed up to a byte that passes a bound.
 fn stop<W: Write>(gathered: &mut Gathered, writer: &mut W) -> Result<bool, ListFault>
     ensures { (layout : Layout) (settings : Settings) (first : Option (List ℕ)) (script : List ℕ)
@@ -114,7 +128,7 @@ fn stop<W: Write>(gathered: &mut Gathered, writer: &mut W) -> Result<bool, ListF
 {
     match gathered.hand_out(writer) {
         Ok(()) => Err(ListFault::TooLong),
-        Err(_) => Err(ListFault::Write),
+        Err(fault) => Err(write_fault(fault)),
     }
 }
 
@@ -163,7 +177,7 @@ fn list_end<W: Write>(
     drop(ending);
     match gathered.hand_out(writer) {
         Ok(()) => Ok(is_refused),
-        Err(_) => Err(ListFault::Write),
+        Err(fault) => Err(write_fault(fault)),
     }
 }
 
@@ -219,17 +233,18 @@ fn put_file_page<W: Write>(layout: Layout, gathered: &mut Gathered, writer: &mut
 fn list_on<W: Write, P: Watch>(
     layout: Layout,
     alloc: Global,
+    settings: Settings,
     bench: Bench,
     script: &[u8],
     out: &mut W,
     watch: &mut P,
 ) -> Result<bool, ListFault>
-    ensures { (settings : Settings) → IsNew settings (Ok bench)
+    ensures { IsNew settings (Ok bench)
         → Listed layout settings script.now (W.contents out.old) (W.contents out.new) result }
 {
     let mut session = Session::new(bench);
     let mut gathered = Gathered::new();
-    let mut page = ListingPage::new(alloc);
+    let mut page = ListingPage::new(alloc, settings);
     put_listing_head(layout.form, &mut gathered, out);
     put_file_page(layout, &mut gathered, out, script);
     match list_lines(
@@ -250,11 +265,12 @@ fn list_on<W: Write, P: Watch>(
 }
 
 /// Lists a script: each line with its number, after the last line of a statement its answer, and below the first
-/// operand that is wrong a caret with what is expected. Lines that aren't carried out have an `x`.
+/// operand that is wrong a caret with what is expected; lines that aren't carried out have an `x`; or an object of JSON
+/// for each of these except lines; all, or only refused statements.
 ///
 /// Gives whether a statement was refused or faulty. `TooLong` follows the answers before that line, and their lines;
-/// `Write` a prefix of the listing; `New` with nothing written.
-pub(crate) fn listing<W: Write, P: Watch>(
+/// `Write` and `Memory` a prefix of the listing; `New` with nothing written.
+pub fn list<W: Write, P: Watch>(
     alloc: Global,
     script: &[u8],
     settings: Settings,
@@ -265,7 +281,7 @@ pub(crate) fn listing<W: Write, P: Watch>(
     ensures { Listed layout settings script.now (W.contents out.old) (W.contents out.new) result }
 {
     match Bench::new(alloc, settings) {
-        Ok(bench) => list_on(layout, alloc, bench, script, out, watch),
+        Ok(bench) => list_on(layout, alloc, settings, bench, script, out, watch),
         Err(fault) => Err(ListFault::New(fault)),
     }
 }

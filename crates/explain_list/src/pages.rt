@@ -1,23 +1,27 @@
 //! The lines of the statement that is shown, and what each of them is.
-ghost use Rattle.std.specs.Prelude.{◌≡◌, ◌≤◌, ◌+◌, ◌∷◌, ◌++◌, ℕ, List, [], None, Some, true, false, IfSome};
+ghost use Rattle.std.specs.Prelude.{◌≡◌, ◌≤◌, ◌<◌, ◌+◌, ◌∷◌, ◌++◌, ℕ, List, [], None, Some, true, false};
+ghost use Rattle.std.specs.Prelude.{IfSome};
 ghost use Rattle.std.specs.Prelude.{length, option_map, take};
 ghost use Rattle.macro_statements.specs.Requests.{asked_in};
 ghost use Rattle.vsm_model.specs.declared.limits.Settings.{Settings};
 ghost use Rattle.script_steps.specs.Output.{Marked};
 ghost use Rattle.script_steps.specs.Steps.{AsksStep, StepsOver, TakesStep};
 ghost use Rattle.script_steps.specs.Taken.{Took};
-ghost use Rattle.statement_faults.specs.Places.{first_card, further_cards, IsCaretOf};
+ghost use Rattle.explain_faults.specs.Places.{first_card, further_cards, IsCaretOf};
 ghost use Rattle.explain_list.specs.Pages.{AreLinesOf, IsPage, IsPageAfter, TakesLast, TakesLine, line_of};
 ghost use Rattle.explain_list.specs.Pages.{IsLineStart, fault_answered, fault_at, fault_in, fault_told, open_of};
 ghost use Rattle.explain_list.specs.Pages.{shown_of};
-ghost use Rattle.list_rows.specs.Rows.{IsLineAt, IsLineBefore};
+ghost use Rattle.explain_list.specs.Rows.{IsLineAt, IsLineBefore, LacksMark};
 
+use crate::options::other_option;
+use explain_faults::carets::{Caret, own_caret};
+use explain_faults::lines::{OpenLines, SourceLine};
+use explain_faults::roles::{Brought, Role, role_of};
+use explain_faults::stands::{LineStand, stand_of};
 use macro_reader::Request;
 use script_steps::{Ending, FaultKind, ReaderState, Response, Session, Step, TooLong};
-use statement_faults::carets::{Caret, own_caret};
-use statement_faults::lines::{OpenLines, SourceLine};
-use statement_faults::roles::{Brought, Role, role_of};
 use std::alloc::Global;
+use vsm_model::Settings;
 
 /// What a line with this answer brings.
 fn answer_of(response: &Response) -> Brought
@@ -64,7 +68,7 @@ fn is_next(before: &SourceLine, line: &SourceLine) -> bool
 }
 
 /// What follows the last line feed of a script, as a line after this many.
-pub(crate) fn rest_line(lines: u32, script: &[u8], at: usize) -> SourceLine
+pub fn rest_line(lines: u32, script: &[u8], at: usize) -> SourceLine
     ensures number { lines ≤ 1048576 → result.number ≡ lines + 1 }
     ensures start { result.start ≡ at }
     ensures end { result.end ≡ length script.now }
@@ -78,8 +82,11 @@ pub(crate) fn rest_line(lines: u32, script: &[u8], at: usize) -> SourceLine
 
 /// The place at which the statement of these lines is wrong, if it has this fault.
 fn place_of(script: &[u8], lines: &OpenLines, kind: FaultKind) -> Option<(Caret, FaultKind)>
-    ensures { IfSome result (λ f. (kind ≡ f.1) × IsCaretOf (first_card script.now lines.now.lines.items)
+    ensures own { IfSome result (λ f. (kind ≡ f.1) × IsCaretOf (first_card script.now lines.now.lines.items)
         (further_cards script.now lines.now.lines.items) f.1 f.0) }
+    ensures on { IfSome result (λ f. 0 < length lines.now.lines.items
+        → f.0.place.line < length lines.now.lines.items) }
+    ensures lacks { result ≡ None → LacksMark script.now lines.now.lines.items (Some kind) }
 {
     match own_caret(script, lines.as_slice(), kind) {
         Some(caret) => Some((caret, kind)),
@@ -89,18 +96,22 @@ fn place_of(script: &[u8], lines: &OpenLines, kind: FaultKind) -> Option<(Caret,
 
 /// The place at which the statement of these lines is wrong, if it has a fault.
 fn fault_of(script: &[u8], lines: &OpenLines, brought: Brought) -> Option<(Caret, FaultKind)>
-    ensures { IfSome result (λ f. (fault_in brought ≡ Some f.1) × IsCaretOf
+    ensures own { IfSome result (λ f. (fault_in brought ≡ Some f.1) × IsCaretOf
         (first_card script.now lines.now.lines.items) (further_cards script.now lines.now.lines.items) f.1 f.0) }
+    ensures on { IfSome result (λ f. 0 < length lines.now.lines.items
+        → f.0.place.line < length lines.now.lines.items) }
+    ensures lacks { result ≡ None → LacksMark script.now lines.now.lines.items (fault_in brought) }
 {
     match brought {
         Brought::Fault(kind) => place_of(script, lines, kind),
-        Brought::Nothing | Brought::Answer => None,
+        Brought::Nothing => None,
+        Brought::Answer => None,
     }
 }
 
 /// What a listing carries from line to line: the lines of the statement that is open, or those that are shown.
 #[derive(Drop)]
-pub(crate) struct ListingPage {
+pub struct ListingPage {
     lines: OpenLines,
     /// What the last of the lines is, if they are shown.
     last: Option<Role>,
@@ -110,12 +121,17 @@ pub(crate) struct ListingPage {
     current: Option<SourceLine>,
     /// The line before that.
     before: Option<SourceLine>,
+    /// Whether a statement is among the lines so far.
+    has_begun: bool,
+    /// What the script runs under.
+    settings: Settings,
     /// Gives memory for the text of a cause.
     alloc: Global,
 }
 
 impl ListingPage {
-    pub(crate) fn new(alloc: Global) -> ListingPage
+    /// No lines yet; memory for causes comes from here, and this is what the script runs under.
+    pub fn new(alloc: Global, settings: Settings) -> ListingPage
         ensures lines { (script : List ℕ) → AreLinesOf script result }
         ensures open { open_of result ≡ [] }
     {
@@ -125,12 +141,14 @@ impl ListingPage {
             fault: None,
             current: None,
             before: None,
+            has_begun: false,
+            settings,
             alloc,
         }
     }
 
     /// Gives memory for the text of a cause.
-    pub(crate) fn alloc(&self) -> Global {
+    pub fn alloc(&self) -> Global {
         self.alloc
     }
 
@@ -158,8 +176,8 @@ impl ListingPage {
         self.fault = fault_of(script, &self.lines, brought);
     }
 
-    /// Takes a line, after those that aren't shown yet.
-    fn keep(&mut self, line: SourceLine)
+    /// Takes a line of this role, after those that aren't shown yet.
+    fn keep(&mut self, line: SourceLine, role: Role)
         ensures lines { (script : List ℕ) → IsLineAt script line → AreLinesOf script self.old
             → AreLinesOf script self.new }
         ensures whole { length (open_of self.old) ≤ 9
@@ -171,6 +189,7 @@ impl ListingPage {
         self.lines.push(line);
         self.before = self.current;
         self.current = Some(line);
+        self.has_begun = self.has_begun || role.is_of_statement();
     }
 
     /// Whether there is no room for another line.
@@ -199,7 +218,7 @@ impl ListingPage {
             → shown_of self.new ++ open_of self.new ≡ open_of self.old ++ line ∷ [] }
         ensures room { length (open_of self.new) ≤ 9 }
     {
-        self.keep(line);
+        self.keep(line, role);
         if self.shows(role, brought) {
             self.show(script, role, brought);
         }
@@ -230,7 +249,7 @@ impl ListingPage {
     }
 
     /// The lines that are shown.
-    pub(crate) fn lines(&self) -> &[SourceLine]
+    pub fn lines(&self) -> &[SourceLine]
         ensures { result.now ≡ shown_of self.now }
     {
         match self.last {
@@ -257,8 +276,23 @@ impl ListingPage {
         }
     }
 
+    /// Where this line asks for other options than the settings, if no statement is before it.
+    fn options_on(&self, script: &[u8], line: &SourceLine) -> Option<usize> {
+        if self.has_begun {
+            None
+        } else {
+            other_option(line.bytes(script), &self.settings)
+        }
+    }
+
+    /// What one of these lines is, and what is before and after it.
+    pub fn stand(&self, script: &[u8], line: &SourceLine, index: usize) -> LineStand {
+        let options = self.options_on(script, line);
+        stand_of(script, self.lines(), index, self.role(index), options)
+    }
+
     /// Why this one of the lines isn't carried out, if it isn't: the line before it.
-    pub(crate) fn lost(&self, index: usize, line: &SourceLine) -> Option<SourceLine>
+    pub fn lost(&self, index: usize, line: &SourceLine) -> Option<SourceLine>
         ensures { (script : List ℕ) → AreLinesOf script self.now
             → IfSome result (IsLineBefore script line.now) }
     {
@@ -270,7 +304,7 @@ impl ListingPage {
     }
 
     /// The fault whose caret is on this one of the lines.
-    pub(crate) fn fault_on(&self, index: usize) -> Option<(&Caret, FaultKind)>
+    pub fn fault_on(&self, index: usize) -> Option<(&Caret, FaultKind)>
         ensures { option_map (λ f. (f.0.now, f.1)) result ≡ fault_at self.now.fault index }
     {
         match &self.fault {
@@ -297,7 +331,7 @@ impl ListingPage {
     }
 
     /// Takes a last line without a line feed.
-    pub(crate) fn take_last(
+    pub fn take_last(
         &mut self,
         script: &[u8],
         line: SourceLine,
@@ -322,7 +356,7 @@ impl ListingPage {
     }
 
     /// Shows the statement that is open at the end: the lines that aren't shown yet.
-    pub(crate) fn show_open(&mut self, script: &[u8], ending: &Ending)
+    pub fn show_open(&mut self, script: &[u8], ending: &Ending)
         ensures page { AreLinesOf script.now self.old
             → IsPage script.now (fault_told ending.now.open_statement) self.new }
         ensures whole { shown_of self.new ≡ open_of self.old }
@@ -340,7 +374,7 @@ impl ListingPage {
 
     /// Takes the line that begins at a place of the script, as `Session::take_line_into` does, and shows what it
     /// answers.
-    pub(crate) fn take_line(
+    pub fn take_line(
         &mut self,
         session: &mut Session,
         script: &[u8],

@@ -20,20 +20,10 @@ use Rattle.vsm_model.specs.Step.{step, causes, answered}
 use Rattle.vsm_machine.specs.Machine.{Why, served, statement_step, service_asked, name_asked, family_asked, or_abend}
 use Rattle.script_steps.specs.Output.{Marked, alone_now, responded, stands_with, stands_after}
 use Rattle.script_steps.specs.Responses.{response_to}
-use Rattle.explain_report.specs.Changes.{may_change}
-use Rattle.explain_report.specs.OverTime.{HaveSameAreas}
+use Rattle.explain_report.specs.Changes.{HaveSameAreas, may_change}
 
-pub same : (s : State) → HaveSameAreas s s
+same : (s : State) → HaveSameAreas s s
 same s = record { subpools = refl; sight = refl; pages = refl; taken = refl; cell_pools = refl }
-
-pub both : (s t u : State) → HaveSameAreas s t → HaveSameAreas t u → HaveSameAreas s u
-both s t u h k = record {
-  subpools = h.subpools ∙ k.subpools;
-  sight = h.sight ∙ k.sight;
-  pages = h.pages ∙ k.pages;
-  taken = h.taken ∙ k.taken;
-  cell_pools = h.cell_pools ∙ k.cell_pools;
-}
 
 -- ---- a store changes only bytes, and no other service is answered as a store is
 

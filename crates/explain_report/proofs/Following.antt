@@ -1,7 +1,6 @@
 -- What a report says of its statement, and the rows over time, after another answer.
 use Rattle.std.proofs.Common.{◌≡◌, ◌≤◌, ℕ, zero, suc, arith, nat_le, Bool, true, false, true≢false, not, ◌&&◌, if◌then◌else◌, List, [], ◌∷◌, ◌++◌, length, take, drop, Option, Some, None, is_some, Result, Ok, Err, refl, sym, ap, subst, ◌∙◌, append_assoc}
 use Rattle.std.proofs.lemmas.List.{append-nil, take-append-drop}
-use Rattle.listed_text.specs.declared.json.Form.{Form}
 use Rattle.macro_operands.specs.declared.faults.FaultKind.{FaultKind}
 use Rattle.macro_statements.specs.Requests.{Act, Asked, act, peek, map_asked, back, forward}
 use Rattle.vsm_model.specs.declared.limits.Settings.{Settings}
@@ -20,16 +19,16 @@ use Rattle.script_steps.specs.declared.session.Session.{Session}
 use Rattle.script_steps.proofs.Standings.{call_text, reading_text, stands_push, stands_for}
 use Rattle.text_output.specs.Writing.{Puts}
 use Rattle.text_output.specs.declared.writing.Gathered.{Gathered}
-use Rattle.explain_report.specs.Changes.{may_change}
-use Rattle.report_rows.specs.Figures.{seen_in}
-use Rattle.explain_report.specs.OverTime.{AreFiguresAt, AreFiguresAfter, AreRows, ArePut, IsOverTime}
-use Rattle.explain_report.specs.Reports.{IsAnsweredEnd, IsReached}
+use Rattle.explain_report.specs.Changes.{AreFiguresAfter, may_change}
+use Rattle.explain_report.specs.Figures.{IsFiguresOf, seen_in}
+use Rattle.explain_report.specs.OverTime.{AreRows, ArePut, IsOverTime}
+use Rattle.explain_report.specs.Reports.{IsAnsweredEnd, IsRead, IsReached}
 use Rattle.explain_report.specs.Said.{state_after, said_of, said_from, said_last, said_with}
-use Rattle.report_rows.specs.Forms.{figures_in, heading_in}
-use Rattle.explain_report.specs.Texts.{told_row}
+use Rattle.explain_report.specs.Csv.{heading_text, row_text, told_row}
 use Rattle.explain_report.specs.declared.runs.LastAnswer.{LastAnswer}
-use Rattle.report_rows.specs.declared.times.Figures.{Figures}
-use Rattle.explain_report.proofs.Alike.{alike, both}
+use Rattle.explain_report.specs.declared.times.Figures.{Figures}
+use Rattle.explain_report.proofs.Alike.{alike}
+use Rattle.explain_report.proofs.SameAreas.{figures_are}
 
 -- ---- the first line
 
@@ -71,16 +70,16 @@ module _ (settings : Settings) where
 
 -- ---- the rows
 
-module _ (settings : Settings) (form : Form) (seen : Option (ℕ × ℕ)) where
-  rows_push : (l : Standing Act Reply) (xs ys : List Marked) (a b : List ℕ) → AreRows settings form seen l xs a → AreRows settings form seen (stands_all settings l xs) ys b
-      → AreRows settings form seen l (xs ++ ys) (a ++ b)
-  rows_push l [] ys a b none rows = subst (λ x. AreRows settings form seen l ys (x ++ b)) (sym none) rows
+module _ (settings : Settings) (seen : Option (ℕ × ℕ)) where
+  rows_push : (l : Standing Act Reply) (xs ys : List Marked) (a b : List ℕ) → AreRows settings seen l xs a → AreRows settings seen (stands_all settings l xs) ys b
+      → AreRows settings seen l (xs ++ ys) (a ++ b)
+  rows_push l [] ys a b none rows = subst (λ x. AreRows settings seen l ys (x ++ b)) (sym none) rows
   rows_push l (m ∷ xs) ys a b (f, more, same, at, text, rest) rows = (
     f,
     more ++ b,
     same,
     at,
-    ap (λ x. x ++ b) text ∙ append_assoc (figures_in form m.answer.line f) more b,
+    ap (λ x. x ++ b) text ∙ append_assoc (row_text m.answer.line f) more b,
     rows_push (stands_after settings l m) xs ys more b rest rows,
   )
 
@@ -89,40 +88,40 @@ module _ (settings : Settings) (form : Form) (seen : Option (ℕ × ℕ)) where
 
   -- the figures after one answer
   figures_one : (answers : List Marked) (m : Marked) (told : ℕ × Response) (state : State) (before after : Figures)
-      → AreFiguresAt settings (state_after settings answers) before → told.1 ≡ responded settings (stands_all settings nothing_stands answers) m.unmet m.answer.what
+      → IsFiguresOf settings (state_after settings answers) before → told.1 ≡ responded settings (stands_all settings nothing_stands answers) m.unmet m.answer.what
       → state ≡ state_after settings (answers ++ m ∷ []) → AreFiguresAfter settings state before (Some told) after
-      → (b : Bool) → may_change told.1 ≡ b → AreFiguresAt settings (state_after settings (answers ++ m ∷ [])) after
+      → (b : Bool) → may_change told.1 ≡ b → IsFiguresOf settings (state_after settings (answers ++ m ∷ [])) after
   figures_one answers m told state before after at response is h true changes =
-      subst (λ s. AreFiguresAt settings s after) is (h.changed changes)
-  figures_one answers m told state before after (s, under, areas, of) response is h false changes =
+      subst (λ s. IsFiguresOf settings s after) is (h.changed changes)
+  figures_one answers m told state before after at response is h false changes =
       let l = stands_all settings nothing_stands answers in
       let stays = alike settings l m (ap may_change (sym response) ∙ changes) in
-      subst (λ t. AreFiguresAt settings t after) (sym (after_one answers m))
-      (subst (AreFiguresAt settings (alone_now settings (stands_after settings l m)).storage) (sym (h.unchanged changes)) (s, under, both _ _ _ areas stays, of))
+      subst (λ t. IsFiguresOf settings t after) (sym (after_one answers m))
+      (subst (IsFiguresOf settings (alone_now settings (stands_after settings l m)).storage) (sym (h.unchanged changes)) (figures_are settings _ _ stays before at))
 
   -- Rows are put for further answers: none, or one.
   pub put_more : (first old now : Option (List ℕ)) (g h : Gathered) (answers more : List Marked) (told : Option (ℕ × Response)) (state : State) (before after : Figures)
-      → ArePut settings form seen first old g answers before → Brings settings answers more told → state ≡ state_after settings (answers ++ more)
-      → Puts old now g h (told_row form told after) → AreFiguresAfter settings state before told after → ArePut settings form seen first now h (answers ++ more) after
+      → ArePut settings seen first old g answers before → Brings settings answers more told → state ≡ state_after settings (answers ++ more)
+      → Puts old now g h (told_row told after) → AreFiguresAfter settings state before told after → ArePut settings seen first now h (answers ++ more) after
   put_more first old now g h answers [] None state before after p brings is puts h_after =
-      subst (λ xs. ArePut settings form seen first now h xs after) (sym (append-nil answers)) (record {
+      subst (λ xs. ArePut settings seen first now h xs after) (sym (append-nil answers)) (record {
         text = p.text ++ [];
-        over = subst (IsOverTime settings form seen answers) (sym (append-nil p.text)) p.over;
+        over = subst (IsOverTime settings seen answers) (sym (append-nil p.text)) p.over;
         held = puts first p.text p.held;
-        figures = subst (AreFiguresAt settings (state_after settings answers)) (sym h_after) p.figures;
+        figures = subst (IsFiguresOf settings (state_after settings answers)) (sym h_after) p.figures;
         same = ap seen_in h_after ∙ p.same;
       })
   put_more first old now g h answers (m ∷ []) (Some told) state before after p (line, response) is puts h_after =
       let l = stands_all settings nothing_stands answers in
       let at = figures_one answers m told state before after p.figures response is h_after (may_change told.1) refl in
       let same = h_after.seen ∙ p.same in
-      let row = figures_in form told.0 after in
-      let one : AreRows settings form seen l (m ∷ []) row = (
+      let row = row_text told.0 after in
+      let one : AreRows settings seen l (m ∷ []) row = (
         after,
         [],
         same,
-        subst (λ s. AreFiguresAt settings s after) (after_one answers m) at,
-        ap (λ n. figures_in form n after) line ∙ sym (append-nil _),
+        subst (λ s. IsFiguresOf settings s after) (after_one answers m) at,
+        ap (λ n. row_text n after) line ∙ sym (append-nil _),
         refl,
       ) in
       record {
@@ -130,7 +129,7 @@ module _ (settings : Settings) (form : Form) (seen : Option (ℕ × ℕ)) where
         over = (
           p.over.0 ++ row,
           rows_push nothing_stands answers (m ∷ []) p.over.0 row p.over.1 one,
-          ap (λ x. x ++ row) p.over.2 ∙ append_assoc (heading_in form (is_some seen)) p.over.0 row,
+          ap (λ x. x ++ row) p.over.2 ∙ append_assoc (heading_text (is_some seen)) p.over.0 row,
         );
         held = puts first p.text p.held;
         figures = at;
@@ -192,6 +191,10 @@ quiet_end settings script answers e h last open_one =
     subst (Ended settings script)
     (ap (λ xs. (answers ++ h.more) ++ xs) second ∙ append-nil (answers ++ h.more) ∙ ap (λ xs. answers ++ xs) first ∙ append-nil answers) h.ended
 
+-- what a session took was read
+abbrev pub read_by : (settings : Settings) (given : List ℕ) (answers : List Marked) (s : Session) → Took settings given answers s → IsRead settings given answers s.reader
+read_by settings given answers s h = record { lines = h.lines; rest = h.rest; within = h.within; told = h.told; met = h.led.met }
+
 -- what the end brings, unless it brings nothing
 pub answered_end : (settings : Settings) (script : List ℕ) (answers : List Marked) (s : Session) (e : Ending) → Took settings script answers s → (h : EndBrings settings script answers e)
     → not (is_some e.last) && not (is_some e.open_statement) ≡ false → IsAnsweredEnd settings script ((answers ++ h.more) ++ h.also)
@@ -201,8 +204,8 @@ answered_end settings script answers s e took h some = go (is_some e.last) (is_s
       let one = one_brought settings answers h.more e.last h.last is_last in
       record {
         older = answers;
-        before = s;
-        took = took;
+        before = s.reader;
+        read = read_by settings script answers s took;
         first = one.0;
         others = h.also;
         brought = ap (λ xs. (answers ++ xs) ++ h.also) one.1 ∙ append_assoc answers (one.0 ∷ []) h.also;
@@ -212,8 +215,8 @@ answered_end settings script answers s e took h some = go (is_some e.last) (is_s
       let one = one_brought settings (answers ++ h.more) h.also e.open_statement h.unended is_open in
       record {
         older = answers;
-        before = s;
-        took = took;
+        before = s.reader;
+        read = read_by settings script answers s took;
         first = one.0;
         others = [];
         brought = (λ i. (answers ++ none i) ++ one.1 i) ∙ append_assoc answers [] (one.0 ∷ []);

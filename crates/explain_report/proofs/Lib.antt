@@ -1,7 +1,16 @@
--- Lemmas on reports and rows.
-pub mod Lines
-pub mod Alike
+-- Lemmas on the figures of cell pools, tallies of runs, reports and rows.
+mod ExtentSums
+mod PoolRows
+mod PoolSums
+mod TallyLemmas
+mod Few
+mod Areas
+mod Remaining
+mod Lines
+mod Alike
 pub mod Following
 pub mod Told
 pub mod Reached
-pub mod SameAreas
+mod SameAreas
+mod Shown
+mod Existing

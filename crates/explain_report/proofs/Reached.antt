@@ -1,6 +1,6 @@
 -- Lines that are taken up to the end of a statement.
-use Rattle.std.proofs.Common.{◌≡◌, ℕ, ◌+◌, ◌<◌, ◌≤◌, inl, inr, true, false, ◌&&◌, List, [], ◌++◌, is_some, take, drop, Option, Some, None, unwrap_or, refl, sym, ap, ◌∙◌, arith}
-use Rattle.std.proofs.lemmas.Bool.{le-leb, cases_lt}
+use Rattle.std.proofs.Common.{◌≡◌, ℕ, ◌+◌, ◌<◌, ◌≤◌, inl, inr, true, false, nat_le, Bool, ◌&&◌, true≢false, List, [], ◌++◌, is_some, take, drop, Option, Some, None, unwrap_or, refl, sym, ap, ◌∙◌, arith}
+use Rattle.std.proofs.lemmas.Bool.{le-leb, leb-true, cases_lt}
 use Rattle.std.proofs.lemmas.List.{take-append-drop}
 use Rattle.vsm_model.specs.declared.limits.Settings.{Settings}
 use Rattle.script_steps.specs.Output.{Marked}
@@ -13,7 +13,7 @@ use Rattle.explain_report.specs.Reports.{IsReached, EndsStatement, HasLine, IsRe
 use Rattle.explain_report.specs.Said.{is_between}
 use Rattle.explain_report.specs.declared.faults.ReportFault.{ReportFault}
 use Rattle.explain_report.specs.declared.runs.LastAnswer.{LastAnswer}
-use Rattle.explain_report.proofs.Following.{one_brought}
+use Rattle.explain_report.proofs.Following.{one_brought, read_by}
 use Rattle.explain_report.proofs.Lines.{all_lines, feeds_both, next_feeds, plain_feeds, took_feeds}
 
 -- at first no line was taken
@@ -29,6 +29,16 @@ lines_more settings script at next s t answers others line h k =
     let a = took_feeds settings (take at script) answers s h in
     let b = took_feeds settings (take next script) others t k in
     omega (arith, a, b, next_feeds script at next line)
+
+-- which is far enough, and leaves none open
+both_true : (a b : Bool) → a && b ≡ true → (a ≡ true) × (b ≡ true)
+both_true true b e = (refl, e)
+both_true false b e = absurd (true≢false (sym e))
+
+ends_far : (n : ℕ) (s : Session) → ends_by n s ≡ true → (n ≤ s.lines) × (is_between s.reader.mode ≡ true)
+ends_far n s e =
+    let both = both_true (nat_le n s.lines) (is_between s.reader.mode) e in
+    (leb-true n s.lines both.0, both.1)
 
 stays_open : (n : ℕ) (s : Session) → ends_by n s ≡ false → n ≤ s.lines → is_between s.reader.mode ≡ false
 stays_open n s none far = sym (ap (λ b. b && is_between s.reader.mode) (le-leb n s.lines far)) ∙ none
@@ -48,49 +58,52 @@ one_open settings script n at next s t last more line h told step none =
         | inl less ↦ h.open_since k from (omega (arith, size, less))
         | inr not_less ↦
             let is : t.lines ≡ k = omega (arith, to, not_less) in
-            (next, older ++ e.0, t, e.2.took, is, stays_open n t none (omega (arith, from, is)))
+            (next, older ++ e.0, t.reader, read_by settings (take next script) (older ++ e.0) t e.2.took, sym e.2.took.count ∙ is, stays_open n t none (omega (arith, from, is)))
       ];
     }
 
 -- and the line after which no statement is open
 pub statement_ends : (settings : Settings) (script : List ℕ) (n at next : ℕ) (s t : Session) (last more : LastAnswer) → IsLineOf script at next → (h : StaysOpen settings script n at s last)
     → (further : List Marked) (told : Option (ℕ × Response)) → Brings settings h.reaches.0 further told → IsReached settings (take next script) t more (h.reaches.0 ++ further)
-    → is_some told ≡ true → ends_by n t ≡ true → (e : EndsStatement settings script n t (h.reaches.0 ++ further)) × (e.next ≡ next)
+    → is_some told ≡ true → ends_by n t ≡ true → EndsStatement settings script n next (h.reaches.0 ++ further)
 statement_ends settings script n at next s t last more line h further told brings r some ends =
     let older = h.reaches.0 in
     let size = lines_more settings script at next s t older (older ++ further) line h.reaches.1.took r.took in
     let one = one_brought settings older further told brings some in
-    let e : EndsStatement settings script n t (older ++ further) = record {
+    let end = ends_far n t ends in
+    record {
       at = at;
-      next = next;
       line = line;
       older = older;
-      before = s;
-      took = h.reaches.1.took;
+      before = s.reader;
+      read = read_by settings (take at script) older s h.reaches.1.took;
       newest = one.0;
       brought = ap (λ xs. older ++ xs) one.1;
-      took_on = r.took;
-      ends = ends;
-      first = λ k from to. h.open_since k from (omega (arith, size, to));
-    } in
-    (e, refl)
+      after = t.reader;
+      read_on = read_by settings (take next script) (older ++ further) t r.took;
+      far = omega (arith, end.0, r.took.count);
+      ends = end.1;
+      first = λ k from to. h.open_since k from (omega (arith, size, r.took.count, to));
+    }
 
 -- which may bring no answer
 pub line_is_silent : (settings : Settings) (script : List ℕ) (n at next : ℕ) (s t : Session) (last more : LastAnswer) (f : ReportFault) → IsLineOf script at next
     → (h : StaysOpen settings script n at s last) → Took settings (take next script) h.reaches.0 t → ends_by n t ≡ true → f ≡ silence s.reader.mode → IsSilentLine settings script n f
 line_is_silent settings script n at next s t last more f line h took ends why =
     let size = lines_more settings script at next s t h.reaches.0 h.reaches.0 line h.reaches.1.took took in
+    let end = ends_far n t ends in
     record {
       at = at;
       next = next;
       line = line;
       answers = h.reaches.0;
-      before = s;
-      took = h.reaches.1.took;
-      after = t;
-      took_on = took;
-      ends = ends;
-      first = λ k from to. h.open_since k from (omega (arith, size, to));
+      before = s.reader;
+      read = read_by settings (take at script) h.reaches.0 s h.reaches.1.took;
+      after = t.reader;
+      read_on = read_by settings (take next script) h.reaches.0 t took;
+      far = omega (arith, end.0, took.count);
+      ends = end.1;
+      first = λ k from to. h.open_since k from (omega (arith, size, took.count, to));
       why = why;
     }
 

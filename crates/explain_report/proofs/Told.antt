@@ -10,7 +10,7 @@ use Rattle.vsm_model.specs.Standing as standing
 use Rattle.vsm_model.specs.State.{State}
 use Rattle.storage_core.specs.Meaning.{state_of, settings_of}
 use Rattle.storage_core.specs.declared.storage.Storage.{Storage}
-use Rattle.listed_text.specs.declared.json.Form.{Form}
+use Rattle.explain_text.specs.declared.json.Form.{Form}
 use Rattle.macro_reader.specs.Scripts.{Mode, awaiting, dropping, gathering}
 use Rattle.script_steps.specs.Output.{Marked}
 use Rattle.script_steps.specs.Taken.{Ended}
@@ -19,18 +19,17 @@ use Rattle.text_output.specs.declared.writing.Gathered.{Gathered}
 use Rattle.text_output.proofs.Gathering.{empty_holds}
 use Rattle.text_output.proofs.Known.{appends_nothing}
 use Rattle.explain_report.specs.Changes.{IsAsBefore}
-use Rattle.report_rows.specs.Figures.{IsFiguresOf, seen_in}
-use Rattle.explain_report.specs.OverTime.{ArePut, HaveSameAreas, IsAsBeforeAt, ReportsOverTime, RowsAll}
+use Rattle.explain_report.specs.Figures.{IsFiguresOf, seen_in}
+use Rattle.explain_report.specs.OverTime.{ArePut, RowsAll, WritesRows}
 use Rattle.explain_report.specs.Reports.{AreReported, HasLine, IsAnsweredEnd, lacks_answer, IsReport, IsSilent, IsSilentEnd, IsSilentLine, ReachesLine, Reports, WritesReport, silence}
 use Rattle.explain_report.specs.Said.{state_after, said_last}
-use Rattle.report_rows.specs.Forms.{heading_in}
+use Rattle.explain_report.specs.Csv.{heading_text}
 use Rattle.explain_report.specs.declared.faults.ReportFault.{ReportFault}
 use Rattle.explain_report.specs.declared.faults.ReportFault.TheVariants as fault
 use Rattle.explain_report.specs.declared.runs.LastAnswer.{LastAnswer}
 use Rattle.script_steps.specs.declared.responses.Response.{Response}
 use Rattle.script_steps.specs.declared.session.Session.{Session}
-use Rattle.report_rows.specs.declared.times.Figures.{Figures}
-use Rattle.explain_report.proofs.Alike.{same}
+use Rattle.explain_report.specs.declared.times.Figures.{Figures}
 
 -- A text went out: all of it, with this outcome; or a prefix of it.
 abbrev pub WentOut : Option (List ℕ) → Option (List ℕ) → Result (Unit {0}) ReportFault → List ℕ → Result (Unit {0}) ReportFault → Type 0
@@ -72,6 +71,7 @@ reported settings script form line answers state said first now (Err fault.TooLo
 reported settings script form line answers state said first now (Err (fault.NoLine n)) are is last h = absurd h
 reported settings script form line answers state said first now (Err fault.Aside) are is last h = absurd h
 reported settings script form line answers state said first now (Err fault.Dropped) are is last h = absurd h
+reported settings script form line answers state said first now (Err (fault.NoTask t)) are is last h = absurd h
 
 -- a line that has no answer, so that nothing is written
 pub silent : (settings : Settings) (script : List ℕ) (form : Form) (line : Option ℕ) (now : Option (List ℕ)) (m : Mode) (f : ReportFault) → f ≡ silence m
@@ -86,38 +86,39 @@ silent settings script form line now (gathering number card j count) f e h =
 pub silent_end : (settings : Settings) (script : List ℕ) (form : Form) (line : Option ℕ) (now : Option (List ℕ)) (f : ReportFault) → is_some line ≡ true → HasLine settings script line
     → (h : IsSilentEnd settings script f) → Reports settings script form line now now (Err f)
 silent_end settings script form None now f some has h = absurd (true≢false (sym some))
-silent_end settings script form (Some n) now f some has h = silent settings script form (Some n) now h.before.reader.mode f h.why (inr (has, h))
+silent_end settings script form (Some n) now f some has h = silent settings script form (Some n) now h.before.mode f h.why (inr (has, h))
 
 -- ---- over time
 
-pub over_told : (settings : Settings) (script : List ℕ) (form : Form) (seen : Option (ℕ × ℕ)) (first mid now : Option (List ℕ)) (g : Gathered) (outcome r : Result (Unit {0}) ReportFault)
-    → RowsAll settings form seen first mid g script outcome → ((text : List ℕ) → Holds first mid g text → WentOut first now outcome text r)
-    → ReportsOverTime settings script form seen first now r
-over_told settings script form seen first mid now g (Ok u) r (answers, text, ended, over, held) f = go (f text held) where
-  go : WentOut first now (Ok u) text r → ReportsOverTime settings script form seen first now r
-  go (inl (e, out)) = subst (ReportsOverTime settings script form seen first now) (sym e) (text, (answers, ended, over), out)
-  go (inr (e, out)) = subst (ReportsOverTime settings script form seen first now) (sym e) (text, inl (answers, ended, over), out)
-over_told settings script form seen first mid now g (Err fault.TooLong) r (answers, text, past, over, held) f = go (f text held) where
-  go : WentOut first now (Err fault.TooLong) text r → ReportsOverTime settings script form seen first now r
-  go (inl (e, out)) = subst (ReportsOverTime settings script form seen first now) (sym e) (text, (answers, past, over), out)
-  go (inr (e, out)) = subst (ReportsOverTime settings script form seen first now) (sym e) (text, inr (answers, past, over), out)
-over_told settings script form seen first mid now g (Err fault.Write) r h f = absurd h
-over_told settings script form seen first mid now g (Err (fault.New x)) r h f = absurd h
-over_told settings script form seen first mid now g (Err (fault.NoLine n)) r h f = absurd h
-over_told settings script form seen first mid now g (Err fault.Aside) r h f = absurd h
-over_told settings script form seen first mid now g (Err fault.Dropped) r h f = absurd h
+pub over_told : (settings : Settings) (script : List ℕ) (seen : Option (ℕ × ℕ)) (first mid now : Option (List ℕ)) (g : Gathered) (outcome r : Result (Unit {0}) ReportFault)
+    → RowsAll settings seen first mid g script outcome → ((text : List ℕ) → Holds first mid g text → WentOut first now outcome text r)
+    → WritesRows settings script seen first now r
+over_told settings script seen first mid now g (Ok u) r (answers, text, ended, over, held) f = go (f text held) where
+  go : WentOut first now (Ok u) text r → WritesRows settings script seen first now r
+  go (inl (e, out)) = subst (WritesRows settings script seen first now) (sym e) (text, (answers, ended, over), out)
+  go (inr (e, out)) = subst (WritesRows settings script seen first now) (sym e) (text, inl (answers, ended, over), out)
+over_told settings script seen first mid now g (Err fault.TooLong) r (answers, text, past, over, held) f = go (f text held) where
+  go : WentOut first now (Err fault.TooLong) text r → WritesRows settings script seen first now r
+  go (inl (e, out)) = subst (WritesRows settings script seen first now) (sym e) (text, (answers, past, over), out)
+  go (inr (e, out)) = subst (WritesRows settings script seen first now) (sym e) (text, inr (answers, past, over), out)
+over_told settings script seen first mid now g (Err fault.Write) r h f = absurd h
+over_told settings script seen first mid now g (Err (fault.New x)) r h f = absurd h
+over_told settings script seen first mid now g (Err (fault.NoLine n)) r h f = absurd h
+over_told settings script seen first mid now g (Err fault.Aside) r h f = absurd h
+over_told settings script seen first mid now g (Err fault.Dropped) r h f = absurd h
+over_told settings script seen first mid now g (Err (fault.NoTask t)) r h f = absurd h
 
 -- the heading is put, and the figures are those of a new bench
-pub heading_put : (settings : Settings) (form : Form) (seen : Option (ℕ × ℕ)) (first now : Option (List ℕ)) (g h : Gathered) (bench : Bench) (s : Storage) (f : Figures)
-    → IsNew settings (Ok bench) → state_of s ≡ (bench_of bench).present.storage → settings_of s ≡ settings_in bench → IsFiguresOf s f → seen_in f ≡ seen
-    → IsEmpty g → Puts first now g h (heading_in form (is_some seen)) → ArePut settings form seen first now h [] f
-heading_put settings form seen first now g h bench s f (valid, at, under, small) state is_under of is_seen empty puts =
+pub heading_put : (settings : Settings) (seen : Option (ℕ × ℕ)) (first now : Option (List ℕ)) (g h : Gathered) (bench : Bench) (s : Storage) (f : Figures)
+    → IsNew settings (Ok bench) → state_of s ≡ (bench_of bench).present.storage → settings_of s ≡ settings_in bench → IsFiguresOf (settings_of s) (state_of s) f → seen_in f ≡ seen
+    → IsEmpty g → Puts first now g h (heading_text (is_some seen)) → ArePut settings seen first now h [] f
+heading_put settings seen first now g h bench s f (valid, at, under, small) state is_under of is_seen empty puts =
     let begins : state_of s ≡ state_after settings [] = state ∙ ap (λ (b : standing.Bench NamedState). b.present.storage) at in
     record {
-      text = heading_in form (is_some seen);
-      over = ([], refl, sym (append-nil (heading_in form (is_some seen))));
+      text = heading_text (is_some seen);
+      over = ([], refl, sym (append-nil (heading_text (is_some seen))));
       held = puts first [] (empty_holds first first g [] empty (appends_nothing first));
-      figures = (s, is_under ∙ under, subst (HaveSameAreas (state_of s)) begins (same (state_of s)), of);
+      figures = subst (λ x. IsFiguresOf settings x f) begins (subst (λ x. IsFiguresOf x (state_of s) f) (is_under ∙ under) of);
       same = is_seen;
     }
 
@@ -130,6 +131,7 @@ stopped settings script form n s last now fault.Dropped h = (inl h, appends_noth
 stopped settings script form n s last now fault.Write h = absurd h
 stopped settings script form n s last now (fault.New x) h = absurd h
 stopped settings script form n s last now (fault.NoLine k) h = absurd h
+stopped settings script form n s last now (fault.NoTask t) h = absurd h
 
 pub silent_line : (settings : Settings) (script : List ℕ) (n : ℕ) (s : Session) (last : LastAnswer) (m : Mode) (f : ReportFault) → f ≡ silence m
     → IsSilentLine settings script n f → ReachesLine settings script n s last (Err f)
@@ -140,9 +142,6 @@ silent_line settings script n s last (gathering number card j count) f e h =
 
 -- the figures of a storage that stands for this state
 pub changed_at : (settings : Settings) (state : State) (s : Storage) (before after : Figures) (r : Response) → settings_of s ≡ settings → state_of s ≡ state
-    → IsAsBefore s before r after → IsAsBeforeAt settings state before r after
-changed_at settings state s before after r under is h = record {
-  changed = λ e. (s, under, subst (HaveSameAreas (state_of s)) is (same (state_of s)), h.changed e);
-  unchanged = h.unchanged;
-  seen = h.seen;
-}
+    → IsAsBefore (settings_of s) (state_of s) before r after → IsAsBefore settings state before r after
+changed_at settings state s before after r under is h =
+    subst (λ x. IsAsBefore x state before r after) under (subst (λ x. IsAsBefore (settings_of s) x before r after) is h)

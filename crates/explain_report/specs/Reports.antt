@@ -1,17 +1,18 @@
 -- A report of a script: what it says of its statement, and the table of the storage after a statement.
 use Rattle.std.specs.Prelude.{◌≡◌, ◌<◌, ◌≤◌, ◌⊎◌, ℕ, nat_le, Bool, true, false, not, ◌&&◌, List, [], ◌∷◌}
-use Rattle.std.specs.Prelude.{◌++◌, length, take, is_some}
+use Rattle.std.specs.Prelude.{◌++◌, length, map, take, is_some}
 use Rattle.std.specs.Prelude.{drop, Option, Some, None, Result, Ok, Err}
 use Rattle.std.specs.Io.KnownBytes.{Appends}
-use Rattle.bench_core.specs.Stands.{IsNew}
 use Rattle.vsm_model.specs.declared.limits.Settings.{Settings}
 use Rattle.vsm_model.specs.State.{State}
-use Rattle.listed_text.specs.declared.json.Form.{Form}
-use Rattle.macro_reader.specs.Scripts.{Mode, awaiting, dropping, gathering}
-use Rattle.script_steps.specs.Output.{Marked}
+use Rattle.explain_text.specs.declared.json.Form.{Form}
+use Rattle.macro_reader.specs.Scripts.{IsBehind, Kept, Mode, awaiting, dropping, gathering}
+use Rattle.vsm_model.specs.Standing.{nothing_stands}
+use Rattle.script_steps.specs.Output.{AllMet, Marked}
 use Rattle.script_steps.specs.Steps.{IsLineOf}
-use Rattle.script_steps.specs.Script.{NoFeed}
-use Rattle.script_steps.specs.Taken.{Took, Ended, PassesBound, Brings}
+use Rattle.script_steps.specs.Run.{IsNewFault}
+use Rattle.script_steps.specs.Script.{NoFeed, Within, columns}
+use Rattle.script_steps.specs.Taken.{Took, Ended, PassesBound, Brings, answers_of}
 use Rattle.script_steps.specs.declared.responses.Response.{Response}
 use Rattle.script_steps.specs.declared.session.Session.{Session}
 use Rattle.script_steps.specs.declared.session.TooLong.{TooLong}
@@ -19,8 +20,8 @@ use Rattle.script_steps.specs.declared.steps.Step.{Step}
 use Rattle.text_output.specs.Writing.{AppendsFront}
 use Rattle.explain_report.specs.Lines.{feeds, is_open, line_count}
 use Rattle.explain_report.specs.Said.{state_after, said_last, said_by, is_between}
-use Rattle.explain_report.specs.Texts.{head_in, said_in}
-use Rattle.report_rows.specs.Tables.{IsTable}
+use Rattle.explain_report.specs.SaidTexts.{head_in, said_in}
+use Rattle.explain_report.specs.Tables.{IsTable}
 use Rattle.explain_report.specs.declared.faults.ReportFault.{ReportFault}
 use Rattle.explain_report.specs.declared.faults.ReportFault.TheVariants as fault
 use Rattle.explain_report.specs.declared.runs.LastAnswer.{LastAnswer}
@@ -76,37 +77,41 @@ abbrev pub IsRest : List ℕ → Result ℕ TooLong → Type 0
 IsRest script (Ok at) = IsRestAt script at
 IsRest script (Err e) = Unit {0}
 
+-- Bytes of a script have these answers, and this is what a reader keeps then.
+pub record IsRead (settings : Settings) (given : List ℕ) (answers : List Marked) (kept : Kept) : Type 0 where
+  pub lines : List (List ℕ)
+  pub rest : List ℕ
+  pub within : Within given lines rest
+  pub told : IsBehind (map columns lines) (answers_of answers) kept
+  pub met : AllMet settings nothing_stands answers
+
 -- A statement is open after this number of lines of the script.
 abbrev pub IsOpenAfter : Settings → List ℕ → ℕ → Type 0
 IsOpenAfter settings script k =
-    (at : ℕ) × (answers : List Marked) × (s : Session) × Took settings (take at script) answers s
-    × (s.lines ≡ k) × (is_between s.reader.mode ≡ false)
+    (at : ℕ) × (answers : List Marked) × (kept : Kept) × (r : IsRead settings (take at script) answers kept)
+    × (length r.lines ≡ k) × (is_between kept.mode ≡ false)
 
--- The session took at least this many lines, and no statement is open.
-abbrev pub ends_by : ℕ → Session → Bool
-ends_by n s = nat_le n s.lines && is_between s.reader.mode
-
--- The session took the script up to the end of the statement that line n is of: to the first line from n on after which
--- no statement is open. That line brought the last answer.
-pub record EndsStatement (settings : Settings) (script : List ℕ) (n : ℕ) (s : Session) (answers : List Marked) :
-    Type 0 where
+-- The statement that line n is of ends before this place: after the first line from n on after which no statement is
+-- open. These are the answers up to there, and that line brought the last.
+pub record EndsStatement (settings : Settings) (script : List ℕ) (n next : ℕ) (answers : List Marked) : Type 0 where
   pub at : ℕ
-  pub next : ℕ
   pub line : IsLineOf script at next
   pub older : List Marked
-  pub before : Session
-  pub took : Took settings (take at script) older before
+  pub before : Kept
+  pub read : IsRead settings (take at script) older before
   pub newest : Marked
   pub brought : answers ≡ older ++ newest ∷ []
-  pub took_on : Took settings (take next script) answers s
-  pub ends : ends_by n s ≡ true
-  pub first : (k : ℕ) → n ≤ k → k < s.lines → IsOpenAfter settings script k
+  pub after : Kept
+  pub read_on : IsRead settings (take next script) answers after
+  pub far : n ≤ length read_on.lines
+  pub ends : is_between after.mode ≡ true
+  pub first : (k : ℕ) → n ≤ k → k < length read_on.lines → IsOpenAfter settings script k
 
 -- The end of the script brought at least one of these answers.
 pub record IsAnsweredEnd (settings : Settings) (script : List ℕ) (answers : List Marked) : Type 0 where
   pub older : List Marked
-  pub before : Session
-  pub took : Took settings script older before
+  pub before : Kept
+  pub read : IsRead settings script older before
   pub first : Marked
   pub others : List Marked
   pub brought : answers ≡ older ++ first ∷ others
@@ -133,27 +138,32 @@ pub record IsSilentLine (settings : Settings) (script : List ℕ) (n : ℕ) (f :
   pub next : ℕ
   pub line : IsLineOf script at next
   pub answers : List Marked
-  pub before : Session
-  pub took : Took settings (take at script) answers before
-  pub after : Session
-  pub took_on : Took settings (take next script) answers after
-  pub ends : ends_by n after ≡ true
-  pub first : (k : ℕ) → n ≤ k → k < after.lines → IsOpenAfter settings script k
-  pub why : f ≡ silence before.reader.mode
+  pub before : Kept
+  pub read : IsRead settings (take at script) answers before
+  pub after : Kept
+  pub read_on : IsRead settings (take next script) answers after
+  pub far : n ≤ length read_on.lines
+  pub ends : is_between after.mode ≡ true
+  pub first : (k : ℕ) → n ≤ k → k < length read_on.lines → IsOpenAfter settings script k
+  pub why : f ≡ silence before.mode
 
 -- or the end of the script, which has the line, brings none.
 pub record IsSilentEnd (settings : Settings) (script : List ℕ) (f : ReportFault) : Type 0 where
   pub answers : List Marked
-  pub before : Session
-  pub took : Took settings script answers before
+  pub before : Kept
+  pub read : IsRead settings script answers before
   pub ended : Ended settings script answers
-  pub why : f ≡ silence before.reader.mode
+  pub why : f ≡ silence before.mode
+
+-- The session took at least this many lines, and no statement is open.
+abbrev pub ends_by : ℕ → Session → Bool
+ends_by n s = nat_le n s.lines && is_between s.reader.mode
 
 -- Lines are taken up to the end of the statement of line n; or all that have a line feed, if the script ends before.
 abbrev pub ReachesLine : Settings → List ℕ → ℕ → Session → LastAnswer → Result TakenTo ReportFault → Type 0
 ReachesLine settings script n s last (Ok (taken_to.Statement next)) =
-    (answers : List Marked) × (e : EndsStatement settings script n s answers) × (e.next ≡ next)
-    × (said_by last ≡ said_last settings answers)
+    (answers : List Marked) × IsReached settings (take next script) s last answers
+    × EndsStatement settings script n next answers
 ReachesLine settings script n s last (Ok (taken_to.LastFeed at)) = StaysOpen settings script n at s last
 ReachesLine settings script n s last (Err fault.TooLong) = Passes settings script
 ReachesLine settings script n s last (Err fault.Aside) = IsSilentLine settings script n fault.Aside
@@ -188,7 +198,7 @@ abbrev pub AreReported : Settings → List ℕ → Option ℕ → List Marked �
 AreReported settings script None answers = Ended settings script answers
 AreReported settings script (Some n) answers =
     (HasLine settings script (Some n) × Ended settings script answers × IsAnsweredEnd settings script answers)
-    ⊎ ((s : Session) × EndsStatement settings script n s answers)
+    ⊎ ((next : ℕ) × EndsStatement settings script n next answers)
 
 -- The line that is asked for has no answer.
 abbrev pub IsSilent : Settings → List ℕ → Option ℕ → ReportFault → Type 0
@@ -209,7 +219,7 @@ Reports settings script form line at_first now (Ok u) =
     (text : List ℕ) × IsReportOf settings script form line text × Appends at_first now text
 Reports settings script form line at_first now (Err fault.Write) =
     (text : List ℕ) × IsReportOf settings script form line text × AppendsFront at_first now text
-Reports settings script form line at_first now (Err (fault.New f)) = IsNew settings (Err f) × Appends at_first now []
+Reports settings script form line at_first now (Err (fault.New f)) = IsNewFault settings f × Appends at_first now []
 Reports settings script form line at_first now (Err fault.TooLong) = Passes settings script × Appends at_first now []
 Reports settings script form line at_first now (Err (fault.NoLine n)) =
     LacksLine script line n × Appends at_first now []
@@ -217,3 +227,4 @@ Reports settings script form line at_first now (Err fault.Aside) =
     IsSilent settings script line fault.Aside × Appends at_first now []
 Reports settings script form line at_first now (Err fault.Dropped) =
     IsSilent settings script line fault.Dropped × Appends at_first now []
+Reports settings script form line at_first now (Err (fault.NoTask task)) = ⊥

@@ -8,7 +8,7 @@ use Rattle.vsm_model.specs.Standing.{Standing, nothing_stands}
 use Rattle.vsm_model.specs.State.{State}
 use Rattle.script_steps.specs.Output.{Marked, alone_now, bytes_shown, responded, stands_after, stands_all}
 use Rattle.script_steps.specs.declared.responses.Response.{Response}
-use Rattle.explain_report.specs.Texts.{said_of_answer}
+use Rattle.explain_report.specs.SaidTexts.{said_of_answer}
 use Rattle.explain_report.specs.declared.runs.LastAnswer.{LastAnswer}
 
 -- the storage after these answers: that of the statements in effect, run alone

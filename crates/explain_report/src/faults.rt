@@ -18,4 +18,6 @@ pub enum ReportFault {
     Aside,
     /// The line is dropped: it follows a line that breaks a rule of continuation, whose column 72 isn't blank.
     Dropped,
+    /// The task exists neither before the first statement nor after any.
+    NoTask(u8),
 }

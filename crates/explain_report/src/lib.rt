@@ -2,10 +2,23 @@
 #![tactic(auto)]
 
 mod changes;
+mod csv;
 mod faults;
+mod forms;
 pub mod laws;
+mod objects;
+mod pool_figures;
+mod pool_rows;
+mod pool_sums;
+mod rows;
 mod runs;
 mod said;
+mod tables;
+mod tallies;
+mod tasks;
+mod times;
+mod values;
+mod walks;
 
 pub use changes::over_time;
 pub use faults::ReportFault;

@@ -19,11 +19,12 @@ ghost use Rattle.macro_reader.specs.Scripts.{Mode};
 ghost use Rattle.explain_report.specs.declared.faults.ReportFault.TheVariants as fault;
 
 use crate::faults::ReportFault;
+use crate::forms::put_table;
 use crate::said::put_said;
+use crate::times::moment_of;
 use arrayvec::ArrayVec;
 use bench_core::Bench;
-use listed_text::Form;
-use report_rows::{moment_of, put_table};
+use explain_text::Form;
 use script_steps::{Ending, NumberedResponse, ReaderState, Session, Step, TooLong, Watch};
 use std::alloc::Global;
 use std::io::Write;

@@ -2,10 +2,10 @@
 ghost use Rattle.std.specs.Prelude.{◌≡◌, ◌++◌};
 ghost use Rattle.text_output.specs.Writing.{Puts};
 ghost use Rattle.script_steps.specs.Responses.{response_text};
-ghost use Rattle.explain_report.specs.Texts.{after_json, answer_field, head_in, none_json, said_in, said_json};
-ghost use Rattle.explain_report.specs.Texts.{said_of_answer, said_text};
+ghost use Rattle.explain_report.specs.SaidTexts.{after_json, answer_field, head_in, none_json, said_in, said_json};
+ghost use Rattle.explain_report.specs.SaidTexts.{said_of_answer, said_text};
 
-use listed_text::{Form, put_name, put_number_field, put_object_end, put_object_start};
+use explain_text::{Form, put_name, put_number_field, put_object_end, put_object_start};
 use script_steps::{NumberedResponse, Response, put_response};
 use std::io::Write;
 use text_output::{Gathered, put_decimal};
@@ -17,7 +17,7 @@ fn put_head<W: Write>(gathered: &mut Gathered, writer: &mut W, form: Form)
 {
     match form {
         Form::Text => (),
-        Form::Json => listed_text::put_head(gathered, writer, b"report"),
+        Form::Json => explain_text::put_head(gathered, writer, b"report"),
     }
 }
 

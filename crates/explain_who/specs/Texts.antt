@@ -1,21 +1,25 @@
--- The text that goes out: what is asked for and read, and the state of statements.
-use Rattle.std.specs.Prelude.{ℕ, ◌-◌, ◌*◌, ◌/◌, Bool, false, not, ◌==◌, if◌then◌else◌}
-use Rattle.std.specs.Prelude.{Option, Some, None, List, [], ◌++◌, codes}
+-- The text that goes out: what is asked for, read and found.
+use Rattle.std.specs.Prelude.{ℕ, ◌+◌, ◌-◌, ◌*◌, ◌/◌, min, Bool, false, not, ◌==◌, nat_le, if◌then◌else◌}
+use Rattle.std.specs.Prelude.{Option, Some, None, List, [], ◌++◌, codes, drop, take}
+use Rattle.arrayvec.specs.ArrayVec.{ArrayVec}
 use Rattle.std.specs.Fmt.{decimal}
 use Rattle.script_steps.specs.Responses.{shown_text}
 use Rattle.vsm_model.specs.declared.limits.Settings.{Settings}
 use Rattle.vsm_model.specs.Map.{line}
 use Rattle.vsm_model.specs.Regions.{in_a_region}
 use Rattle.vsm_model.specs.Texts.{hexadecimal}
-use Rattle.taken_places.specs.Texts.{subpool_text, taken_text}
-use Rattle.line_changes.specs.Texts.{counted, line_text}
-use Rattle.line_changes.specs.Who.{Difference}
-use Rattle.line_changes.specs.declared.holdings.Holding.{Holding}
-use Rattle.line_changes.specs.declared.holdings.Runs.{Runs}
-use Rattle.line_changes.specs.declared.readings.Subject.{Subject}
-use Rattle.line_changes.specs.declared.readings.Subject.TheVariants as asked
-use Rattle.line_changes.specs.declared.readings.Seen.{Seen}
-use Rattle.line_changes.specs.declared.readings.Seen.TheVariants as seen
+use Rattle.explain_who.specs.Readings.{skip_of}
+use Rattle.explain_who.specs.TakenTexts.{storage_text}
+use Rattle.explain_who.specs.LineTexts.{counted, line_text}
+use Rattle.explain_who.specs.Who.{Difference}
+use Rattle.explain_who.specs.declared.holdings.Holding.{Holding}
+use Rattle.explain_who.specs.declared.holdings.Runs.{Runs}
+use Rattle.explain_who.specs.declared.readings.Part.{Part}
+use Rattle.explain_who.specs.declared.readings.Part.TheVariants as part
+use Rattle.explain_who.specs.declared.readings.Subject.{Subject}
+use Rattle.explain_who.specs.declared.readings.Subject.TheVariants as asked
+use Rattle.explain_who.specs.declared.readings.Seen.{Seen}
+use Rattle.explain_who.specs.declared.readings.Seen.TheVariants as seen
 
 -- words, and a number after them
 abbrev pub numbered : List ℕ → ℕ → List ℕ
@@ -45,18 +49,39 @@ abbrev pub word_text : Option ℕ → List ℕ → List ℕ
 word_text (Some word) none = hexadecimal 8 word
 word_text None none = none
 
--- what is read
-abbrev pub seen_text : Seen → List ℕ
-seen_text seen.Nothing = []
-seen_text (seen.Bytes None) = codes "ABEND S0C4"
-seen_text (seen.Bytes (Some bytes)) = shown_text bytes.items
-seen_text (seen.Register word) = word_text word (codes "no task")
-seen_text (seen.Name word) = word_text word (codes "not defined")
-seen_text (seen.Held None) = codes "no task"
-seen_text (seen.Held (Some holding)) = holding_text holding
-seen_text (seen.Holder None) = codes "unassigned"
-seen_text (seen.Holder (Some subpool)) = subpool_text subpool
-seen_text (seen.Taken taken) = taken_text taken
+-- of the bytes of a place, at most 32 after those left out at the front
+abbrev pub bytes_text : ℕ → Option (ArrayVec ℕ) → List ℕ
+bytes_text skip None = codes "ABEND S0C4"
+bytes_text skip (Some bytes) = shown_text (take 32 (drop skip bytes.items))
+
+-- what is read, except the storage
+abbrev pub value_text : ℕ → Seen → List ℕ
+value_text skip (seen.Place p) = bytes_text skip p.bytes
+value_text skip (seen.Register word) = word_text word (codes "no task")
+value_text skip (seen.Name word) = word_text word (codes "not defined")
+value_text skip (seen.Held None) = codes "no task"
+value_text skip (seen.Held (Some holding)) = holding_text holding
+
+-- the storage that is read, and which line took it; only an address has storage
+abbrev pub storage_of : Option ℕ → Seen → List ℕ
+storage_of line (seen.Place p) = storage_text line p
+storage_of line (seen.Register word) = []
+storage_of line (seen.Name word) = []
+storage_of line (seen.Held holding) = []
+
+-- a part of what is read
+abbrev pub side_text : Part → Seen → Option ℕ → ℕ → List ℕ
+side_text part.Storage seen line skip = storage_of line seen
+side_text part.Value seen line skip = value_text skip seen
+
+-- the address of the first byte that is shown, if more bytes are asked for than are shown
+abbrev pub shown_at : Part → Seen → ℕ → Option ℕ
+shown_at part.Value (seen.Place p) skip = if nat_le p.count 32 then None else Some (min (p.address + skip) 4294967295)
+shown_at _ _ skip = None
+
+abbrev pub at_text : Option ℕ → List ℕ
+at_text (Some at) = codes "at " ++ hexadecimal 8 at ++ codes " "
+at_text None = []
 
 -- what is asked for
 abbrev pub asked_text : Subject → List ℕ
@@ -65,8 +90,6 @@ asked_text (asked.Register task register) = numbered (codes "register ") registe
 asked_text (asked.Name name) = codes "name " ++ name.bytes
 asked_text (asked.Subpool task number) =
     numbered (codes "subpool ") number ++ numbered (codes " as seen by task ") task
-asked_text (asked.Holder address) = codes "the page of " ++ hexadecimal 8 address
-asked_text (asked.Taken address) = codes "the storage at " ++ hexadecimal 8 address
 
 -- what is asked for is at an address in neither region
 abbrev pub is_outside : Settings → Subject → Bool
@@ -74,8 +97,6 @@ is_outside settings (asked.Bytes address count) = not (in_a_region settings (add
 is_outside settings (asked.Register task register) = false
 is_outside settings (asked.Name name) = false
 is_outside settings (asked.Subpool task number) = false
-is_outside settings (asked.Holder address) = not (in_a_region settings (address / 4096))
-is_outside settings (asked.Taken address) = not (in_a_region settings (address / 4096))
 
 abbrev pub outside_text : Settings → Subject → List ℕ
 outside_text settings question = if is_outside settings question then codes ", in neither region" else []
@@ -84,26 +105,14 @@ outside_text settings question = if is_outside settings question then codes ", i
 abbrev pub question_text : Settings → Subject → List ℕ
 question_text settings question = line (asked_text question ++ outside_text settings question)
 
--- the line of a change: its statement's, with what is read before and after it
-abbrev pub change_text : List ℕ → Difference → List ℕ
-change_text script d = line (line_text script d.line ++ seen_text d.before ++ codes " -> " ++ seen_text d.after)
+-- the line of a part of a change: its statement's, with what is read before and after it
+abbrev pub part_text : List ℕ → Part → Difference → List ℕ
+part_text script part d =
+    line (line_text script d.line ++ at_text (shown_at part d.before (skip_of d.before d.after))
+    ++ side_text part d.before d.taken_before (skip_of d.before d.after) ++ codes " -> "
+    ++ side_text part d.after d.taken_after (skip_of d.before d.after))
 
 -- how many statements changed it, of how many in effect
-abbrev pub looked_words : ℕ → List ℕ
-looked_words standing = if standing == 1 then codes ", which was looked at" else codes ", all of which were looked at"
-
 abbrev pub looked_text : ℕ → ℕ → List ℕ
 looked_text changes standing =
-    line (decimal changes ++ codes " of " ++ counted standing (codes "standing statement") ++ looked_words standing)
-
--- the line of a statement, and its state: kept, forgotten or undone
-abbrev pub state_text : List ℕ → List ℕ → ℕ → List ℕ
-state_text script state number = line (line_text script number ++ state)
-
--- how many statements are in effect, and how many of them are kept
-abbrev pub stand_words : ℕ → List ℕ
-stand_words standing = if standing == 1 then codes " is in effect, " else codes " are in effect, "
-
-abbrev pub kept_text : ℕ → ℕ → List ℕ
-kept_text standing kept =
-    line (counted standing (codes "statement") ++ stand_words standing ++ decimal kept ++ codes " of them kept")
+    decimal changes ++ codes " of " ++ counted standing (codes "statement") ++ line (codes " in effect")

@@ -1,17 +1,16 @@
 //! What goes out, in the form that is asked for.
 ghost use Rattle.std.specs.Prelude.{◌≡◌, []};
 ghost use Rattle.text_output.specs.Writing.{Puts};
-ghost use Rattle.line_changes.specs.Code.{difference_in};
-ghost use Rattle.explain_who.specs.Forms.{change_in, head_in, kept_in, looked_in, question_in, state_in};
-ghost use Rattle.line_changes.specs.ScriptLines.{LinesBegin};
+ghost use Rattle.explain_who.specs.Code.{difference_in};
+ghost use Rattle.explain_who.specs.Forms.{change_in, head_in, looked_in, part_in, question_in};
+ghost use Rattle.explain_who.specs.ScriptLines.{LinesBegin};
 
-use crate::lines::{put_change_line, put_kept_line, put_looked_line, put_state_line};
-use crate::objects::{
-    put_change_object, put_kept_object, put_looked_object, put_question_object, put_state_object,
-};
+use crate::found::NamedChange;
+use crate::lines::{put_looked_line, put_part_line};
+use crate::objects::{put_looked_object, put_part_object, put_question_object};
+use crate::readings::{Part, Subject, same_part};
 use crate::texts::put_question_line;
-use line_changes::{NamedChange, Subject};
-use listed_text::Form;
+use explain_text::Form;
 use std::io::Write;
 use text_output::Gathered;
 use vsm_model::Settings;
@@ -23,7 +22,7 @@ pub(crate) fn put_head<W: Write>(gathered: &mut Gathered, writer: &mut W, form: 
 {
     match form {
         Form::Text => (),
-        Form::Json => listed_text::put_head(gathered, writer, b"who"),
+        Form::Json => explain_text::put_head(gathered, writer, b"who"),
     }
 }
 
@@ -44,7 +43,32 @@ pub(crate) fn put_question<W: Write>(
     }
 }
 
-/// Puts a change.
+/// Puts a part of a change, if it differs.
+#[tactic(auto, using(text_output::proofs::Gathering::puts_none))]
+fn put_part<W: Write>(
+    gathered: &mut Gathered,
+    writer: &mut W,
+    form: Form,
+    script: &[u8],
+    starts: &[usize],
+    part: Part,
+    change: &NamedChange<'_>,
+)
+    requires { LinesBegin script.now script.now starts.now [] }
+    ensures { Puts (W.contents writer.old) (W.contents writer.new) gathered.old gathered.new
+        (part_in form script.now part (difference_in change.now)) }
+{
+    if same_part(part, change.before, change.after) {
+        return;
+    }
+    match form {
+        Form::Text => put_part_line(gathered, writer, script, starts, part, change),
+        Form::Json => put_part_object(gathered, writer, script, starts, part, change),
+    }
+}
+
+/// Puts a change: the storage's part first.
+#[tactic(auto, using(text_output::proofs::Gathering::puts_both))]
 pub(crate) fn put_change<W: Write>(
     gathered: &mut Gathered,
     writer: &mut W,
@@ -57,10 +81,16 @@ pub(crate) fn put_change<W: Write>(
     ensures { Puts (W.contents writer.old) (W.contents writer.new) gathered.old gathered.new
         (change_in form script.now (difference_in change.now)) }
 {
-    match form {
-        Form::Text => put_change_line(gathered, writer, script, starts, change),
-        Form::Json => put_change_object(gathered, writer, script, starts, change),
-    }
+    put_part(
+        gathered,
+        writer,
+        form,
+        script,
+        starts,
+        Part::Storage,
+        change,
+    );
+    put_part(gathered, writer, form, script, starts, Part::Value, change);
 }
 
 /// Puts how many statements changed it, and how many are in effect.
@@ -77,42 +107,5 @@ pub(crate) fn put_looked<W: Write>(
     match form {
         Form::Text => put_looked_line(gathered, writer, changes, standing),
         Form::Json => put_looked_object(gathered, writer, changes, standing),
-    }
-}
-
-/// Puts a statement, and whether it's kept, forgotten or undone.
-pub(crate) fn put_state<W: Write>(
-    gathered: &mut Gathered,
-    writer: &mut W,
-    form: Form,
-    script: &[u8],
-    starts: &[usize],
-    line: u32,
-    state: &[u8],
-)
-    requires { LinesBegin script.now script.now starts.now [] }
-    ensures { Puts (W.contents writer.old) (W.contents writer.new) gathered.old gathered.new
-        (state_in form script.now state.now line) }
-{
-    match form {
-        Form::Text => put_state_line(gathered, writer, script, starts, line, state),
-        Form::Json => put_state_object(gathered, writer, script, starts, line, state),
-    }
-}
-
-/// Puts how many statements are in effect, and how many of them are kept.
-pub(crate) fn put_kept<W: Write>(
-    gathered: &mut Gathered,
-    writer: &mut W,
-    form: Form,
-    standing: usize,
-    kept: u32,
-)
-    ensures { Puts (W.contents writer.old) (W.contents writer.new) gathered.old gathered.new
-        (kept_in form standing kept) }
-{
-    match form {
-        Form::Text => put_kept_line(gathered, writer, standing, kept),
-        Form::Json => put_kept_object(gathered, writer, standing, kept),
     }
 }

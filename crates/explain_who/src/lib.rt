@@ -1,10 +1,38 @@
-//! Which lines changed it, and every statement with its line, as text or as JSON.
+//! Which lines of a script changed what is read, as text or as JSON.
 #![tactic(auto)]
 
+mod cells;
+mod counts;
+mod faults;
 mod forms;
+mod found;
+mod holdings;
+pub mod laws;
 mod lines;
+mod names;
 mod objects;
+mod one_line;
+mod orders;
 mod output;
+mod pages;
+mod place;
+mod readings;
+mod shown_lines;
+mod taken;
+mod taken_texts;
+mod takers;
 mod texts;
+mod tracing;
+mod trail;
 
-pub use output::{log, who};
+pub use cells::taken_by;
+pub use counts::put_count;
+pub use faults::WhoFault;
+pub use names::word_after;
+pub use orders::ChangeOrder;
+pub use output::who;
+pub use readings::Subject;
+pub use shown_lines::{put_line, put_line_fields};
+pub use taken_texts::put_subpool;
+pub use takers::Taken;
+pub use trail::{Trail, TrailEntry};

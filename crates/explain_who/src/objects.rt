@@ -1,15 +1,18 @@
-//! What is asked for and found, and every statement, as JSON: an object a line.
+//! What is asked for and found, as JSON: an object a line.
 ghost use Rattle.std.specs.Prelude.{◌≡◌, [], ◌++◌, codes};
 ghost use Rattle.text_output.specs.Writing.{Puts};
-ghost use Rattle.line_changes.specs.Code.{difference_in};
-ghost use Rattle.explain_who.specs.Objects.{change_json, kept_json, looked_json, question_json};
-ghost use Rattle.explain_who.specs.Objects.{state_json, text_field};
-ghost use Rattle.line_changes.specs.ScriptLines.{LinesBegin};
-ghost use Rattle.explain_who.specs.Texts.{asked_text, outside_text, seen_text};
+ghost use Rattle.explain_who.specs.Code.{difference_in};
+ghost use Rattle.explain_who.specs.Objects.{address_field, looked_json, part_json, part_of, question_json, text_field};
+ghost use Rattle.explain_who.specs.ScriptLines.{LinesBegin};
+ghost use Rattle.explain_who.specs.Texts.{asked_text, outside_text, side_text};
 
-use crate::texts::{put_asked, put_outside, put_seen};
-use line_changes::{NamedChange, Seen, Subject, put_line_fields};
-use listed_text::{put_name, put_number_field, put_object_end, put_object_start};
+use crate::found::NamedChange;
+use crate::readings::{Part, Seen, Subject, skip_of};
+use crate::shown_lines::put_line_fields;
+use crate::texts::{put_asked, put_outside, put_side, shown_at};
+use explain_text::{
+    put_name, put_number_field, put_object_end, put_object_start, put_string_field,
+};
 use std::io::Write;
 use text_output::Gathered;
 use vsm_model::Settings;
@@ -48,35 +51,89 @@ pub(crate) fn put_question_object<W: Write>(
     put_object_end(gathered, writer);
 }
 
-/// Puts what is read, as a field.
+/// Puts a part of what is read, as a field.
 #[tactic(auto, using(text_output::proofs::Gathering::puts_both))]
-fn put_seen_field<W: Write>(gathered: &mut Gathered, writer: &mut W, name: &[u8], seen: &Seen)
+fn put_side_field<W: Write>(
+    gathered: &mut Gathered,
+    writer: &mut W,
+    name: &[u8],
+    part: Part,
+    seen: &Seen,
+    line: Option<u32>,
+    skip: usize,
+)
     ensures { Puts (W.contents writer.old) (W.contents writer.new) gathered.old gathered.new
-        (text_field name.now (seen_text seen.now)) }
+        (text_field name.now (side_text part seen.now line skip)) }
 {
     put_name(gathered, writer, name);
     gathered.put(writer, b"\"");
-    put_seen(gathered, writer, seen);
+    put_side(gathered, writer, part, seen, line, skip);
     gathered.put(writer, b"\"");
 }
 
-/// Puts the object of a change.
+/// What a part of a reading is of.
+fn part_of(part: Part, seen: &Seen) -> &'static [u8]
+    ensures { result.now ≡ part_of part seen.now }
+{
+    match (part, seen) {
+        (Part::Storage, _) => b"storage",
+        (Part::Value, Seen::Place(_)) => b"bytes",
+        (Part::Value, Seen::Register(_)) => b"register",
+        (Part::Value, Seen::Name(_)) => b"name",
+        (Part::Value, Seen::Held(_)) => b"subpool",
+    }
+}
+
+/// Puts the field with the address of the first byte that is shown, if not all are.
+#[tactic(auto, using(text_output::proofs::Gathering::puts_none))]
+fn put_address_field<W: Write>(gathered: &mut Gathered, writer: &mut W, at: Option<u32>)
+    ensures { Puts (W.contents writer.old) (W.contents writer.new) gathered.old gathered.new (address_field at) }
+{
+    match at {
+        Some(at) => put_number_field(gathered, writer, b"address", u64::from(at)),
+        None => (),
+    }
+}
+
+/// Puts the object of a part of a change.
 #[tactic(auto, using(text_output::proofs::Gathering::puts_both))]
-pub(crate) fn put_change_object<W: Write>(
+pub(crate) fn put_part_object<W: Write>(
     gathered: &mut Gathered,
     writer: &mut W,
     script: &[u8],
     starts: &[usize],
+    part: Part,
     change: &NamedChange<'_>,
 )
     requires { LinesBegin script.now script.now starts.now [] }
     ensures { Puts (W.contents writer.old) (W.contents writer.new) gathered.old gathered.new
-        (change_json script.now (difference_in change.now)) }
+        (part_json script.now part (difference_in change.now)) }
 {
+    let before = change.before;
+    let after = change.after;
+    let skip = skip_of(before, after);
     put_object_start(gathered, writer, b"change");
     put_line_fields(gathered, writer, script, starts, change.line);
-    put_seen_field(gathered, writer, b"before", change.before);
-    put_seen_field(gathered, writer, b"after", change.after);
+    put_string_field(gathered, writer, b"of", part_of(part, before));
+    put_address_field(gathered, writer, shown_at(part, before, skip));
+    put_side_field(
+        gathered,
+        writer,
+        b"before",
+        part,
+        before,
+        change.taken_before,
+        skip,
+    );
+    put_side_field(
+        gathered,
+        writer,
+        b"after",
+        part,
+        after,
+        change.taken_after,
+        skip,
+    );
     put_object_end(gathered, writer);
 }
 
@@ -94,54 +151,5 @@ pub(crate) fn put_looked_object<W: Write>(
     put_object_start(gathered, writer, b"sum");
     put_number_field(gathered, writer, b"changes", changes as u64);
     put_number_field(gathered, writer, b"standing", standing as u64);
-    put_object_end(gathered, writer);
-}
-
-/// Puts the field with the state of a statement.
-#[tactic(auto, using(text_output::proofs::Gathering::puts_both))]
-fn put_state_field<W: Write>(gathered: &mut Gathered, writer: &mut W, state: &[u8])
-    ensures { Puts (W.contents writer.old) (W.contents writer.new) gathered.old gathered.new
-        (text_field (codes "state") state.now) }
-{
-    put_name(gathered, writer, b"state");
-    gathered.put(writer, b"\"");
-    gathered.put(writer, state);
-    gathered.put(writer, b"\"");
-}
-
-/// Puts the object of a statement, with whether it's kept, forgotten or undone.
-#[tactic(auto, using(text_output::proofs::Gathering::puts_both))]
-pub(crate) fn put_state_object<W: Write>(
-    gathered: &mut Gathered,
-    writer: &mut W,
-    script: &[u8],
-    starts: &[usize],
-    line: u32,
-    state: &[u8],
-)
-    requires { LinesBegin script.now script.now starts.now [] }
-    ensures { Puts (W.contents writer.old) (W.contents writer.new) gathered.old gathered.new
-        (state_json script.now state.now line) }
-{
-    put_object_start(gathered, writer, b"statement");
-    put_line_fields(gathered, writer, script, starts, line);
-    put_state_field(gathered, writer, state);
-    put_object_end(gathered, writer);
-}
-
-/// Puts the object with how many statements are in effect, and how many of them are kept.
-#[tactic(auto, using(text_output::proofs::Gathering::puts_both))]
-pub(crate) fn put_kept_object<W: Write>(
-    gathered: &mut Gathered,
-    writer: &mut W,
-    standing: usize,
-    kept: u32,
-)
-    ensures { Puts (W.contents writer.old) (W.contents writer.new) gathered.old gathered.new
-        (kept_json standing kept) }
-{
-    put_object_start(gathered, writer, b"sum");
-    put_number_field(gathered, writer, b"standing", standing as u64);
-    put_number_field(gathered, writer, b"kept", u64::from(kept));
     put_object_end(gathered, writer);
 }

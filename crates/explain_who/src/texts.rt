@@ -1,14 +1,20 @@
 //! What is asked for, and what is read, as text.
-ghost use Rattle.std.specs.Prelude.{◌≡◌, ◌+◌, ◌-◌, ◌*◌, ◌/◌, ◌^◌, ◌<◌};
+ghost use Rattle.std.specs.Prelude.{◌≡◌, ◌+◌, ◌-◌, ◌*◌, ◌/◌, ◌^◌, ◌<◌, drop, min, take};
 ghost use Rattle.text_output.specs.Writing.{Puts};
 ghost use Rattle.script_steps.specs.Responses.{shown_text};
 ghost use Rattle.vsm_model.specs.Regions.{among, in_a_region};
-ghost use Rattle.explain_who.specs.Texts.{asked_text, holding_text, is_outside, numbered, outside_text, pages_text};
-ghost use Rattle.explain_who.specs.Texts.{question_text, runs_text, seen_text, taken_and_free, word_text};
+ghost use Rattle.explain_who.specs.Texts.{asked_text, at_text, bytes_text, holding_text, is_outside, numbered};
+ghost use Rattle.explain_who.specs.Texts.{outside_text};
+ghost use Rattle.explain_who.specs.Texts.{pages_text, question_text, runs_text, shown_at, side_text, storage_of};
+ghost use Rattle.explain_who.specs.Texts.{taken_and_free, value_text, word_text};
 
-use line_changes::{Holding, Runs, Seen, Subject, put_count};
+use crate::counts::put_count;
+use crate::holdings::{Holding, Runs};
+use crate::place::{PlaceBytes, SHOWN_BYTES};
+use crate::readings::{Part, Seen, Subject};
+use crate::taken_texts::put_storage;
+use crate::tracing::rest_from;
 use std::io::Write;
-use taken_places::{put_subpool, put_taken};
 use text_output::{Gathered, put_byte, put_decimal, put_hexadecimal};
 use vsm_model::Settings;
 use vsm_model::geometry::{HIGH_PAGE, LOW_PAGE, PAGE_BYTES, PAGE_K};
@@ -47,14 +53,6 @@ pub(crate) fn put_asked<W: Write>(gathered: &mut Gathered, writer: &mut W, asked
             put_numbered(gathered, writer, b"subpool ", *number);
             put_numbered(gathered, writer, b" as seen by task ", *task);
         }
-        Subject::Holder(address) => {
-            gathered.put(writer, b"the page of ");
-            put_hexadecimal(gathered, writer, 8, *address);
-        }
-        Subject::Taken(address) => {
-            gathered.put(writer, b"the storage at ");
-            put_hexadecimal(gathered, writer, 8, *address);
-        }
     }
 }
 
@@ -81,7 +79,6 @@ fn is_outside(settings: Settings, asked: &Subject) -> bool
 {
     match asked {
         Subject::Bytes { address, .. } => !is_in_a_region(settings, *address),
-        Subject::Holder(address) | Subject::Taken(address) => !is_in_a_region(settings, *address),
         Subject::Register { .. } | Subject::Name(_) | Subject::Subpool { .. } => false,
     }
 }
@@ -200,21 +197,110 @@ fn put_bytes<W: Write>(gathered: &mut Gathered, writer: &mut W, bytes: &[u8])
     }
 }
 
-/// Puts what is read.
-#[tactic(auto, using(text_output::proofs::Gathering::puts_none))]
-pub(crate) fn put_seen<W: Write>(gathered: &mut Gathered, writer: &mut W, seen: &Seen)
-    ensures { Puts (W.contents writer.old) (W.contents writer.new) gathered.old gathered.new (seen_text seen.now) }
+/// At most 32 bytes after those left out at the front.
+fn window(bytes: &[u8], skip: usize) -> &[u8]
+    ensures { result.now ≡ take 32 (drop skip bytes.now) }
+{
+    let rest = rest_from(bytes, skip.min(bytes.len()));
+    &rest[..SHOWN_BYTES.min(rest.len())]
+}
+
+/// Puts the bytes of a place, after those left out at the front.
+fn put_place_bytes<W: Write>(
+    gathered: &mut Gathered,
+    writer: &mut W,
+    bytes: &Option<PlaceBytes>,
+    skip: usize,
+)
+    ensures { Puts (W.contents writer.old) (W.contents writer.new) gathered.old gathered.new
+        (bytes_text skip bytes.now) }
+{
+    match bytes {
+        None => gathered.put(writer, b"ABEND S0C4"),
+        Some(bytes) => put_bytes(gathered, writer, window(bytes.as_slice(), skip)),
+    }
+}
+
+/// Puts what is read, except the storage: of a place, the bytes after those left out at the front.
+fn put_value<W: Write>(gathered: &mut Gathered, writer: &mut W, seen: &Seen, skip: usize)
+    ensures { Puts (W.contents writer.old) (W.contents writer.new) gathered.old gathered.new
+        (value_text skip seen.now) }
 {
     match seen {
-        Seen::Nothing => (),
-        Seen::Bytes(None) => gathered.put(writer, b"ABEND S0C4"),
-        Seen::Bytes(Some(bytes)) => put_bytes(gathered, writer, bytes.as_slice()),
+        Seen::Place(place) => put_place_bytes(gathered, writer, &place.bytes, skip),
         Seen::Register(word) => put_word(gathered, writer, *word, b"no task"),
         Seen::Name(word) => put_word(gathered, writer, *word, b"not defined"),
         Seen::Held(None) => gathered.put(writer, b"no task"),
         Seen::Held(Some(holding)) => put_holding(gathered, writer, *holding),
-        Seen::Holder(None) => gathered.put(writer, b"unassigned"),
-        Seen::Holder(Some(subpool)) => put_subpool(gathered, writer, *subpool),
-        Seen::Taken(taken) => put_taken(gathered, writer, taken),
+    }
+}
+
+/// Puts the storage that is read, and which line took it; only an address has storage.
+#[tactic(auto, using(text_output::proofs::Gathering::puts_none))]
+fn put_storage_of<W: Write>(gathered: &mut Gathered, writer: &mut W, seen: &Seen, line: Option<u32>)
+    ensures { Puts (W.contents writer.old) (W.contents writer.new) gathered.old gathered.new
+        (storage_of line seen.now) }
+{
+    match seen {
+        Seen::Place(place) => put_storage(gathered, writer, place, line),
+        Seen::Register(_) | Seen::Name(_) | Seen::Held(_) => (),
+    }
+}
+
+/// Puts a part of what is read: the storage, and which line took it; or all else, after what is left out.
+pub(crate) fn put_side<W: Write>(
+    gathered: &mut Gathered,
+    writer: &mut W,
+    part: Part,
+    seen: &Seen,
+    line: Option<u32>,
+    skip: usize,
+)
+    ensures { Puts (W.contents writer.old) (W.contents writer.new) gathered.old gathered.new
+        (side_text part seen.now line skip) }
+{
+    match part {
+        Part::Storage => put_storage_of(gathered, writer, seen, line),
+        Part::Value => put_value(gathered, writer, seen, skip),
+    }
+}
+
+/// The address after that many bytes, or the greatest one.
+fn address_after(address: u32, skip: usize) -> u32
+    ensures { result ≡ min (address + skip) 4294967295 }
+{
+    u64::from(address)
+        .saturating_add(skip as u64)
+        .min(u64::from(u32::MAX)) as u32
+}
+
+/// The address of the first byte that is shown, if more bytes are asked for than are shown.
+pub(crate) fn shown_at(part: Part, seen: &Seen, skip: usize) -> Option<u32>
+    ensures { result ≡ shown_at part seen.now skip }
+{
+    match (part, seen) {
+        (Part::Value, Seen::Place(place)) => {
+            if place.count as usize <= SHOWN_BYTES {
+                None
+            } else {
+                Some(address_after(place.address, skip))
+            }
+        }
+        _ => None,
+    }
+}
+
+/// Puts where the bytes are that are shown, if not all are.
+#[tactic(auto, using(text_output::proofs::Gathering::puts_both, text_output::proofs::Gathering::puts_none))]
+pub(crate) fn put_at<W: Write>(gathered: &mut Gathered, writer: &mut W, at: Option<u32>)
+    ensures { Puts (W.contents writer.old) (W.contents writer.new) gathered.old gathered.new (at_text at) }
+{
+    match at {
+        Some(at) => {
+            gathered.put(writer, b"at ");
+            put_hexadecimal(gathered, writer, 8, at);
+            gathered.put(writer, b" ");
+        }
+        None => (),
     }
 }

@@ -16,7 +16,7 @@ use Rattle.script_steps.specs.declared.steps.Step.{Step}
 use Rattle.text_output.specs.Writing.{Holds, IsEmpty, Puts}
 use Rattle.text_output.specs.declared.writing.Gathered.{Gathered}
 use Rattle.text_output.proofs.Gathering.{empty_holds, puts_both}
-use Rattle.place_reasons.specs.Told.{PutsSome}
+use Rattle.explain_text.specs.Pieces.{PutsSome}
 use Rattle.explain_why.specs.Answers.{IsNextAnswer, PutsAnswer, WritesAnswer, answer_text, first_text, tells_refusal}
 use Rattle.explain_why.specs.Told.{PutsBeginning}
 

@@ -9,10 +9,10 @@ use Rattle.script_steps.specs.Output.{Marked}
 use Rattle.script_steps.specs.Script.{Within, columns}
 use Rattle.script_steps.specs.Taken.{Took, answers_of}
 use Rattle.script_steps.specs.declared.session.Session.{Session}
-use Rattle.statement_details.specs.Ahead.{AreFirst, Asks, IsAhead, IsAside}
-use Rattle.statement_details.specs.declared.ahead.Ahead.{Ahead}
-use Rattle.statement_details.specs.declared.ahead.NextStatement as ahead
-use Rattle.statement_details.specs.declared.ahead.NextStatement.TheVariants as variant
+use Rattle.explain_why.specs.Ahead.{AreFirst, Asks, IsAhead, IsAside}
+use Rattle.explain_why.specs.declared.ahead.Ahead.{Ahead}
+use Rattle.explain_why.specs.declared.ahead.NextStatement as ahead
+use Rattle.explain_why.specs.declared.ahead.NextStatement.TheVariants as variant
 use Rattle.explain_why.specs.Explained.{IsLineStart}
 use Rattle.explain_why.specs.Faults.{HasLineCount, IsBeyond, IsFaultOf, IsLastFault, IsLineAt, IsOtherFault, IsPlaceFault, IsSkippedAt, IsStatementFault}
 use Rattle.explain_why.specs.declared.faults.WhyFault.{WhyFault}

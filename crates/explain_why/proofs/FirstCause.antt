@@ -20,12 +20,14 @@ use Rattle.storage_core.specs.declared.storage.Storage.{Storage}
 use Rattle.text_output.specs.Writing.{Puts}
 use Rattle.text_output.specs.declared.writing.Gathered.{Gathered}
 use Rattle.text_output.proofs.Gathering.{puts_both}
-use Rattle.area_reasons.specs.Pages.{pages_text}
+use Rattle.explain_reasons.specs.Pages.{pages_text}
 use Rattle.bench_core.specs.Causes.{IsFirstCause}
-use Rattle.place_reasons.specs.Told.{PutsSome, TellsPlace, place_text}
-use Rattle.place_reasons.proofs.Endings.{ending_behind, ending_both, place_behind}
-use Rattle.place_reasons.proofs.NoPlace.{no_place_is_want_of_storage}
-use Rattle.cause_reasons.specs.Told.{IsTold, TellsCause, TellsEffect, TellsService}
+use Rattle.explain_reasons.specs.Places.{sides_place}
+use Rattle.explain_reasons.specs.ToldPlaces.{TellsPlace, area_text, found_text}
+use Rattle.explain_text.specs.Pieces.{PutsSome}
+use Rattle.explain_reasons.proofs.Endings.{ending_behind, ending_both}
+use Rattle.explain_reasons.proofs.NoPlace.{no_place_is_want_of_storage}
+use Rattle.explain_reasons.specs.Told.{IsTold, TellsCause, TellsEffect, TellsService}
 use Rattle.explain_why.specs.Told.{EndsInOne, PutsAmong, TellsAct, TellsArea, TellsFirstCause, TellsItsPlace, TellsReading, TellsRequest, kept_text, undone_text}
 
 same_service : (o : Option Service) (x y : Service) → o ≡ Some x → o ≡ Some y → x ≡ y
@@ -81,15 +83,23 @@ not_none : (A B : Type 0) → (A ↔ B) → (B → ⊥) → A → ⊥
 not_none A B (to, from) none a = none (to a)
 
 place_is : (s : Storage) (o : Obtain) (full : Bool) (old new : Option (List ℕ)) (a b : Gathered)
-    → first_cause (obtain_causes (settings_of s) full (state_of s) o) ≡ None → TellsPlace s o old new a b
+    → first_cause (obtain_causes (settings_of s) full (state_of s) o) ≡ None → TellsPlace s o None old new a b
     → TellsItsPlace (settings_of s) (state_of s) o old new a b
 place_is s o full old new a b first told =
     let law = no_place_is_want_of_storage (settings_of s) full (state_of s) o (inl first) in
-    let found = told law.0 in
+    let (sides, searched, place, count, nowhere, puts) = told law.0 in
     let rows = obtain_causes (settings_of s) full (state_of s) o in
     let some = not_none (longest (settings_of s) (state_of s) o ≡ None) (first_cause rows ≡ Some NoStorage) law.1
-    (none_is_some (first_cause rows) NoStorage first) in
-    (found.0, (found.1, longest_is (longest (settings_of s) (state_of s) o) found.1 _ some found.3, found.2), found.5)
+    (none_is_some (first_cause rows) NoStorage first) in (
+      sides_place sides,
+      (sides.count, longest_is (longest (settings_of s) (state_of s) o) sides.count _ some count, place),
+      (area_text (state_of s) o.number (Some sides) None searched, puts),
+    )
+
+-- the same after some text
+place_more : (settings : Settings) (s : State) (o : Obtain) (old now new : Option (List ℕ)) (a b d : Gathered) → PutsSome old now a b
+    → TellsItsPlace settings s o now new b d → TellsItsPlace settings s o old new a d
+place_more settings s o old now new a b d some (its, is, ending) = (its, is, ending_both old now new a b d (found_text its) some ending)
 
 module _ (settings : Settings) (m : NamedState) (x : Act) where
   pub unknown_area : (old new : Option (List ℕ)) (a b : Gathered) → service_asked m x ≡ None → TellsArea settings m x old new a b
@@ -101,13 +111,13 @@ module _ (settings : Settings) (m : NamedState) (x : Act) where
   found_area s its None old now new a b d under stands is found some effect o asked first =
       let full = is_one_too_many m.names (name_asked x) in
       let same = same_service (service_asked m x) its (obtain o) is asked in
-      let told : TellsPlace s o now new b d = subst (λ y. TellsEffect s y now new b d) same (effect refl) in
+      let told : TellsPlace s o None now new b d = subst (λ y. TellsEffect s y now new b d) same (effect refl) in
       let here : first_cause (obtain_causes (settings_of s) full (state_of s) o) ≡ None =
       subst (λ k. first_cause (obtain_causes k full (state_of s) o) ≡ None) (sym under)
       (subst (λ t. first_cause (obtain_causes settings full t o) ≡ None) (sym stands) first) in
       subst (λ t. TellsItsPlace settings t o old new a d) stands
       (subst (λ k. TellsItsPlace k (state_of s) o old new a d) under
-      (place_is s o full old new a d here (place_behind s o old now new a b d some told)))
+      (place_more (settings_of s) (state_of s) o old now new a b d some (place_is s o full now new b d here told)))
   found_area s its (Some c) old now new a b d under stands is (found, found_is, holds) some effect o asked first =
       let same = same_service (service_asked m x) found (obtain o) found_is asked in
       absurd (none_is_some (first_of settings m x (obtain o)) c first (subst (λ y. first_of settings m x y ≡ Some c) same (holds (inl refl))))
@@ -137,10 +147,6 @@ unknown_act settings m x old new a b none =
     record { cause = unknown_told settings m x old new a b none; area = unknown_area settings m x old new a b none }
 
 -- the same after some text
-place_more : (settings : Settings) (s : State) (o : Obtain) (old now new : Option (List ℕ)) (a b d : Gathered) → PutsSome old now a b
-    → TellsItsPlace settings s o now new b d → TellsItsPlace settings s o old new a d
-place_more settings s o old now new a b d some (its, is, ending) = (its, is, ending_both old now new a b d (place_text its) some ending)
-
 one_more : (is : List ℕ → Type 0) (old now new : Option (List ℕ)) (a b d : Gathered) → PutsSome old now a b → EndsInOne is now new b d → EndsInOne is old new a d
 one_more is old now new a b d some (text, says, ending) = (text, says, ending_both old now new a b d text some ending)
 

@@ -26,17 +26,18 @@ use Rattle.script_steps.proofs.Standings.{stands_for}
 use Rattle.text_output.specs.Writing.{Holds, IsEmpty}
 use Rattle.text_output.specs.declared.writing.Gathered.{Gathered}
 use Rattle.text_output.proofs.Gathering.{empty_holds, puts_both}
-use Rattle.place_reasons.specs.Told.{PutsSome, place_text}
-use Rattle.area_reasons.specs.Pages.{pages_text}
-use Rattle.cause_reasons.specs.Told.{IsTold}
+use Rattle.explain_reasons.specs.ToldPlaces.{found_text}
+use Rattle.explain_text.specs.Pieces.{PutsSome}
+use Rattle.explain_reasons.specs.Pages.{pages_text}
+use Rattle.explain_reasons.specs.Told.{IsTold}
 use Rattle.explain_why.specs.Explained.{IsExplained, IsFound, IsLineStart, IsPlaceOf, IsStatementAt, TakesLine, WritesAhead, WritesOne, WritesRequest}
 use Rattle.explain_why.specs.Answers.{WritesAnswer}
-use Rattle.statement_details.specs.Defined.{IsItsDefinition}
-use Rattle.statement_details.specs.Details.{WritesDetail}
+use Rattle.explain_why.specs.Defined.{IsItsDefinition}
+use Rattle.explain_why.specs.Details.{WritesDetail}
 use Rattle.explain_why.specs.Told.{EndsInOne, IsItsPlace, PutsAmong, TellsAhead, TellsItsPlace, TellsRequest, kept_text, undone_text}
-use Rattle.statement_details.specs.declared.ahead.NextStatement as ahead
-use Rattle.statement_details.specs.declared.definitions.Definition.{Definition}
-use Rattle.statement_details.specs.declared.ahead.NextStatement.TheVariants as variant
+use Rattle.explain_why.specs.declared.ahead.NextStatement as ahead
+use Rattle.explain_why.specs.declared.definitions.Definition.{Definition}
+use Rattle.explain_why.specs.declared.ahead.NextStatement.TheVariants as variant
 use Rattle.explain_why.specs.declared.faults.WhyFault.{WhyFault}
 use Rattle.explain_why.specs.declared.lines.LinePlace.{LinePlace}
 
@@ -137,16 +138,16 @@ one_written is old now later new a b c none (its, says, (front, puts)) (text, so
 area_written : (settings : Settings) (s : State) (o : Obtain) (old now later new : Option (List ℕ)) (a b c : Gathered) → IsEmpty a →
     TellsItsPlace settings s o old now a b → PutsSome now later b c →
     ((first : Option (List ℕ)) (text : List ℕ) → Holds first later c text → Appends first new text) →
-    (its : Place) × IsItsPlace settings s o its × ((front : List ℕ) × (behind : List ℕ) × Appends old new (front ++ (place_text its ++ behind)))
+    (its : Place) × IsItsPlace settings s o its × ((front : List ℕ) × (behind : List ℕ) × Appends old new (front ++ (found_text its ++ behind)))
 area_written settings s o old now later new a b c none (its, is, (front, puts)) (text, some) finish =
-    let all = puts_both old now later a b c (front ++ place_text its) text puts some in (
+    let all = puts_both old now later a b c (front ++ found_text its) text puts some in (
       its,
       is,
       (
         front,
         text,
-        subst (Appends old new) (append_assoc front (place_text its) text)
-            (finish old ((front ++ place_text its) ++ text) (all old [] (empty_holds old old a [] none (Appends-nil old)))),
+        subst (Appends old new) (append_assoc front (found_text its) text)
+            (finish old ((front ++ found_text its) ++ text) (all old [] (empty_holds old old a [] none (Appends-nil old)))),
       ),
     )
 

@@ -1,7 +1,11 @@
--- Lemmas on what is said of first causes, and on which statement that is.
+-- Lemmas on the lines of a statement, and on what is said of first causes.
+mod Cards
+mod Reading
+mod Turns
+mod Detailed
 mod Answered
-pub mod FirstCause
-pub mod Found
+mod FirstCause
+mod Found
 mod Counts
 mod Faulted
 mod Written

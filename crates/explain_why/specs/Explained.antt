@@ -23,17 +23,17 @@ use Rattle.script_steps.specs.Script.{columns, Within}
 use Rattle.script_steps.specs.Steps.{IsLineOf}
 use Rattle.script_steps.specs.Taken.{Took, answers_of}
 use Rattle.script_steps.specs.declared.session.Session.{Session}
-use Rattle.area_reasons.specs.Pages.{pages_text}
-use Rattle.cause_reasons.specs.Told.{IsTold}
-use Rattle.place_reasons.specs.Told.{place_text}
-use Rattle.statement_details.specs.Ahead.{AreFirst, Asks, IsAhead}
+use Rattle.explain_reasons.specs.Pages.{pages_text}
+use Rattle.explain_reasons.specs.Told.{IsTold}
+use Rattle.explain_reasons.specs.ToldPlaces.{found_text}
+use Rattle.explain_why.specs.Ahead.{AreFirst, Asks, IsAhead}
 use Rattle.explain_why.specs.Answers.{WritesAnswer}
-use Rattle.statement_details.specs.Defined.{IsItsDefinition}
-use Rattle.statement_details.specs.Details.{WritesDetail}
+use Rattle.explain_why.specs.Defined.{IsItsDefinition}
+use Rattle.explain_why.specs.Details.{WritesDetail}
 use Rattle.explain_why.specs.Told.{IsItsPlace, kept_text, undone_text}
-use Rattle.statement_details.specs.declared.ahead.NextStatement as ahead
-use Rattle.statement_details.specs.declared.definitions.Definition.{Definition}
-use Rattle.statement_details.specs.declared.ahead.NextStatement.TheVariants as variant
+use Rattle.explain_why.specs.declared.ahead.NextStatement as ahead
+use Rattle.explain_why.specs.declared.definitions.Definition.{Definition}
+use Rattle.explain_why.specs.declared.ahead.NextStatement.TheVariants as variant
 use Rattle.explain_why.specs.declared.lines.LinePlace.{LinePlace}
 
 -- What a writer holds grows by a text in which such a text occurs.
@@ -55,7 +55,7 @@ WritesArea settings m x old new =
     (o : Obtain) → service_asked m x ≡ Some (obtain o)
     → first_cause (causes settings (is_one_too_many m.names (name_asked x)) m.storage (obtain o)) ≡ None
     → (its : Place) × IsItsPlace settings m.storage o its
-    × ((front : List ℕ) × (behind : List ℕ) × Appends old new (front ++ (place_text its ++ behind)))
+    × ((front : List ℕ) × (behind : List ℕ) × Appends old new (front ++ (found_text its ++ behind)))
 
 pub record WritesAct (settings : Settings) (m : NamedState) (x : Act) (old new : Option (List ℕ)) : Type 0 where
   pub cause : WritesFirstCause settings m x old new

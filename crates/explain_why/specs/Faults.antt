@@ -5,7 +5,7 @@ use Rattle.macro_reader.specs.Columns.{Line, is_skipped}
 use Rattle.macro_reader.specs.Scripts.{Answer, Drops, Part, Reads, awaiting, dropping}
 use Rattle.script_steps.specs.Script.{NoFeed, Within, columns, last_line, with_feed}
 use Rattle.script_steps.specs.declared.session.Session.{Session}
-use Rattle.statement_details.specs.Ahead.{AreFirst}
+use Rattle.explain_why.specs.Ahead.{AreFirst}
 use Rattle.explain_why.specs.declared.faults.WhyFault.{WhyFault}
 use Rattle.explain_why.specs.declared.faults.WhyFault.TheVariants as fault
 
@@ -51,8 +51,8 @@ pub record IsDroppedLine (script : List ℕ) (line : ℕ) : Type 0 where
   pub answers : List Answer
   pub drops : Drops (map columns lines) answers
 
--- What a fault says of a line: the script has no such line, but this number of lines; or the line is a comment or empty;
--- or it's dropped. The others say nothing of it.
+-- What a fault says of a line: the script has no such line, but this number of lines; or the line is a comment or
+-- empty; or it's dropped. The others say nothing of it.
 abbrev pub IsFaultOf : List ℕ → ℕ → WhyFault → Type 0
 IsFaultOf script line (fault.NoLine n) = HasLineCount script n × IsBeyond line n
 IsFaultOf script line fault.Aside = IsAsideLine script line

@@ -1,5 +1,9 @@
+pub mod Ahead
+pub mod Undefined
+pub mod Defined
+pub mod Details
 pub mod Told
 pub mod Answers
 pub mod Faults
 pub mod Explained
-pub mod Forms
+pub mod Output

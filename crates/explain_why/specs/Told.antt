@@ -17,12 +17,12 @@ use Rattle.vsm_machine.specs.Causes.{is_conditional_get}
 use Rattle.vsm_machine.specs.Machine.{looked_up, name_asked, service_asked}
 use Rattle.text_output.specs.Writing.{Puts}
 use Rattle.text_output.specs.declared.writing.Gathered.{Gathered}
-use Rattle.area_reasons.specs.Pages.{pages_text}
-use Rattle.place_reasons.specs.Pieces.{line}
-use Rattle.place_reasons.specs.Told.{PutsEnding, place_text}
-use Rattle.cause_reasons.specs.Told.{IsTold}
-use Rattle.statement_details.specs.declared.ahead.NextStatement as ahead
-use Rattle.statement_details.specs.declared.ahead.NextStatement.TheVariants as variant
+use Rattle.explain_reasons.specs.Pages.{pages_text}
+use Rattle.explain_text.specs.Pieces.{line}
+use Rattle.explain_reasons.specs.ToldPlaces.{PutsEnding, found_text}
+use Rattle.explain_reasons.specs.Told.{IsTold}
+use Rattle.explain_why.specs.declared.ahead.NextStatement as ahead
+use Rattle.explain_why.specs.declared.ahead.NextStatement.TheVariants as variant
 
 -- Such a text is the end of what follows all text before it.
 abbrev pub EndsInOne : (List ℕ → Type 0) → Option (List ℕ) → Option (List ℕ) → Gathered → Gathered → Type 0
@@ -45,7 +45,7 @@ IsItsPlace settings s o its =
 -- A text that follows all text before it ends in that place.
 abbrev pub TellsItsPlace : Settings → State → Obtain → Option (List ℕ) → Option (List ℕ) → Gathered → Gathered → Type 0
 TellsItsPlace settings s o old new before after =
-    (its : Place) × IsItsPlace settings s o its × PutsEnding old new before after (place_text its)
+    (its : Place) × IsItsPlace settings s o its × PutsEnding old new before after (found_text its)
 
 -- Of an obtain without a cause what is put ends in the place of its area.
 abbrev pub TellsArea : Settings → NamedState → Act → Option (List ℕ) → Option (List ℕ) → Gathered → Gathered → Type 0
@@ -62,7 +62,8 @@ pub record TellsAct (settings : Settings) (m : NamedState) (x : Act) (old new : 
 -- Such a text is among what follows all text before it.
 abbrev pub PutsAmong : (List ℕ → Type 0) → Option (List ℕ) → Option (List ℕ) → Gathered → Gathered → Type 0
 PutsAmong is old new before after =
-    (text : List ℕ) × is text × ((front : List ℕ) × (behind : List ℕ) × Puts old new before after (front ++ (text ++ behind)))
+    (text : List ℕ) × is text
+    × ((front : List ℕ) × (rest : List ℕ) × Puts old new before after (front ++ (text ++ rest)))
 
 -- how many changes a step can go over, with the words for one and for several
 abbrev pub step_text : ℕ → List ℕ → List ℕ → List ℕ

@@ -4,16 +4,15 @@ ghost use Rattle.macro_statements.specs.Requests.{act_in, asked_in, written_in, 
 ghost use Rattle.storage_core.specs.Meaning.{state_of};
 ghost use Rattle.bench_core.specs.Stands.{bench_of, settings_in};
 ghost use Rattle.text_output.specs.Writing.{Puts};
-ghost use Rattle.area_reasons.specs.Pages.{pages_text};
-ghost use Rattle.place_reasons.specs.Told.{PutsSome};
+ghost use Rattle.explain_reasons.specs.Pages.{pages_text};
+ghost use Rattle.explain_text.specs.Pieces.{PutsSome};
 ghost use Rattle.explain_why.specs.Told.{PutsAmong, TellsAct, TellsReading, TellsRequest, step_text};
 
 use crate::headings::{put_bytes_heading, put_heading, put_number};
-use area_reasons::put_pages;
 use bench_core::Bench;
-use cause_reasons::put_cause;
+use explain_reasons::{put_cause, put_free_bytes, put_pages};
+use explain_text::{Piece, put_line};
 use macro_reader::{Request, Statement, Value};
-use place_reasons::{Piece, put_free_bytes, put_line};
 use std::io::Write;
 use storage_core::Storage;
 use text_output::Gathered;

@@ -1,8 +1,8 @@
 //! What a statement asks for, with the numbers of its values.
-ghost use Rattle.place_reasons.specs.Told.{PutsSome};
+ghost use Rattle.explain_text.specs.Pieces.{PutsSome};
 
+use explain_text::{Piece, bytes_word, put_pieces};
 use macro_reader::FaultKind;
-use place_reasons::{Piece, bytes_word, put_pieces};
 use std::io::Write;
 use storage_core::{
     Attach, Boundary, Build, Lengths, Location, Obtain, Passed, Release, Residence, Service,

@@ -2,17 +2,20 @@
 //! and what an answer means, by its text.
 #![tactic(auto)]
 
+mod ahead;
 mod causes;
+mod definitions;
+mod details;
 mod faults;
-mod forms;
 mod headings;
 mod lines;
 mod meanings;
 mod messages;
+mod output;
+mod undefined;
 mod words;
 
-pub use bench_core::NewFault;
 pub use faults::WhyFault;
-pub use forms::why;
 pub use meanings::{MeaningFault, code};
-pub use script_steps::Watch;
+pub use output::why;
+pub use undefined::undefined_name;

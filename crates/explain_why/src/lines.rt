@@ -4,32 +4,32 @@ ghost use Rattle.std.specs.Prelude.{codes, decimal, drop, length};
 ghost use Rattle.std.specs.Prelude.{map, take};
 ghost use Rattle.vsm_model.specs.declared.limits.Settings.{Settings};
 ghost use Rattle.macro_reader.specs.Columns.{Line, used};
-ghost use Rattle.statement_faults.specs.Places.{card_in};
+ghost use Rattle.explain_faults.specs.Places.{card_in};
 ghost use Rattle.script_steps.specs.Output.{Marked};
 ghost use Rattle.script_steps.specs.Responses.{response_text};
 ghost use Rattle.script_steps.specs.Script.{NoFeed};
 ghost use Rattle.script_steps.specs.Taken.{Took};
 ghost use Rattle.text_output.specs.Writing.{Puts};
 ghost use Rattle.bench_core.specs.Stands.{bench_of, settings_in};
-ghost use Rattle.place_reasons.specs.Told.{PutsSome};
+ghost use Rattle.explain_text.specs.Pieces.{PutsSome};
 ghost use Rattle.explain_why.specs.Explained.{IsExplained, IsFound, IsPlaceOf, IsStatementAt, TakesLine};
 ghost use Rattle.explain_why.specs.Explained.{WritesAhead};
 ghost use Rattle.explain_why.specs.Faults.{IsFaultOf, IsLastFault, IsOtherFault, IsPlaceFault, IsStatementFault};
 ghost use Rattle.explain_why.specs.Answers.{PutsAnswer, WritesAnswer, answer_text, first_text, goes_on_text};
 ghost use Rattle.explain_why.specs.Answers.{no_memory_text, note_text, tells_refusal};
-ghost use Rattle.statement_details.specs.Defined.{IsItsDefinition};
-ghost use Rattle.statement_details.specs.Details.{WritesDetail};
+ghost use Rattle.explain_why.specs.Defined.{IsItsDefinition};
+ghost use Rattle.explain_why.specs.Details.{WritesDetail};
 ghost use Rattle.explain_why.specs.Told.{PutsBeginning, TellsAhead};
 
+use crate::ahead::{Ahead, NextStatement, read_ahead, rest_from};
 use crate::causes::put_reasons;
+use crate::definitions::{Definition, definition_of};
+use crate::details::put_detail;
 use crate::faults::WhyFault;
 use crate::headings::put_fault_heading;
+use crate::undefined::undefined_name;
 use bench_core::{Bench, Refusal};
 use script_steps::{LINES, NumberedResponse, ReaderState, Response, Session, Watch, put_response};
-use statement_details::{
-    Ahead, Definition, NextStatement, definition_of, put_detail, read_ahead, rest_from,
-    undefined_name,
-};
 use std::alloc::Global;
 use std::io::Write;
 use text_output::{Gathered, put_decimal};

@@ -3,7 +3,7 @@
 /// An answer.
 #[derive(Clone, Copy)]
 pub(crate) struct Message {
-    /// The texts that it stands for, without numbers.
+    /// The texts that it stands for, each with some value.
     pub(crate) texts: &'static [&'static str],
     /// What it means, or why it comes.
     pub(crate) meaning: &'static str,
@@ -81,12 +81,12 @@ static REFUSALS: [Message; 4] = [
         advice: "Define it by ADDR of a STORAGE OBTAIN, A of a GETMAIN EU or CELL of a CPOOL GET.",
     },
     Message {
-        texts: &["REFUSED KEPT"],
+        texts: &["REFUSED KEPT=3"],
         meaning: "BACK is by more changes than are kept, whose number is printed.",
         advice: "Go back by at most that number. A forgotten change cannot be undone.",
     },
     Message {
-        texts: &["REFUSED UNDONE"],
+        texts: &["REFUSED UNDONE=0"],
         meaning: "FORWARD is by more changes than are undone, whose number is printed.",
         advice: "Go forward by at most that number. A statement accepted after the BACK discards what \
                 was undone.",
@@ -164,8 +164,8 @@ static USER_CODES: [Message; 13] = [
     Message {
         texts: &["U3011"],
         meaning: "CPOOL FREE of an address that is no cell's of this cell pool, or of a free cell.",
-        advice: "vsm-explain who --taken ADDRESS FILE says which statement freed it; an address \
-                within a cell will not do.",
+        advice: "vsm-explain who FILE ADDRESS says which statement freed it; an address within a cell \
+                will not do.",
     },
     Message {
         texts: &["U3012"],
@@ -209,8 +209,8 @@ static SYSTEM_CODES: [Message; 6] = [
         texts: &["SA78", "SA0A", "SA05"],
         meaning: "A part of the area is not taken: it is free in the subpool, or in an unassigned \
                 page.",
-        advice: "vsm-explain who --taken ADDRESS FILE says which statement released it; a length is \
-                rounded up.",
+        advice: "vsm-explain who FILE ADDRESS says which statement released it; a length is rounded \
+                up.",
     },
     Message {
         texts: &["SA03"],
@@ -232,7 +232,7 @@ pub(crate) fn system_codes() -> &'static [Message] {
 
 static ANSWERS: [Message; 11] = [
     Message {
-        texts: &["RC=0 A L"],
+        texts: &["RC=0 A=00006000 L=00000010"],
         meaning: "STORAGE OBTAIN, GETMAIN: the area was obtained. A is its address, L its length in \
                 bytes, rounded up to a multiple of 8, both in hexadecimal.",
         advice: "Register 15 is 0; register 1, and the name or register that ADDR or A names, have \
@@ -240,13 +240,13 @@ static ANSWERS: [Message; 11] = [
                 kept.",
     },
     Message {
-        texts: &["RC=0 A L"],
+        texts: &["RC=0 A=00006000 L=00000020"],
         meaning: "CPOOL BUILD: the cell pool was made. A is the address of its first extent, L its \
                 length in bytes, rounded up to a multiple of 8.",
         advice: "Only register 15 changes, to 0. The change is kept.",
     },
     Message {
-        texts: &["RC=0 A"],
+        texts: &["RC=0 A=00006010"],
         meaning: "CPOOL GET: the cell is at this address.",
         advice: "Register 15 is 0; register 1, and the name or register that CELL names, have the \
                 address. The change is kept.",
@@ -260,19 +260,19 @@ static ANSWERS: [Message; 11] = [
     },
     Message {
         texts: &["RC=4"],
-        meaning: "STORAGE with COND=YES, GETMAIN RC, VRC and EC, FREEMAIN RC and EC: there was no \
-                place for the area, or it could not be released. CPOOL GET with C or COND: no cell \
-                is free.",
+        meaning: "STORAGE with COND=YES, GETMAIN RC, VRC and EC, FREEMAIN RC and EC: there was no room \
+                for the area, or it could not be released. CPOOL GET with C or COND: no cell is \
+                free.",
         advice: "Only register 15 changed, to 4: no subpool or extent of cells is made, and no name \
                 defined. The change is kept, and what was undone is gone.",
     },
     Message {
-        texts: &["RC=0 T"],
+        texts: &["RC=0 T=2"],
         meaning: "ATTACH: the task was made; T is its number.",
         advice: "Register 15 is 0, register 1 has the number. The change is kept.",
     },
     Message {
-        texts: &["T"],
+        texts: &["T=2"],
         meaning: "RUN, ENDTASK: the task that now makes the requests.",
         advice: "No register. The change is kept.",
     },
@@ -282,7 +282,7 @@ static ANSWERS: [Message; 11] = [
         advice: "The bytes; no register. The change is kept.",
     },
     Message {
-        texts: &["D"],
+        texts: &["D=C1C20000"],
         meaning: "PEEK: the bytes, two hexadecimal digits each, from 1 to 256 of them.",
         advice: "Nothing has changed.",
     },
@@ -292,7 +292,7 @@ static ANSWERS: [Message; 11] = [
         advice: "Nothing has changed.",
     },
     Message {
-        texts: &["KEPT"],
+        texts: &["KEPT=5"],
         meaning: "BACK or FORWARD: the step was made; this number of changes is kept now, in decimal.",
         advice: "The state that these changes lead to.",
     },

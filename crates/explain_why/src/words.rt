@@ -4,7 +4,7 @@
 #[derive(Clone, Copy)]
 struct Word<'a> {
     text: &'a [u8],
-    /// Whether an equals sign follows it.
+    /// Whether it has a value, which isn't a word of its own.
     is_valued: bool,
     behind: &'a [u8],
 }
@@ -28,13 +28,20 @@ fn behind(text: &[u8], place: usize) -> &[u8] {
     }
 }
 
-/// The first word of a text.
+/// The first word of a text. A return code is the next word; any other value is left out.
 fn first_word(text: &[u8]) -> Word<'_> {
     let end = word_end(text).min(text.len());
+    let word = &text[..end];
+    let after = behind(text, end);
+    let is_valued = end < text.len() && text[end] == b'=' && !is_same(word, b"RC");
     Word {
-        text: &text[..end],
-        is_valued: end < text.len() && text[end] == b'=',
-        behind: behind(text, end),
+        text: word,
+        is_valued,
+        behind: if is_valued {
+            behind(after, word_end(after))
+        } else {
+            after
+        },
     }
 }
 
@@ -51,23 +58,19 @@ fn is_same(word: &[u8], other: &[u8]) -> bool {
     true
 }
 
-/// Whether a text is an answer that is printed with these words, or its first words. The value of a word, as that of
-/// `A=00006000`, isn't among the words that are printed; a text that has one is the whole answer.
+/// Whether a text is an answer that is printed with these words, or its first words. A value, as that of `A=00006000`,
+/// may be any other, or be left out; a text that has one is the whole answer.
 pub(crate) fn names(text: &[u8], printed: &[u8]) -> bool {
     let (mut rest, mut wanted) = (text, printed);
-    let (mut is_value, mut has_value) = (false, false);
+    let mut has_value = false;
     for _ in 0..8 {
         let (word, other) = (first_word(rest), first_word(wanted));
-        if is_same(word.text, other.text) {
-            wanted = other.behind;
-            is_value = word.is_valued && !other.is_valued;
-        } else if is_value {
-            has_value = true;
-            is_value = word.is_valued;
-        } else {
+        if !is_same(word.text, other.text) {
             return false;
         }
+        has_value = has_value || word.is_valued;
         rest = word.behind;
+        wanted = other.behind;
         if rest.is_empty() {
             return !has_value || wanted.is_empty();
         }
@@ -75,10 +78,40 @@ pub(crate) fn names(text: &[u8], printed: &[u8]) -> bool {
     false
 }
 
+/// Whether this is printed after ABEND.
+fn is_printed_code(printed: &[u8]) -> bool {
+    printed.len() > 1 && (printed[0] == b'S' || printed[0] == b'U') && !printed.contains(&b' ')
+}
+
 /// Whether a text is a completion code without its first letter: `878` of `S878`, `3008` of `U3008`.
-pub(crate) fn is_number_of(text: &[u8], code: &[u8]) -> bool {
-    let is_code = code.len() > 1 && (code[0] == b'S' || code[0] == b'U') && !code.contains(&b' ');
-    is_code && is_same(text, behind(code, 0))
+pub(crate) fn is_number_of(text: &[u8], printed: &[u8]) -> bool {
+    is_printed_code(printed) && is_same(text, behind(printed, 0))
+}
+
+/// Whether a text is the word before a completion code, and this is one.
+pub(crate) fn is_abend(text: &[u8], printed: &[u8]) -> bool {
+    is_printed_code(printed) && is_same(text, b"ABEND")
+}
+
+/// Whether a text may be a completion code: it's one word, and has a digit.
+pub(crate) fn is_code(text: &[u8]) -> bool {
+    word_end(text) == text.len() && text.iter().any(|byte| byte.is_ascii_digit())
+}
+
+/// What precedes the reason code of a text, which is a hyphen and hexadecimal digits; `None` if it has none.
+pub(crate) fn before_reason(text: &[u8]) -> Option<&[u8]> {
+    for (place, byte) in text.iter().enumerate() {
+        if *byte == b'-' {
+            let digits = behind(text, place);
+            let has_reason = !digits.is_empty() && digits.iter().all(|it| it.is_ascii_hexdigit());
+            return if has_reason {
+                Some(&text[..place])
+            } else {
+                None
+            };
+        }
+    }
+    None
 }
 
 /// A text from its first byte on that isn't a blank.

@@ -1,5 +1,5 @@
 -- A text for each pair of values, which can be an operand and is no value.
-use Rattle.std.proofs.Common.{◌≡◌, ℕ, ◌+◌, ◌-◌, ◌≤◌, ◌==◌, Bool, true, false, ◌&&◌, List, [], ◌∷◌, ◌++◌, length, Some, None, nat_le, nat_lt, ◌^◌, if◌then◌else◌, slice_index, arith, refl, ap, ◌∙◌}
+use Rattle.std.proofs.Common.{option_and_then, ◌≡◌, ℕ, ◌+◌, ◌-◌, ◌≤◌, ◌==◌, Bool, true, false, ◌&&◌, List, [], ◌∷◌, ◌++◌, length, Some, None, nat_le, nat_lt, ◌^◌, if◌then◌else◌, slice_index, arith, refl, ap, ◌∙◌}
 use Rattle.std.specs.Option.{option_map}
 use Rattle.std.specs.Char.{to_ascii_uppercase}
 use Rattle.std.specs.List.{list_all}
@@ -12,7 +12,7 @@ use Rattle.operand_texts.specs.Values.{is_quoted, number_of, register_number, wi
 use Rattle.operand_texts.proofs.OperandTexts.{IsOperand, goes_append, balanced_joined, split_joined}
 use Rattle.operand_texts.proofs.ValueTexts.{value_text_of, goes_enclosed}
 use Rattle.operand_texts.proofs.SpelledBytes.{last_is, front_is, all_both}
-use Rattle.macro_operands.specs.Lengths.{both_of, pair_in, pair_of}
+use Rattle.macro_operands.specs.Lengths.{both_of, pair_of}
 use Rattle.macro_operands.specs.Said.{name, register, other_said, value_said}
 
 -- what begins with a parenthesis is neither number nor name
@@ -115,7 +115,7 @@ pair_text_of a b h k =
     let few₂ : length tb.text ≤ 63 = tb.neat.few in
     record {
       text = 40 ∷ (t ++ 41 ∷ []);
-      spells = ap pair_in (parts ta.text tb.text (ta.neat.goes 0) (tb.neat.goes 0)) ∙ ap (λ x. both_of x (value_of tb.text)) ta.spells
+      spells = ap (option_and_then (λ p. both_of (value_of p.0) (value_of p.1))) (parts ta.text tb.text (ta.neat.goes 0) (tb.neat.goes 0)) ∙ ap (λ x. both_of x (value_of tb.text)) ta.spells
           ∙ ap (λ x. both_of (Some a) x) tb.spells;
       other = no_value ta.text tb.text ta.neat.some tb.neat.some;
       stands = goes_enclosed 0 t (goes_append _ _ _ ta.text (44 ∷ tb.text) (ta.neat.goes 1) (refl, refl, refl, tb.neat.goes 1));

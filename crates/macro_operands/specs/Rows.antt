@@ -11,9 +11,8 @@ pub data Key : Type 0 where
 
 abbrev pub same_key : Key → Key → Bool
 same_key (position i) (position j) = i == j
-same_key (position i) (keyword w) = false
-same_key (keyword v) (position j) = false
 same_key (keyword v) (keyword w) = bytes_eq w v
+same_key _ _ = false
 
 -- A key is one of these.
 abbrev pub is_among : List Key → Key → Bool

@@ -76,9 +76,8 @@ value_or_pair (Some said) text = Some said
 
 -- A value that isn't the one in register 0.
 abbrev pub unless_register_0 : Option Said → Option Said
-unless_register_0 None = None
 unless_register_0 (Some (register n)) = if n == 0 then None else Some (register n)
-unless_register_0 (Some said) = Some said
+unless_register_0 said = said
 
 -- What a text says as a value of this kind, if it's a supported one.
 abbrev pub said_of : Kind → List ℕ → Option Said
@@ -101,46 +100,18 @@ said_of kind.Any text = if length text == 0 then None else Some anything
 said_of kind.OtherForm text = None
 
 -- A text is a value of this kind that isn't supported: for lengths of the form R the one in register 0, for locations
--- EXPLICIT.
+-- EXPLICIT. All values of any other kind are.
 abbrev pub is_unsupported : Kind → List ℕ → Bool
-is_unsupported kind.Value text = false
-is_unsupported kind.Length text = false
-is_unsupported kind.Pair text = false
 is_unsupported kind.RegisterLength text = spells_register_0 text
-is_unsupported kind.NamedValue text = false
-is_unsupported kind.Place text = false
-is_unsupported kind.Name text = false
-is_unsupported kind.Condition text = false
-is_unsupported kind.ConditionWord text = false
-is_unsupported kind.Content text = false
-is_unsupported kind.Size text = false
-is_unsupported kind.Count text = false
-is_unsupported kind.Boundary text = false
 is_unsupported kind.Location text = is_explicit text
-is_unsupported kind.Header text = false
-is_unsupported kind.Any text = false
-is_unsupported kind.OtherForm text = false
+is_unsupported _ text = false
 
--- What is wrong with a text that is no value of this kind: it's a bad value. But if words are operands by themselves,
--- any other word is no operand of the statement, nor is what other forms have.
+-- What is wrong with a text that is no value of this kind: it's a bad value, whatever the kind. But if words are
+-- operands by themselves, any other word is no operand of the statement, nor is what other forms have.
 abbrev pub wrong_fault : Kind → FaultKind
-wrong_fault kind.Value = fault.Value
-wrong_fault kind.Length = fault.Value
-wrong_fault kind.Pair = fault.Value
-wrong_fault kind.RegisterLength = fault.Value
-wrong_fault kind.NamedValue = fault.Value
-wrong_fault kind.Place = fault.Value
-wrong_fault kind.Name = fault.Value
-wrong_fault kind.Condition = fault.Value
 wrong_fault kind.ConditionWord = fault.Operand
-wrong_fault kind.Content = fault.Value
-wrong_fault kind.Size = fault.Value
-wrong_fault kind.Count = fault.Value
-wrong_fault kind.Boundary = fault.Value
-wrong_fault kind.Location = fault.Value
-wrong_fault kind.Header = fault.Value
-wrong_fault kind.Any = fault.Value
 wrong_fault kind.OtherForm = fault.Operand
+wrong_fault _ = fault.Value
 
 -- What is wrong with a text that says nothing of this kind.
 abbrev pub unsaid_fault : Kind → List ℕ → FaultKind

@@ -6,7 +6,7 @@ use Rattle.std.proofs.lemmas.Bool.Decides.{eqb_tells}
 use Rattle.macro_reader.specs.Columns.{Line, used, is_continued, is_skipped}
 use Rattle.macro_reader.specs.Continuation.{Joined, begun, with_line, with_lines}
 use Rattle.macro_statements.specs.Statements.{statement_with}
-use Rattle.macro_reader.specs.Scripts.{Answer, number_behind, EndsDropping, Part, skipped, whole, broken, IsPart, IsGroup, IsBreak, AllContinued, lines_of, IsDropping, Reads, Drops, Gathers, Mode, awaiting, dropping, gathering, idle_with, gathered_with, behind_break, moved}
+use Rattle.macro_reader.specs.Scripts.{Answer, number_behind, Part, skipped, whole, broken, IsPart, IsGroup, IsBreak, AllContinued, lines_of, IsDropping, Reads, Drops, Gathers, Mode, awaiting, dropping, gathering, idle_with, gathered_with, behind_break, moved}
 use Rattle.macro_reader.specs.Roles.{Role, aside, first, further, breaking, gone, first_role, further_role, role, roles_after, roles_of, RolesAreOfParts, RolesAreOfBroken, RolesAreOfOpen}
 
 abbrev mode_after : ℕ → Mode → List Line → Mode
@@ -95,7 +95,7 @@ gathers_whole before n card j count x (y ∷ ys) k c h few =
     (goes_on (with_line j (used x)) (is_continued x) (count == 8) one.0 one.1 (below_8 count (omega arith)))
     (gathers_whole (before + 1) n card one.0 (count + 1) y ys k c.1 one.2 (omega arith))
 
-drops_on : (before : ℕ) (x : Line) (xs : List Line) → EndsDropping x xs → Feeds before dropping (x ∷ xs) awaiting (map (λ l. gone) (x ∷ xs))
+drops_on : (before : ℕ) (x : Line) (xs : List Line) → IsGroup x xs → Feeds before dropping (x ∷ xs) awaiting (map (λ l. gone) (x ∷ xs))
 drops_on before x [] h = feeds_one before dropping awaiting x [] awaiting gone [] (ap behind_break h) refl (feeds_none (before + 1) awaiting)
 drops_on before x (y ∷ ys) h = feeds_one before dropping awaiting x (y ∷ ys) dropping gone _ (ap behind_break h.0) refl (drops_on (before + 1) y ys h.1)
 
@@ -120,7 +120,7 @@ starts : (before : ℕ) (line : Line) → is_skipped line ≡ false → is_conti
 starts before line e c =
     ap (λ s. (idle_with s (is_continued line) (number_behind before) line).0) e ∙ ap (λ b. (idle_with false b (number_behind before) line).0) c
 
-ends_break : (before : ℕ) (at : Line) (dropped : List Line) → EndsDropping at dropped → Feeds before (behind_break (is_continued at)) dropped awaiting (map (λ l. gone) dropped)
+ends_break : (before : ℕ) (at : Line) (dropped : List Line) → IsGroup at dropped → Feeds before (behind_break (is_continued at)) dropped awaiting (map (λ l. gone) dropped)
 ends_break before at [] h = rw h (feeds_none before awaiting)
 ends_break before at (d ∷ ds) h = rw h.0 (drops_on before d ds h.1)
 

@@ -9,7 +9,7 @@ use Rattle.macro_statements.specs.Requests.{Asked}
 use Rattle.macro_statements.specs.Statements.{statement_with}
 use Rattle.macro_operands.specs.declared.faults.FaultKind.{FaultKind}
 use Rattle.macro_operands.specs.declared.faults.FaultKind.TheVariants as kind
-use Rattle.macro_reader.specs.Scripts.{Answer, number_behind, EndsDropping, IsDropping, Part, skipped, whole, broken, IsPart, IsGroup, IsBreak, AllContinued, said_by, lines_of, answer_to, answers_behind, Reads, Gathers, Drops, Between, Mode, awaiting, dropping, gathering, idle_with, gathered_with, behind_break, moved, Kept, IsBehind}
+use Rattle.macro_reader.specs.Scripts.{Answer, number_behind, IsDropping, Part, skipped, whole, broken, IsPart, IsGroup, IsBreak, AllContinued, said_by, lines_of, answer_to, answers_behind, Reads, Gathers, Drops, Between, Mode, awaiting, dropping, gathering, idle_with, gathered_with, behind_break, moved, Kept, IsBehind}
 
 pub each_push : {X : Type 0} (P : X → Type 0) (xs : List X) (x : X) → AllByRecursion P xs → P x → AllByRecursion P (xs ++ x ∷ [])
 each_push P [] x h k = (k, tt)
@@ -61,7 +61,7 @@ dropping_push : (line : Line) (ds : List Line) (d : Line) → IsDropping line ds
 dropping_push line [] d h k = (h, k)
 dropping_push line (x ∷ ds) d h k = (h.0, dropping_push x ds d h.1 k)
 
-dropping_end : (line : Line) (ds : List Line) (d : Line) → IsDropping line ds → is_continued d ≡ false → EndsDropping line (ds ++ d ∷ [])
+dropping_end : (line : Line) (ds : List Line) (d : Line) → IsDropping line ds → is_continued d ≡ false → IsGroup line (ds ++ d ∷ [])
 dropping_end line [] d h k = (h, k)
 dropping_end line (x ∷ ds) d h k = (h.0, dropping_end x ds d h.1 k)
 

@@ -9,7 +9,7 @@ use Rattle.macro_reader.specs.Columns.{Line, used, is_continued, is_skipped}
 use Rattle.macro_reader.specs.Continuation.{Joined, begun, with_line, with_lines}
 use Rattle.macro_statements.specs.Statements.{statement_with}
 use Rattle.macro_operands.specs.declared.faults.FaultKind.TheVariants as kind
-use Rattle.macro_reader.specs.Scripts.{Answer, number_behind, EndsDropping, IsDropping, Part, skipped, whole, broken, IsPart, IsGroup, IsBreak, AllContinued, said_by, lines_of, answer_to, answers_behind, Reads, Between, Answers, Mode, awaiting, dropping, gathering, idle_with, gathered_with, behind_break, moved, Kept, IsBehind}
+use Rattle.macro_reader.specs.Scripts.{Answer, number_behind, IsDropping, Part, skipped, whole, broken, IsPart, IsGroup, IsBreak, AllContinued, said_by, lines_of, answer_to, answers_behind, Reads, Between, Answers, Mode, awaiting, dropping, gathering, idle_with, gathered_with, behind_break, moved, Kept, IsBehind}
 use Rattle.macro_reader.proofs.Lines.{behind_push}
 
 abbrev mode_after : ℕ → Mode → List Line → Mode
@@ -91,7 +91,7 @@ gathers_whole before n card j count x (y ∷ ys) k c h few =
     ∙ ap (λ b. gathered_with (Some one.0) true b n card count) (below_8 count (omega arith)) in
     feeds_one before _ _ x (y ∷ ys) _ [] _ step (gathers_whole (before + 1) n card one.0 (count + 1) y ys k c.1 one.2 (omega arith))
 
-drops_on : (before : ℕ) (x : Line) (xs : List Line) → EndsDropping x xs → Feeds before dropping (x ∷ xs) awaiting []
+drops_on : (before : ℕ) (x : Line) (xs : List Line) → IsGroup x xs → Feeds before dropping (x ∷ xs) awaiting []
 drops_on before x [] h = feeds_one before dropping awaiting x [] awaiting [] [] (ap (λ b. (behind_break b, [])) h) (feeds_none (before + 1) awaiting)
 drops_on before x (y ∷ ys) h = feeds_one before dropping awaiting x (y ∷ ys) dropping [] [] (ap (λ b. (behind_break b, [])) h.0) (drops_on (before + 1) y ys h.1)
 
@@ -122,7 +122,7 @@ breaks_on : (before n : ℕ) (card : List ℕ) (j : Joined) (count : ℕ) (at : 
 breaks_on before n card j count at new dropped b h =
     feeds_one before _ new at dropped (behind_break (is_continued at)) (fault_of n) [] (break_moves (with_line j (used at)) (is_continued at) n card count b) h
 
-ends_break : (before : ℕ) (at : Line) (dropped : List Line) → EndsDropping at dropped → Feeds before (behind_break (is_continued at)) dropped awaiting []
+ends_break : (before : ℕ) (at : Line) (dropped : List Line) → IsGroup at dropped → Feeds before (behind_break (is_continued at)) dropped awaiting []
 ends_break before at [] h = rw h (feeds_none before awaiting)
 ends_break before at (d ∷ ds) h = rw h.0 (drops_on before d ds h.1)
 

@@ -28,15 +28,10 @@ pub data Part : Type 0 where
 abbrev pub AllContinued : List Line → Type 0
 AllContinued lines = AllByRecursion (λ l. is_continued l ≡ true) lines
 
--- Each line of a statement except the last is continued.
+-- Each line of a statement, or of those that are dropped after a broken one, is continued, except the last.
 abbrev pub IsGroup : Line → List Line → Type 0
 IsGroup line [] = is_continued line ≡ false
 IsGroup line (next ∷ lines) = (is_continued line ≡ true) × IsGroup next lines
-
--- Dropped lines follow a continued line, each of them except the last continued.
-abbrev pub EndsDropping : Line → List Line → Type 0
-EndsDropping line [] = is_continued line ≡ false
-EndsDropping line (next ∷ lines) = (is_continued line ≡ true) × EndsDropping next lines
 
 -- The same, if the last is continued too.
 abbrev pub IsDropping : Line → List Line → Type 0
@@ -58,7 +53,7 @@ IsPart (whole line lines) =
 IsPart (broken line before at dropped) =
     (is_skipped line ≡ false) × AllContinued (line ∷ before)
     × ((j : Joined) × (with_lines (begun (used line)) (map used before) ≡ Some j) × IsBreak j before at)
-    × EndsDropping at dropped × (length before ≤ 8)
+    × IsGroup at dropped × (length before ≤ 8)
 
 -- The lines of a part.
 abbrev pub lines_of : Part → List Line

@@ -9,7 +9,7 @@ use Rattle.operand_texts.specs.Values.{value_of, target_of, parts_of}
 use Rattle.operand_texts.proofs.Spelling.{spelled_is_valid, spelled_place_is_valid, upper_named}
 use Rattle.macro_operands.specs.Rows.{keyword}
 use Rattle.macro_operands.specs.Operands.{first_fault, unless_fault, text_at}
-use Rattle.macro_operands.specs.Lengths.{both_of, pair_in, pair_of, is_register_0, is_named, name_of}
+use Rattle.macro_operands.specs.Lengths.{both_of, pair_of, is_register_0, is_named, name_of}
 use Rattle.macro_operands.specs.Said.{Said, number, register, name, pair, condition, content, size, count, boundary, location, header, anything, said_of, value_said, pair_said, value_or_pair, unless_register_0}
 use Rattle.macro_operands.specs.Slots.{Slots, slot, readings, as_value, as_pair, as_place, as_condition, as_boundary, as_location}
 use Rattle.macro_operands.proofs.ReadValues.{name_in, value_kept, no_pair, place_kept}
@@ -50,7 +50,7 @@ both_valid None b h k = tt
 both_valid (Some a) None h k = tt
 both_valid (Some a) (Some b) h k = (h, k)
 
-pair_in_valid : (p : Option (List ℕ × List ℕ)) → IfSome (pair_in p) AreValues
+pair_in_valid : (p : Option (List ℕ × List ℕ)) → IfSome (option_and_then (λ q. both_of (value_of q.0) (value_of q.1)) p) AreValues
 pair_in_valid None = tt
 pair_in_valid (Some p) = both_valid (value_of p.0) (value_of p.1) (some_value p.0 (value_of p.0) refl) (some_value p.1 (value_of p.1) refl)
 

@@ -1,6 +1,6 @@
 -- Operands for each valid request on tasks.
 use Rattle.std.proofs.Common.{◌≡◌, ℕ, ◌≤◌, Bool, true, false, not, List, [], ◌∷◌, length, Option, Some, None, is_some, Ok, codes, option_and_then, if◌then◌else◌, arith, refl, ap, ◌∙◌}
-use Rattle.std.specs.Option.{IfSome}
+use Rattle.std.specs.Option.{IfSome, unwrap_or}
 use Rattle.std.proofs.lemmas.List.{length-append}
 use Rattle.operand_texts.specs.Written.{Written, IsValue}
 use Rattle.operand_texts.specs.Values.{value_of}
@@ -14,7 +14,7 @@ use Rattle.macro_operands.specs.declared.rows.Kind.TheVariants as kind
 use Rattle.macro_operands.proofs.WrittenOperands.{Item, item, operand_text, Fits, lookup, stand, long}
 use Rattle.macro_operands.proofs.WrittenOperands as operands
 use Rattle.macro_operands.specs.Requests.{WrittenSubpools, nothing, one, listed, IsSubpools, attach, detach, run, Asked, act}
-use Rattle.macro_statements.specs.Attach.{attach_row, subpools_by, shares_zero_by, attach_of}
+use Rattle.macro_statements.specs.Attach.{attach_row, subpools_by, attach_of}
 use Rattle.macro_statements.specs.Detach.{detach_row, detach_of}
 use Rattle.macro_statements.specs.Run.{run_row, run_of}
 use Rattle.macro_statements.specs.Statements.{asked_of, behind_of}
@@ -164,7 +164,7 @@ subpools_read number list os n l s h k e = rw (h, k) e
 attach_is : (os : List (List ℕ)) (g s : WrittenSubpools) (z : Bool) → first_fault attach_row os ≡ None
     → subpools_by (value_at (keyword (codes "GSPV")) os) (value_at (keyword (codes "GSPL")) os) ≡ g
     → subpools_by (value_at (keyword (codes "SHSPV")) os) (value_at (keyword (codes "SHSPL")) os) ≡ s
-    → shares_zero_by (option_and_then condition_of (text_at (keyword (codes "SZERO")) os)) ≡ z → attach_of os ≡ Ok (act (attach g s z))
+    → unwrap_or (option_and_then condition_of (text_at (keyword (codes "SZERO")) os)) true ≡ z → attach_of os ≡ Ok (act (attach g s z))
 attach_is os g s z f a b c = rw (f, a, b, c) refl
 
 -- how long they are
@@ -203,8 +203,8 @@ attach_operands g s z h k =
           (text attach_row (keyword (codes "GSPL")) items fit ∙ found.given_list) x.is)
           (subpools_read (keyword (codes "SHSPV")) (keyword (codes "SHSPL")) (operands.written items) _ _ s (text attach_row (keyword (codes "SHSPV")) items fit ∙ found.shared)
           (text attach_row (keyword (codes "SHSPL")) items fit ∙ found.shared_list) y.is)
-          (ap (λ t. shares_zero_by (option_and_then condition_of t)) (text attach_row (keyword (codes "SZERO")) items fit ∙ found.zero)
-          ∙ ap shares_zero_by (zero_is z));
+          (ap (λ t. unwrap_or (option_and_then condition_of t) true) (text attach_row (keyword (codes "SZERO")) items fit ∙ found.zero)
+          ∙ ap (λ o. unwrap_or o true) (zero_is z));
       fits = λ r. (let word = zero_few z in
           let rest = long first (other_items x.list y.list x.text y.text) (given_few x.list x.text x.few, (shared_few y.list y.text y.few, tt)) in
           omega (arith, size, word, rest));

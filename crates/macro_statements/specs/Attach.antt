@@ -9,16 +9,9 @@ use Rattle.macro_operands.specs.Requests.{WrittenSubpools, nothing, one, listed,
 use Rattle.macro_operands.specs.declared.faults.FaultKind.{FaultKind}
 use Rattle.macro_operands.specs.declared.rows.Kind.TheVariants as kind
 
--- The keywords of ATTACH that are left out: events, exits and their parameters, programs and their libraries,
--- dispatching, and lists of operands.
-abbrev pub attach_left_out : List (List ℕ)
-attach_left_out =
-    codes "ECB" ∷ codes "ETXR" ∷ codes "EPLOC" ∷ codes "DE" ∷ codes "DCB" ∷ codes "PARAM" ∷ codes "VL"
-    ∷ codes "LPMOD" ∷ codes "DPMOD" ∷ codes "SF" ∷ codes "ESTAI" ∷ codes "STAI" ∷ codes "TASKLIB"
-    ∷ codes "MF" ∷ []
-
 -- ATTACH has the name of a program, which has no effect; the subpools that the new task is given, and those that it
--- shares, each by one number or by the address of a list; and whether it shares subpool 0.
+-- shares, each by one number or by the address of a list; and whether it shares subpool 0. Keywords for events, exits
+-- and their parameters, programs and their libraries, dispatching, and lists of operands are left out.
 abbrev pub attach_row : Row
 attach_row = record {
   entries = entry (keyword (codes "EP")) kind.Name
@@ -29,7 +22,8 @@ attach_row = record {
       ∷ entry (keyword (codes "SZERO")) kind.Condition
       ∷ entry (keyword (codes "RELATED")) kind.Any ∷ entry (keyword (codes "LINKAGE")) kind.Any
       ∷ entry (keyword (codes "REGS")) kind.Any ∷ [];
-  left_out = attach_left_out;
+  left_out = codes "ECB" ∷ codes "ETXR" ∷ codes "EPLOC" ∷ codes "DE" ∷ codes "DCB" ∷ codes "PARAM" ∷ codes "VL"
+      ∷ codes "LPMOD" ∷ codes "DPMOD" ∷ codes "SF" ∷ codes "ESTAI" ∷ codes "STAI" ∷ codes "TASKLIB" ∷ codes "MF" ∷ [];
 }
 
 -- Subpools by one number, or by the address of a list, or none.
@@ -38,15 +32,11 @@ subpools_by (Some n) list = one n
 subpools_by None (Some address) = listed address
 subpools_by None None = nothing
 
--- SZERO is YES if it is left out.
-abbrev pub shares_zero_by : Option Bool → Bool
-shares_zero_by shares = unwrap_or shares true
-
 -- Subpools that are given and that are shared, each by one number or by a list, and whether subpool 0 is shared. None
--- of them is required.
+-- of them is required, and SZERO is YES if it is left out.
 abbrev pub attach_with : Option Written → Option Written → Option Written → Option Written → Option Bool → Asked
 attach_with given given_list shared shared_list shares_zero =
-    act (attach (subpools_by given given_list) (subpools_by shared shared_list) (shares_zero_by shares_zero))
+    act (attach (subpools_by given given_list) (subpools_by shared shared_list) (unwrap_or shares_zero true))
 
 abbrev pub attach_of : List (List ℕ) → Result Asked FaultKind
 attach_of texts =

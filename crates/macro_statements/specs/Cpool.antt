@@ -86,11 +86,8 @@ pool_form_with f texts =
     unless_fault (first_fault (pool_form_row f) texts) (pool_by f (readings (pool_form_row f).entries texts))
 
 -- CPOOL's form LIST is left out.
-abbrev pub left_out_forms : List (List ℕ)
-left_out_forms = codes "LIST" ∷ []
-
 abbrev pub with_pool_form : List ℕ → List (List ℕ) → Option PoolForm → Result Asked FaultKind
-with_pool_form word texts None = Err (no_form_fault left_out_forms word)
+with_pool_form word texts None = Err (no_form_fault (codes "LIST" ∷ []) word)
 with_pool_form word texts (Some f) = pool_form_with f texts
 
 -- CPOOL with its operands, the first of which is a form's word.

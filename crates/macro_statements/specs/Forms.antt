@@ -103,12 +103,10 @@ location_by f location = unwrap_or location (usual_location f)
 abbrev pub form_by : Form → Option Bool → Form
 form_by form condition = record { family = form.family; conditional = form.conditional || condition_by condition }
 
--- The forms of the family E require a place for the address.
+-- Only the forms of the family E require a place for the address.
 abbrev pub lacks_place : Family → Option Target → Bool
-lacks_place family.S target = false
-lacks_place family.R target = false
 lacks_place family.E None = true
-lacks_place family.E (Some target) = false
+lacks_place _ _ = false
 
 -- The length is required.
 abbrev pub obtain_with : Option WrittenLength → Written → Option Target → Boundary → Location → Form
@@ -126,11 +124,9 @@ has_whole family.E = false
 -- A length and an address are required, or neither and a subpool, of which all is released.
 abbrev pub release_with : Option Written → Option Written → Option Written → Form → Result Asked FaultKind
 release_with (Some length) (Some address) subpool form = Ok (act (release length address (subpool_by subpool) form))
-release_with (Some length) None subpool form = Err fault.Missing
-release_with None (Some address) subpool form = Err fault.Missing
-release_with None None None form = Err fault.Missing
 release_with None None (Some subpool) form =
     if has_whole form.family then Ok (act (whole subpool form)) else Err fault.Missing
+release_with _ _ _ form = Err fault.Missing
 
 -- What a form asks for by what its operands say, in the order of `storage_row`.
 abbrev pub obtain_by : Form → Slots → Result Asked FaultKind

@@ -1,5 +1,5 @@
 -- PEEK, and its row.
-use Rattle.std.specs.Prelude.{ℕ, List, [], ◌∷◌, Option, Some, None, Result, Ok, Err, option_and_then}
+use Rattle.std.specs.Prelude.{ℕ, List, [], ◌∷◌, Option, Some, Result, Ok, Err, option_and_then}
 use Rattle.operand_texts.specs.Values.{size_of}
 use Rattle.operand_texts.specs.Written.{Written}
 use Rattle.macro_operands.specs.Rows.{position, entry, Row}
@@ -18,9 +18,8 @@ peek_row = record {
 
 -- An address and a length are required.
 abbrev pub peek_with : Option Written → Option ℕ → Result Asked FaultKind
-peek_with None size = Err fault.Missing
-peek_with (Some address) None = Err fault.Missing
 peek_with (Some address) (Some size) = Ok (peek address size)
+peek_with _ _ = Err fault.Missing
 
 -- PEEK, a statement of the bench's own, has an address and a length.
 abbrev pub peek_of : List (List ℕ) → Result Asked FaultKind

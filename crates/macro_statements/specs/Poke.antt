@@ -1,5 +1,5 @@
 -- POKE, and its row.
-use Rattle.std.specs.Prelude.{ℕ, List, [], ◌∷◌, Option, Some, None, Result, Ok, Err, option_and_then}
+use Rattle.std.specs.Prelude.{ℕ, List, [], ◌∷◌, Option, Some, Result, Ok, Err, option_and_then}
 use Rattle.operand_texts.specs.Values.{content_of}
 use Rattle.operand_texts.specs.Written.{Written, Stored}
 use Rattle.macro_operands.specs.Rows.{position, entry, Row}
@@ -18,9 +18,8 @@ poke_row = record {
 
 -- An address and what is stored there are required.
 abbrev pub poke_with : Option Written → Option Stored → Result Asked FaultKind
-poke_with None content = Err fault.Missing
-poke_with (Some address) None = Err fault.Missing
 poke_with (Some address) (Some content) = Ok (act (poke address content))
+poke_with _ _ = Err fault.Missing
 
 -- POKE, a statement of the bench's own, has an address and what is stored there.
 abbrev pub poke_of : List (List ℕ) → Result Asked FaultKind

@@ -70,22 +70,11 @@ SpellsRequest operation field asked = of_operation (Some operation) field ≡ Ok
 abbrev pub from_operation : List ℕ → List ℕ
 from_operation card = after_blanks (after_word card)
 
--- What follows an operation: operands, also if it isn't a known one, or only remarks.
+-- What follows an operation: only remarks after these two, and operands after any other, also if it isn't known.
 abbrev pub behind_of : Option Operation → Behind
-behind_of None = behind.Operands
-behind_of (Some operation.Storage) = behind.Operands
-behind_of (Some operation.Getmain) = behind.Operands
-behind_of (Some operation.Freemain) = behind.Operands
-behind_of (Some operation.Cpool) = behind.Operands
-behind_of (Some operation.Attach) = behind.Operands
-behind_of (Some operation.Detach) = behind.Operands
-behind_of (Some operation.Run) = behind.Operands
 behind_of (Some operation.EndTask) = behind.Remarks
-behind_of (Some operation.Poke) = behind.Operands
-behind_of (Some operation.Peek) = behind.Operands
 behind_of (Some operation.Map) = behind.Remarks
-behind_of (Some operation.Back) = behind.Operands
-behind_of (Some operation.Forward) = behind.Operands
+behind_of _ = behind.Operands
 
 -- The operands in a text after an operation: nothing if it is only remarks.
 abbrev pub operands_in : Behind → List ℕ → List ℕ

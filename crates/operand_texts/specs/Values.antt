@@ -91,10 +91,8 @@ SpellsPlace text target = target_of text ≡ Some target
 
 -- Two operands, whatever they are.
 abbrev pub two_of : List (List ℕ) → Option (List ℕ × List ℕ)
-two_of [] = None
-two_of (a ∷ []) = None
 two_of (a ∷ b ∷ []) = Some (a, b)
-two_of (a ∷ b ∷ c ∷ os) = None
+two_of _ = None
 
 -- The two parts of a text in parentheses, with a comma between them. They may be empty.
 abbrev pub parts_of : List ℕ → Option (List ℕ × List ℕ)

@@ -8,16 +8,16 @@ use Rattle.vsm_elements.specs.Chain.{Link}
 use Rattle.vsm_elements.specs.Ownership.{Leaves}
 use Rattle.vsm_elements.proofs.StoreLemmas.{among_first, among_later}
 use Rattle.vsm_elements.proofs.ChainFrame.{gone}
-use Rattle.item_tree.specs.declared.item.Item.{Item}
-use Rattle.item_tree.specs.declared.tree.ItemTree.{ItemTree}
-use Rattle.item_tree.specs.Items.{key, item_in, item_from, AllBelow, AllFrom}
-use Rattle.item_tree.specs.Items
-use Rattle.item_tree.specs.Trees.{items, owned, IsTree, IsPut, Puts, Takes, Writes}
-use Rattle.item_tree.proofs.OrderLemmas.{in_none_below, in_behind, in_here}
-use Rattle.item_tree.proofs.SetLemmas.{stored}
-use Rattle.item_tree.proofs.ShapeLemmas.{id_of}
-use Rattle.item_tree.proofs.TreeLemmas.{owned_ids, tree_kept, items_kept, owned_kept}
-use Rattle.item_tree.proofs.Lists.{out_cons, out_of_cons}
+use Rattle.row_table.specs.declared.item.Item.{Item}
+use Rattle.row_table.specs.declared.tree.ItemTree.{ItemTree}
+use Rattle.row_table.specs.Items.{key, item_in, item_from, AllBelow, AllFrom}
+use Rattle.row_table.specs.Items
+use Rattle.row_table.specs.Trees.{items, owned, IsTree, IsPut, Puts, Takes, Writes}
+use Rattle.row_table.proofs.OrderLemmas.{in_none_below, in_behind, in_here}
+use Rattle.row_table.proofs.ItemSetLemmas.{stored}
+use Rattle.row_table.proofs.ShapeLemmas.{id_of}
+use Rattle.row_table.proofs.TreeLemmas.{owned_ids, tree_kept, items_kept, owned_kept}
+use Rattle.row_table.proofs.Lists.{out_cons, out_of_cons}
 use Rattle.row_table.specs.declared.row.Row.{Row}
 use Rattle.row_table.specs.Rows.{word, same_key, is_under, row_in, Single, Ascends}
 use Rattle.row_table.specs.Keys.{key_of, seven, row_in_item, link_in, links}

@@ -2,14 +2,14 @@
 use Rattle.std.proofs.Common.{◌≡◌, ℕ, ◌≤◌, Bool, true, inl, inr, List, [], ◌∷◌, ◌++◌, length, Option, Some, None, refl, sym, ap, ◌∙◌, subst, arith}
 use Rattle.std.specs.Prelude.{map, option_map, if◌then◌else◌}
 use Rattle.vsm_elements.specs.Store.{Store}
-use Rattle.item_tree.specs.declared.item.Item.{Item}
-use Rattle.item_tree.specs.declared.tree.ItemTree.{ItemTree}
-use Rattle.item_tree.specs.declared.shape.Node.{Node}
-use Rattle.item_tree.specs.Items.{Ascends, last_item, item_or}
-use Rattle.item_tree.specs.Trees.{items, Opens}
-use Rattle.item_tree.proofs.ShapeLemmas.{id_of}
-use Rattle.item_tree.proofs.OrderLemmas.{ascends_left, ascends_right}
-use Rattle.item_tree.proofs.TreeLemmas.{owned_ids, length-tree, small_tree}
+use Rattle.row_table.specs.declared.item.Item.{Item}
+use Rattle.row_table.specs.declared.tree.ItemTree.{ItemTree}
+use Rattle.row_table.specs.declared.shape.Node.{Node}
+use Rattle.row_table.specs.Items.{Ascends, last_item, item_or}
+use Rattle.row_table.specs.Trees.{items, Opens}
+use Rattle.row_table.proofs.ShapeLemmas.{id_of}
+use Rattle.row_table.proofs.OrderLemmas.{ascends_left, ascends_right}
+use Rattle.row_table.proofs.TreeLemmas.{owned_ids, length-tree, small_tree}
 use Rattle.row_table.specs.declared.row.Row.{Row}
 use Rattle.row_table.specs.Rows.{word, is_under, comes_before, RowsBehind, AreInOrder, AreLow, row_among, row_or, last_row}
 use Rattle.row_table.specs.Keys.{row_in_item, link_in}

@@ -4,13 +4,13 @@ use Rattle.std.specs.Prelude.{if◌then◌else◌, map, option_map}
 use Rattle.std.proofs.lemmas.Bool.Decides.{eqb_tells}
 use Rattle.vsm_elements.specs.Store.{Store}
 use Rattle.vsm_elements.specs.Chain.{Link, ids}
-use Rattle.item_tree.specs.declared.item.Item.{Item}
-use Rattle.item_tree.specs.declared.tree.ItemTree.{ItemTree}
-use Rattle.item_tree.specs.Items.{key, item_in, AllFrom}
-use Rattle.item_tree.specs.Items
-use Rattle.item_tree.specs.Trees.{items, owned}
-use Rattle.item_tree.proofs.ShapeLemmas.{id_of}
-use Rattle.item_tree.proofs.TreeLemmas.{owned_ids}
+use Rattle.row_table.specs.declared.item.Item.{Item}
+use Rattle.row_table.specs.declared.tree.ItemTree.{ItemTree}
+use Rattle.row_table.specs.Items.{key, item_in, AllFrom}
+use Rattle.row_table.specs.Items
+use Rattle.row_table.specs.Trees.{items, owned}
+use Rattle.row_table.proofs.ShapeLemmas.{id_of}
+use Rattle.row_table.proofs.TreeLemmas.{owned_ids}
 use Rattle.row_table.specs.declared.row.Row.{Row}
 use Rattle.row_table.specs.Rows.{word, is_under, row_in, AllBehind, Ascends}
 use Rattle.row_table.specs.Keys.{key_of, seven, row_in_item, link_in, links}

@@ -5,7 +5,7 @@ use Rattle.vsm_elements.specs.Store.{Store, among}
 use Rattle.vsm_elements.specs.Chain.{Link, ids}
 use Rattle.row_table.specs.Keys.{links}
 use Rattle.row_table.proofs.KeyLemmas.{owned_links, links_ascend}
-use Rattle.item_tree.specs.Trees.{items}
+use Rattle.row_table.specs.Trees.{items}
 use Rattle.vsm_elements.proofs.StoreLemmas.{among_cons, among_later}
 use Rattle.row_table.specs.declared.row.Row.{Row}
 use Rattle.row_table.specs.declared.table.RowTable.{RowTable}

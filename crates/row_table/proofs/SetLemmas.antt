@@ -4,11 +4,11 @@ use Rattle.std.specs.Prelude.{if◌then◌else◌, option_map, slice_set}
 use Rattle.std.proofs.lemmas.List.{length-drop}
 use Rattle.vsm_elements.specs.Store.{Store, among}
 use Rattle.vsm_elements.specs.Chain.{element}
-use Rattle.item_tree.specs.declared.item.Item.{Item}
-use Rattle.item_tree.specs.declared.tree.ItemTree.{ItemTree}
-use Rattle.item_tree.specs.Items.{key, item_in}
-use Rattle.item_tree.specs.Trees.{items, owned, words_at, Writes}
-use Rattle.item_tree.proofs.SetLemmas.{stored}
+use Rattle.row_table.specs.declared.item.Item.{Item}
+use Rattle.row_table.specs.declared.tree.ItemTree.{ItemTree}
+use Rattle.row_table.specs.Items.{key, item_in}
+use Rattle.row_table.specs.Trees.{items, owned, words_at, Writes}
+use Rattle.row_table.proofs.ItemSetLemmas.{stored}
 use Rattle.row_table.specs.declared.row.Row.{Row}
 use Rattle.row_table.specs.Rows.{word, is_under, row_in}
 use Rattle.row_table.specs.Keys.{key_of, seven, row_in_item, links}

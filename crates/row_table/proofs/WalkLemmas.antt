@@ -5,15 +5,15 @@ use Rattle.std.proofs.lemmas.List.{take_more, take-append-drop}
 use Rattle.std.proofs.lemmas.Bool.Decides.{leb_tells}
 use Rattle.vsm_elements.specs.Store.{Store, at, among}
 use Rattle.vsm_elements.specs.Chain.{Link, element, last_or}
-use Rattle.item_tree.specs.declared.item.Item.{Item}
-use Rattle.item_tree.specs.declared.tree.ItemTree.{ItemTree}
-use Rattle.item_tree.specs.Items.{key, item_in, item_from, AllBelow, AllFrom, Ascends}
-use Rattle.item_tree.specs.Trees.{items, owned}
-use Rattle.item_tree.proofs.Lists.{in_middle}
-use Rattle.item_tree.proofs.ShapeLemmas.{id_of, ids_append, positive}
-use Rattle.item_tree.proofs.OrderLemmas.{below_more, below_join, below_middle, ascends_right, from_here, in_here}
-use Rattle.item_tree.proofs.SetLemmas.{AllStored, stored}
-use Rattle.item_tree.proofs.TreeLemmas.{owned_ids, length-tree, small_tree}
+use Rattle.row_table.specs.declared.item.Item.{Item}
+use Rattle.row_table.specs.declared.tree.ItemTree.{ItemTree}
+use Rattle.row_table.specs.Items.{key, item_in, item_from, AllBelow, AllFrom, Ascends}
+use Rattle.row_table.specs.Trees.{items, owned}
+use Rattle.row_table.proofs.Lists.{in_middle}
+use Rattle.row_table.proofs.ShapeLemmas.{id_of, ids_append, positive}
+use Rattle.row_table.proofs.OrderLemmas.{below_more, below_join, below_middle, ascends_right, from_here, in_here}
+use Rattle.row_table.proofs.ItemSetLemmas.{AllStored, stored}
+use Rattle.row_table.proofs.TreeLemmas.{owned_ids, length-tree, small_tree}
 use Rattle.row_table.specs.declared.row.Row.{Row}
 use Rattle.row_table.specs.Rows.{word, row_in}
 use Rattle.row_table.specs.Keys.{row_in_item, link_in, links}

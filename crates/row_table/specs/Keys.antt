@@ -2,9 +2,9 @@
 use Rattle.std.specs.Prelude.{ℕ, ◌+◌, ◌*◌, ◌/◌, ◌%◌, List, ◌∷◌, map, drop}
 use Rattle.vsm_elements.specs.Store.{Store}
 use Rattle.vsm_elements.specs.Chain.{Link}
-use Rattle.item_tree.specs.declared.item.Item.{Item}
-use Rattle.item_tree.specs.declared.tree.ItemTree.{ItemTree}
-use Rattle.item_tree.specs.Trees.{items}
+use Rattle.row_table.specs.declared.item.Item.{Item}
+use Rattle.row_table.specs.declared.tree.ItemTree.{ItemTree}
+use Rattle.row_table.specs.Trees.{items}
 use Rattle.row_table.specs.declared.row.Row.{Row}
 use Rattle.row_table.specs.Rows.{word}
 

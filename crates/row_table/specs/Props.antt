@@ -1,8 +1,8 @@
 -- That elements hold a table has at most one proof.
 use Rattle.std.proofs.Props.{props}
 use Rattle.vsm_elements.specs.Store.{Store}
-use Rattle.item_tree.specs.declared.tree.ItemTree.{ItemTree}
-use Rattle.item_tree.specs.Props.{IsTree-prop, Ascends-prop}
+use Rattle.row_table.specs.declared.tree.ItemTree.{ItemTree}
+use Rattle.row_table.specs.ItemProps.{IsTree-prop, Ascends-prop}
 use Rattle.row_table.specs.declared.table.RowTable.{RowTable}
 use Rattle.row_table.specs.Kept.{IsKept}
 use Rattle.row_table.specs.RowTable.{IsTable}

@@ -4,7 +4,7 @@
 use Rattle.std.specs.Prelude.{◌≡◌, ℕ, List, Option, Some, map, drop}
 use Rattle.vsm_elements.specs.Store.{Store}
 use Rattle.vsm_elements.specs.Chain.{Link, element}
-use Rattle.item_tree.specs.Trees
+use Rattle.row_table.specs.Trees
 use Rattle.row_table.specs.Keys.{links, seven}
 use Rattle.row_table.specs.declared.places.RowPlace.{RowPlace}
 use Rattle.row_table.specs.declared.row.Row.{Row}

@@ -5,8 +5,8 @@ ghost use Rattle.std.specs.Prelude.{◌≡◌, ℕ, ◌^◌, ◌<◌, ◌∷◌,
 ghost use Rattle.row_table.specs.Rows.{word, IsInRange};
 ghost use Rattle.row_table.specs.Keys.{key_of, six, seven, row_in_item};
 
+use crate::Item;
 use crate::row::Row;
-use item_tree::Item;
 
 // How many numbers there are for the first of the two.
 const NUMBERS: u32 = 256;

@@ -2,8 +2,8 @@
 
 ghost use Rattle.std.specs.Prelude.{◌≡◌, ◌+◌, ℕ, IfSome, option_map, slice_get};
 ghost use Rattle.vsm_elements.specs.Store.{Store};
-ghost use Rattle.item_tree.specs.Items.{item_from};
-ghost use Rattle.item_tree.specs.Trees.{items};
+ghost use Rattle.row_table.specs.Items.{item_from};
+ghost use Rattle.row_table.specs.Trees.{items};
 ghost use Rattle.row_table.specs.RowTable.{row, rows, place_index, id_before, IsTable, IsPlace};
 
 use crate::keys::row_of;

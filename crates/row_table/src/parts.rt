@@ -6,10 +6,10 @@ ghost use Rattle.vsm_elements.specs.Ownership.{Leaves};
 ghost use Rattle.row_table.specs.Rows.{word, same_key, is_under, IsInRange};
 ghost use Rattle.row_table.specs.RowTable.{row, owned, IsTable};
 
+use crate::Item;
 use crate::keys::{item_words, key_of, row_of};
 use crate::row::Row;
 use crate::table::RowTable;
-use item_tree::Item;
 use vsm_elements::{Elements, Id};
 
 #[tactic(auto, unfolding(crate::specs::RowTable::row, crate::specs::RowTable::owned, crate::specs::RowTable::IsTable))]

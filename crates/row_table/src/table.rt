@@ -4,9 +4,9 @@ ghost use Rattle.vsm_elements.specs.Store.{Store, among};
 ghost use Rattle.vsm_elements.specs.Ownership.{Leaves, Apart};
 ghost use Rattle.row_table.specs.Rows.{word, same_key, is_under, either_of, IsInRange};
 
+use crate::ItemTree;
 use crate::keys::{key_of, row_of, row_words, words_behind_key};
 use crate::row::Row;
-use item_tree::ItemTree;
 use vsm_elements::{Element, Elements, Id};
 
 /// The head of a table of rows, no two of which begin with the same two words.

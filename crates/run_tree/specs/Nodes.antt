@@ -1,6 +1,6 @@
 -- What a node's element says.
 use Rattle.std.specs.Prelude.{◌≡◌, ◌≢◌, ℕ, ◌%◌, ◌^◌, take, drop, slice_index_or, Some, List, [], ◌∷◌, ◌++◌}
-use Rattle.vsm_elements.specs.Store.{Store, at, made}
+use Rattle.vsm_elements.specs.Store.{Store, at, made_and_aside}
 use Rattle.vsm_elements.specs.Chain.{element}
 use Rattle.run_tree.specs.declared.run.Run.{Run}
 use Rattle.run_tree.specs.declared.tree.RunTree.{RunTree}
@@ -45,4 +45,4 @@ pub record Announces (s t : Store) (h : RunTree) (n : RunNode) (count : ℕ) (ro
   })
   pub others : (i : ℕ) → i ≢ n.id → at t i ≡ at s i
   pub spare : t.spare ≡ s.spare
-  pub as_many : made t ≡ made s
+  pub as_many : made_and_aside t ≡ made_and_aside s

@@ -1,6 +1,6 @@
 -- What a contract sees of a tree: its runs in order, and its elements in the order of their runs.
 use Rattle.std.specs.Prelude.{◌≡◌, ℕ, zero, suc, ◌+◌, false, List, [], ◌∷◌, ◌++◌, IsSome, take, drop, slice_set}
-use Rattle.vsm_elements.specs.Store.{Store, at, made, among, Distinct}
+use Rattle.vsm_elements.specs.Store.{Store, at, among, Distinct, made_and_aside}
 use Rattle.run_tree.specs.declared.run.Run.{Run}
 use Rattle.run_tree.specs.declared.tree.RunTree.{RunTree}
 use Rattle.run_tree.specs.declared.shape.RunNode.{RunNode}
@@ -44,7 +44,7 @@ pub record Joins (s t : Store) (left : RunTree) (id : ℕ) (run : Run) (right : 
   pub count : h.count ≡ left.count + right.count + 1
   pub others : (i : ℕ) → among i (id ∷ []) ≡ false → at t i ≡ at s i
   pub spare : t.spare ≡ s.spare
-  pub as_many : made t ≡ made s
+  pub as_many : made_and_aside t ≡ made_and_aside s
 
 -- two trees became one
 pub record Merges (s t : Store) (a b h : RunTree) : Type 0 where
@@ -54,7 +54,7 @@ pub record Merges (s t : Store) (a b h : RunTree) : Type 0 where
   pub count : h.count ≡ a.count + b.count
   pub others : (i : ℕ) → among i (owned s a ++ owned s b) ≡ false → at t i ≡ at s i
   pub spare : t.spare ≡ s.spare
-  pub as_many : made t ≡ made s
+  pub as_many : made_and_aside t ≡ made_and_aside s
 
 -- one tree became two, the first of which has k runs
 pub record Splits (s t : Store) (h : RunTree) (k : ℕ) (a b : RunTree) : Type 0 where
@@ -66,7 +66,7 @@ pub record Splits (s t : Store) (h : RunTree) (k : ℕ) (a b : RunTree) : Type 0
   pub rest : a.count + b.count ≡ h.count
   pub others : (i : ℕ) → among i (owned s h) ≡ false → at t i ≡ at s i
   pub spare : t.spare ≡ s.spare
-  pub as_many : made t ≡ made s
+  pub as_many : made_and_aside t ≡ made_and_aside s
 
 -- a live element became the run at k
 pub record Puts (s t : Store) (h : RunTree) (k id : ℕ) (run : Run) (r : RunTree) : Type 0 where
@@ -76,7 +76,7 @@ pub record Puts (s t : Store) (h : RunTree) (k id : ℕ) (run : Run) (r : RunTre
   pub count : r.count ≡ h.count + 1
   pub others : (i : ℕ) → among i (id ∷ owned s h) ≡ false → at t i ≡ at s i
   pub spare : t.spare ≡ s.spare
-  pub as_many : made t ≡ made s
+  pub as_many : made_and_aside t ≡ made_and_aside s
 
 -- the run at k was removed, and its element is no longer the tree's
 pub record CutsOut (s t : Store) (h : RunTree) (k : ℕ) (r : RunTree) (id : ℕ) : Type 0 where
@@ -88,7 +88,7 @@ pub record CutsOut (s t : Store) (h : RunTree) (k : ℕ) (r : RunTree) (id : ℕ
   pub kept : at t id ≡ at s id
   pub others : (i : ℕ) → among i (owned s h) ≡ false → at t i ≡ at s i
   pub spare : t.spare ≡ s.spare
-  pub as_many : made t ≡ made s
+  pub as_many : made_and_aside t ≡ made_and_aside s
 
 -- the run at k was replaced, and the head stays
 pub record Writes (s t : Store) (h : RunTree) (k : ℕ) (run : Run) : Type 0 where
@@ -97,4 +97,4 @@ pub record Writes (s t : Store) (h : RunTree) (k : ℕ) (run : Run) : Type 0 whe
   pub own : owned t h ≡ owned s h
   pub others : (i : ℕ) → among i (owned s h) ≡ false → at t i ≡ at s i
   pub spare : t.spare ≡ s.spare
-  pub as_many : made t ≡ made s
+  pub as_many : made_and_aside t ≡ made_and_aside s

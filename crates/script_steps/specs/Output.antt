@@ -23,10 +23,9 @@ pub record Marked : Type 0 where
 -- the call that a request is; a reading of bytes or a map is none
 abbrev pub call_in : Asked → Option (Call Act)
 call_in (act x) = Some (Apply x)
-call_in (peek address count) = None
-call_in map_asked = None
 call_in (back n) = Some (Back n)
 call_in (forward n) = Some (Forward n)
+call_in _ = None
 
 module _ (settings : Settings) where
   -- The state of the plain machine after only the standing statements.

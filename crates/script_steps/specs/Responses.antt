@@ -10,7 +10,7 @@ use Rattle.vsm_model.specs.declared.replies.Reply.{Reply}
 use Rattle.vsm_model.specs.Names.{NamedState}
 use Rattle.vsm_model.specs.Map.{map_text}
 use Rattle.vsm_model.specs.Texts.{reply_text, code_text, hexadecimal, padded_decimal}
-use Rattle.vsm_model.specs.Standing.{Call, Apply, Back, Forward, Look, Answer, Replied, RefusedFor, NoMemory, Moved}
+use Rattle.vsm_model.specs.Standing.{Call, Forward, Answer, Replied, RefusedFor, NoMemory, Moved}
 use Rattle.vsm_model.specs.Standing.{TooFar, Shown}
 use Rattle.bench_core.specs.Machine.{Why}
 use Rattle.bench_core.specs.Refusals.{refusal_for}
@@ -25,10 +25,8 @@ response_to call (Replied reply) kept = response.Replied reply
 response_to call (RefusedFor why) kept = response.Refused (refusal_for why)
 response_to call NoMemory kept = response.Refused refusal.NoMemory
 response_to call Moved kept = response.Kept kept
-response_to (Apply x) (TooFar n) kept = response.TooFar n
-response_to (Back m) (TooFar n) kept = response.TooFar n
 response_to (Forward m) (TooFar n) kept = response.TooFarAhead n
-response_to Look (TooFar n) kept = response.TooFar n
+response_to call (TooFar n) kept = response.TooFar n
 response_to call Shown kept = response.Kept kept
 
 -- the response to a reading: that the bytes are shown, or why they aren't
@@ -71,16 +69,11 @@ response_text bytes (response.TooFarAhead n) = codes "REFUSED UNDONE=" ++ decima
 response_text bytes (response.Fault k) = codes "FAULT " ++ fault_word k
 response_text bytes response.Map = codes "MAP"
 
--- the lines after that of a response, in this state and with this many changes kept: those of the map
+-- the lines after that of a response, in this state and with this many changes kept: those of the map, and none after
+-- any other
 abbrev pub lines_behind : Settings → NamedState → ℕ → Response → List ℕ
-lines_behind settings m kept (response.Replied reply) = []
-lines_behind settings m kept (response.Refused r) = []
-lines_behind settings m kept response.Shown = []
-lines_behind settings m kept (response.Kept n) = []
-lines_behind settings m kept (response.TooFar n) = []
-lines_behind settings m kept (response.TooFarAhead n) = []
-lines_behind settings m kept (response.Fault k) = []
 lines_behind settings m kept response.Map = map_text settings m kept
+lines_behind settings m kept _ = []
 
 -- a response that counts as refused: a fault, a refusal or an abend
 abbrev pub is_refused : Response → Bool

@@ -1,5 +1,5 @@
 -- One line of a script that lies in memory, taken with its line feed.
-use Rattle.std.specs.Prelude.{◌≡◌, ◌+◌, ◌-◌, ◌<◌, ◌≤◌, ℕ, List, ◌++◌, length, take, drop, slice_index}
+use Rattle.std.specs.Prelude.{◌≡◌, ◌-◌, ◌<◌, ◌≤◌, ℕ, List, ◌++◌, length, take, drop, slice_index}
 use Rattle.std.specs.Prelude.{Option, Some, None, Result, Ok, Err}
 use Rattle.vsm_model.specs.declared.limits.Settings.{Settings}
 use Rattle.bench_core.specs.Stands.{bench_of}

@@ -5,7 +5,7 @@ use Rattle.macro_reader.specs.Scripts as grammar
 use Rattle.vsm_model.specs.declared.limits.Settings.{Settings}
 use Rattle.vsm_model.specs.Names.{NamedState, first_named_state}
 use Rattle.vsm_model.specs.Standing.{Bench, Leads, Standing, new_bench, nothing_stands}
-use Rattle.bench_core.specs.Machine.{Why, statement_step, shown_at}
+use Rattle.bench_core.specs.Machine.{statement_step, shown_at}
 use Rattle.macro_operands.specs.declared.faults.FaultKind.{FaultKind}
 use Rattle.macro_statements.specs.Requests.{Act, Asked, IsValidAsked, peek}
 use Rattle.vsm_model.specs.declared.replies.Reply.{Reply}

@@ -146,6 +146,14 @@ impl Session {
     /// statement's first line, from 1.
     ///
     /// Only while fewer than `LINES` lines have ended.
+    ///
+    /// ```
+    /// let bench = Bench::new(rt.alloc(), DEFAULT_SETTINGS)?;
+    /// let mut session = Session::new(bench);
+    /// assert!(rt; session.take_bytes(b" MAP").is_ok());
+    /// assert!(rt; session.lines() < LINES);
+    /// assert!(rt; matches!(session.end_line(), Some((1, Response::Map))));
+    /// ```
     pub fn end_line(&mut self) -> NumberedResponse
         requires { self.old.lines < 1048576 }
         ensures { (settings : Settings) (given : List ℕ) (answers : List Marked) → Took settings given answers self.old

@@ -172,6 +172,17 @@ fn finish<W: Write>(
 /// read. After `Read` the output is that of the complete lines, after `TooLong` that of the lines before the byte that
 /// passes a bound, and after `Write` a prefix of one of these, or of all output if the reader has met its end; after
 /// `New` nothing was read or written.
+///
+/// ```
+/// let mut script: &[u8] = b" STORAGE OBTAIN,LENGTH=8\n";
+/// let mut output = Vec::new(rt.alloc());
+/// assert!(rt; run(rt.alloc(), &mut script, &mut output, DEFAULT_SETTINGS).is_ok());
+/// assert!(rt;
+///     output
+///         .as_slice()
+///         .starts_with(b"0000001 RC=0 A=00006000 L=00000008\n")
+/// );
+/// ```
 #[tactic(auto, using(crate::proofs::Outcomes::read_fault))]
 pub fn run<R: Read, W: Write>(
     alloc: Global,

@@ -1,6 +1,7 @@
 //! The lines of output, which go to the writer in pieces of any length.
 ghost use Rattle.std.specs.Prelude.{◌≡◌, ◌++◌, decimal, length};
 ghost use Rattle.vsm_model.specs.Texts.{reply_text, code_text};
+ghost use Rattle.vsm_model.specs.declared.replies.Reply.TheVariants.{Obtained, Returned};
 ghost use Rattle.bench_core.specs.Stands.{bench_of, settings_in};
 ghost use Rattle.script_steps.specs.Answers.{told_text};
 ghost use Rattle.script_steps.specs.Responses.{fault_word, lines_behind, refusal_text, shown_text, response_text};
@@ -12,11 +13,16 @@ use bench_core::{Bench, Refusal};
 use macro_reader::FaultKind;
 use std::io::Write;
 use text_output::{
-    Gathered, put_bytes, put_decimal, put_hexadecimal, put_line_number, put_padded_decimal,
+    Gathered, put_bytes, put_decimal, put_hexadecimal, put_line_number, put_over_zeros,
+    put_padded_decimal, write_word,
 };
 use vsm_model::{Code, Reply};
 
 /// The word of a fault.
+///
+/// ```
+/// assert_eq!(rt; fault_word(FaultKind::Operation), "OPERATION");
+/// ```
 pub fn fault_word(kind: FaultKind) -> &'static str
     ensures { result.now ≡ fault_word kind }
 {
@@ -135,6 +141,32 @@ pub fn put_response<W: Write>(
     }
 }
 
+/// Puts the line of an obtained area.
+fn put_obtained<W: Write>(
+    gathered: &mut Gathered,
+    writer: &mut W,
+    line: u32,
+    address: u32,
+    length: u32,
+)
+    ensures { Puts (W.contents writer.old) (W.contents writer.new) gathered.old gathered.new
+        (numbered line (reply_text (Obtained address length))) }
+{
+    let mut places = *b"0000000000 RC=0 A=00000000 L=00000000\n";
+    write_word(&mut places, 29, length);
+    write_word(&mut places, 18, address);
+    put_over_zeros(gathered, writer, line, &mut places);
+}
+
+/// Puts the line of an accepted statement without a value.
+fn put_accepted<W: Write>(gathered: &mut Gathered, writer: &mut W, line: u32)
+    ensures { Puts (W.contents writer.old) (W.contents writer.new) gathered.old gathered.new
+        (numbered line (reply_text (Returned 0))) }
+{
+    let mut places = *b"0000000000 RC=0\n";
+    put_over_zeros(gathered, writer, line, &mut places);
+}
+
 /// Puts the line of a response, with these bytes if they are shown: the number of the statement's first line, a blank,
 /// the text, a line feed.
 #[tactic(auto, using(text_output::proofs::Gathering::puts_both))]
@@ -148,9 +180,17 @@ pub fn put_numbered<W: Write>(
     ensures { Puts (W.contents writer.old) (W.contents writer.new) gathered.old gathered.new
         (numbered line (response_text shown.now response.now)) }
 {
-    put_line_number(gathered, writer, line);
-    put_response(gathered, writer, shown, response);
-    gathered.put(writer, b"\n");
+    match response {
+        Response::Replied(Reply::Obtained { address, length }) => put_obtained(
+            gathered, writer, line, *address, *length,
+        ),
+        Response::Replied(Reply::Returned(0)) => put_accepted(gathered, writer, line),
+        _ => {
+            put_line_number(gathered, writer, line);
+            put_response(gathered, writer, shown, response);
+            gathered.put(writer, b"\n");
+        }
+    }
 }
 
 /// Puts the lines after that of a response: for a map the map of the bench, for any other none.

@@ -23,7 +23,7 @@ use Rattle.vsm_model.proofs.Chosen.{past, no_cause}
 use Rattle.service_laws.specs.Extents.{lies_in, AreaIsTaken}
 use Rattle.service_laws.specs.Promises.{SubpoolIsThere, IsBuilt, BuildMakesACellPool, IsDeleted, DeleteGivesItsExtentsBack}
 use Rattle.service_laws.proofs.CellLists.{cell_bounds, some_doublewords}
-use Rattle.service_laws.proofs.CellLowest.{lowest_place}
+use Rattle.service_laws.proofs.StorageLowest.{place_is_lowest}
 use Rattle.service_laws.proofs.CellTables.{put_found, put_others, without_found, without_others}
 use Rattle.service_laws.proofs.Placed.{place_from, area_taken, area_alone, area_table, picked, same_some, none_some, none_or_some, owned_by}
 use Rattle.service_laws.proofs.Pools.{pool_is}
@@ -31,7 +31,8 @@ use Rattle.service_laws.proofs.Emptied.{idle_from, busy_at}
 use Rattle.service_laws.proofs.Deleting.{left_over, left_is, used}
 use Rattle.service_laws.proofs.Building.{own_alone, own_kept, open_still, MayBuild, may_build}
 use Rattle.service_laws.proofs.Answered.{state_is, reply_is}
-use Rattle.service_laws.proofs.Named.{code_is_set, code_from, not_both}
+use Rattle.service_laws.proofs.Named.{code_from}
+use Rattle.service_laws.proofs.Registers.{code_is_set, not_both}
 use Rattle.service_laws.proofs.Promised.{seen_pool}
 
 -- the subpool that the task then sees
@@ -173,7 +174,7 @@ module _ (settings : Settings) (s : State) (w : IsWellFormed settings s) (name :
           zero_bytes = a.zero_bytes;
           same_bytes = a.same_bytes;
         });
-        lowest = lowest_place s pool.subpool count (some_doublewords pool b.primary bounds.2 bounds.0) (regions_for settings pool.location) may.there;
+        lowest = place_is_lowest s pool.subpool count 1 (some_doublewords pool b.primary bounds.2 bounds.0) (regions_for settings pool.location) may.there;
         after = put_found u.cell_pools name new;
         others = λ other apart. put_others u.cell_pools name other new apart ∙ ap (λ table. cell_pool_in table other) same_table;
         current = same_current;

@@ -21,9 +21,9 @@ use Rattle.vsm_model.specs.Standing.{Accepted, Refused}
 use Rattle.vsm_model.specs.Cells.{are_cells, secondary_count, sees_pool, pool_of, has_no_cell, extent_place, new_pool, is_in_use, get_causes}
 use Rattle.vsm_model.specs.Step.{answered, replied}
 use Rattle.vsm_model.proofs.Chosen.{Stepped, refused_for_the_first}
-use Rattle.service_laws.specs.CellLowestAddress.{HasNoRoomIn}
+use Rattle.service_laws.specs.StorageLowestAddress as area
 use Rattle.service_laws.specs.CellFirstCauses.{AreCells, HasNoRoom, HasItsNumbers, IsFirstOfBuild, SeesNone, IsFirstOfGet, IsFirstOfFree, IsFirstOfDelete, BuildIsRefusedForTheFirst, GetIsRefusedForTheFirst, FreeIsRefusedForTheFirst, DeleteIsRefusedForTheFirst}
-use Rattle.service_laws.proofs.CellLowest.{no_room_all}
+use Rattle.service_laws.proofs.StorageLowest.{nowhere_has_no_room}
 use Rattle.service_laws.proofs.CellLists.{some_doublewords, cell_bounds}
 use Rattle.service_laws.proofs.Pools.{sound_of, pool_is}
 use Rattle.service_laws.proofs.Getting.{empty_list}
@@ -67,7 +67,7 @@ are_the_cells size count h =
 no_room : (s : State) (p : Subpool) (count : ℕ) → 1 ≤ count → (settings : Settings) (pool : CellPool) →
     is_nowhere (place s (regions_for settings pool.location) p count 1) ≡ true → HasNoRoom settings pool.location s p count
 no_room s p count some settings pool e r one =
-    All-contains (λ r. HasNoRoomIn r s p count) (regions_for settings pool.location) r (no_room_all s p count some (regions_for settings pool.location) e) one
+    All-contains (λ r. area.HasNoRoom r s p count 1) (regions_for settings pool.location) r (nowhere_has_no_room s p count 1 some (regions_for settings pool.location) e) one
 
 some_pool : (o : Option CellPool) → is_some o ≡ true → (q : CellPool) × (o ≡ Some q)
 some_pool None e = absurd (true≢false (sym e))

@@ -45,7 +45,6 @@ pub mod CellTables
 pub mod CellLists
 pub mod Spans
 pub mod Placed
-pub mod CellLowest
 pub mod Words
 pub mod Pools
 pub mod Answered

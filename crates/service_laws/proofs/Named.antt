@@ -1,44 +1,16 @@
 -- The registers that a service on a cell pool sets, register by register.
-use Rattle.std.proofs.Common.{◌≡◌, ◌≢◌, ◌⊎◌, ℕ, Bool, true, false, ◌&&◌, ◌==◌, if◌then◌else◌, Option, Some, None, ◌∷◌, refl, sym, ◌∙◌, ap, subst, inl, inr, arith}
-use Rattle.std.proofs.lemmas.Bool.{cond-true, cond-false, and_from, and_left, and_right, eq-eqb, ne_eqb}
+use Rattle.std.proofs.Common.{◌≡◌, ◌≢◌, ◌⊎◌, ℕ, Option, Some, None, ◌∷◌, sym, ◌∙◌, ap, subst, inl, inr, arith}
 use Rattle.vsm_model.specs.State.{State}
 use Rattle.vsm_model.specs.Registers.{with_register, with_registers, named_register}
-use Rattle.service_laws.specs.CellRegisters.{ReturnCodeIsSet, AddressIsSet, ReturnCodeIsAll}
-
--- two numbers aren't both those of a test
-pub not_both : (a b m n : ℕ) → (a ≢ b) ⊎ (m ≢ n) → ((a == b) && (m == n)) ≡ false
-not_both a b m n (inl other) = and_left (a == b) (m == n) (ne_eqb a b other)
-not_both a b m n (inr other) = and_right (a == b) (m == n) (ne_eqb m n other)
-
-both_same : (a m : ℕ) → ((a == a) && (m == m)) ≡ true
-both_same a m = and_from (a == a) (m == m) (eq-eqb a a refl) (eq-eqb m m refl)
-
-either_same : {A : Type 0} (b : Bool) (x y : A) → y ≡ x → (if b then x else y) ≡ x
-either_same true x y e = refl
-either_same false x y e = e
+use Rattle.service_laws.specs.CellRegisters.{AddressIsSet}
+use Rattle.service_laws.specs.StorageRegisters.{ReturnCodeIsSet}
+use Rattle.service_laws.proofs.Registers.{kept_there, set_or_kept, set_there}
 
 none_is : (r : ℕ) → ◌≡◌ {A = Option ℕ} None (Some r) → ⊥
 none_is r e = cc
 
 some_is : (q r : ℕ) → ◌≡◌ {A = Option ℕ} (Some q) (Some r) → q ≡ r
 some_is q r e = cc
-
-module _ (s : State) (register word : ℕ) where
-  set_there : (with_register s register word).words s.current register ≡ word
-  set_there = cond-true ((s.current == s.current) && (register == register)) word (s.words s.current register) (both_same s.current register)
-
-  kept_there : (task r : ℕ) → (task ≢ s.current) ⊎ (r ≢ register) → (with_register s register word).words task r ≡ s.words task r
-  kept_there task r other = cond-false ((task == s.current) && (r == register)) word (s.words task r) (not_both task s.current r register other)
-
-  set_or_kept : (r : ℕ) → s.words s.current r ≡ word → (with_register s register word).words s.current r ≡ word
-  set_or_kept r e = either_same ((s.current == s.current) && (r == register)) word (s.words s.current r) e
-
-pub code_is_set : (s : State) (code : ℕ) → ReturnCodeIsSet s (with_register s 15 code) code
-code_is_set s code = record { register_15 = set_there s 15 code; other_registers = kept_there s 15 code }
-
-pub code_is_all : (s t : State) (code : ℕ) → t ≡ with_register s 15 code → ReturnCodeIsAll s t code
-code_is_all s t code e =
-    subst (λ t. ReturnCodeIsAll s t code) (sym e) (record { same = refl; registers = code_is_set s code })
 
 unnamed : (s : State) (address : ℕ) → AddressIsSet s (with_register (with_register s 15 0) 1 address) None address
 unnamed s address =

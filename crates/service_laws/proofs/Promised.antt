@@ -30,11 +30,12 @@ use Rattle.service_laws.specs.CellRegisters.{AddressIsSet}
 use Rattle.service_laws.specs.Promises.{HasNoFreeCell, IsSeen, IsFreed, FreeMakesACellFree, IsHandedOut, GetHandsOutACell}
 use Rattle.service_laws.proofs.CellTables.{put_found, put_others}
 use Rattle.service_laws.proofs.CellLists.{cell_bounds, some_doublewords}
-use Rattle.service_laws.proofs.CellLowest.{lowest_place}
+use Rattle.service_laws.proofs.StorageLowest.{place_is_lowest}
 use Rattle.service_laws.proofs.Placed.{place_from, area_taken, area_alone, area_table}
 use Rattle.service_laws.proofs.Pools.{sound_of, pool_is, held}
 use Rattle.service_laws.proofs.Answered.{state_is, reply_is}
-use Rattle.service_laws.proofs.Named.{code_is_set, code_is_all, address_in, code_from, address_from}
+use Rattle.service_laws.proofs.Named.{address_in, code_from, address_from}
+use Rattle.service_laws.proofs.Registers.{code_is_set, code_is_all}
 use Rattle.service_laws.proofs.Getting.{empty_list, get_may}
 
 -- a task that sees a subpool sees it at its number
@@ -193,7 +194,7 @@ module _ (settings : Settings) (s : State) (w : IsWellFormed settings s) (name :
                 zero_bytes = a.zero_bytes;
                 same_bytes = a.same_bytes;
               };
-              lowest = lowest_place s its.subpool count (some_doublewords its its.secondary some bounds.0) (regions_for settings its.location) there;
+              lowest = place_is_lowest s its.subpool count 1 (some_doublewords its its.secondary some bounds.0) (regions_for settings its.location) there;
               rest = rest;
               cells = cells;
               after = put_found u.cell_pools name after;

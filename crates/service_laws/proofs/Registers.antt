@@ -21,13 +21,13 @@ either_same true x y e = refl
 either_same false x y e = e
 
 module _ (s : State) (register word : ℕ) where
-  set_there : (with_register s register word).words s.current register ≡ word
+  pub set_there : (with_register s register word).words s.current register ≡ word
   set_there = cond-true ((s.current == s.current) && (register == register)) word (s.words s.current register) (both_same s.current register)
 
   pub kept_there : (task r : ℕ) → (task ≢ s.current) ⊎ (r ≢ register) → (with_register s register word).words task r ≡ s.words task r
   kept_there task r other = cond-false ((task == s.current) && (r == register)) word (s.words task r) (not_both task s.current r register other)
 
-  set_or_kept : (r : ℕ) → s.words s.current r ≡ word → (with_register s register word).words s.current r ≡ word
+  pub set_or_kept : (r : ℕ) → s.words s.current r ≡ word → (with_register s register word).words s.current r ≡ word
   set_or_kept r e = either_same ((s.current == s.current) && (r == register)) word (s.words s.current r) e
 
 pub code_is_set : (s : State) (code : ℕ) → ReturnCodeIsSet s (with_register s 15 code) code

@@ -21,7 +21,7 @@ use Rattle.vsm_model.specs.Cells.{secondary_count}
 use Rattle.vsm_model.specs.Standing.{Refused}
 use Rattle.vsm_model.specs.Step.{step}
 use Rattle.vsm_model.specs.WellFormed.{IsWellFormed}
-use Rattle.service_laws.specs.CellLowestAddress.{HasNoRoomIn}
+use Rattle.service_laws.specs.StorageLowestAddress as area
 use Rattle.service_laws.specs.Promises.{IsSeen}
 
 -- the size of a cell is a multiple of 4 from 4 to 4096, and an extent has 1 to 4096 of them
@@ -37,7 +37,7 @@ pub record AreCells (size count : ℕ) : Type 0 where
 abbrev pub HasNoRoom : Settings → Residence → State → Subpool → ℕ → Type 0
 HasNoRoom settings location s p count =
     (r : Region) → Contains (regions_for settings location) r →
-    HasNoRoomIn r s p count
+    area.HasNoRoom r s p count 1
 
 -- the numbers of a BUILD are within their bounds
 abbrev pub HasItsNumbers : Build → Type 0

@@ -1,12 +1,7 @@
--- The registers that a service on a cell pool sets, by the state before and after.
+-- The registers that an accepted GET sets, by the state before and after.
 -- Assembler Services Reference, CPOOL, "Output register information".
-use Rattle.std.specs.Prelude.{◌≡◌, ◌≢◌, ◌⊎◌, ℕ, Option, Some}
+use Rattle.std.specs.Prelude.{◌≡◌, ◌≢◌, ℕ, Option, Some}
 use Rattle.vsm_model.specs.State.{State}
-
--- From s to t, register 15 of the current task has the return code, and no other register changes.
-pub record ReturnCodeIsSet (s t : State) (code : ℕ) : Type 0 where
-  pub register_15 : t.words s.current 15 ≡ code
-  pub other_registers : (task r : ℕ) → (task ≢ s.current) ⊎ (r ≢ 15) → t.words task r ≡ s.words task r
 
 -- From s to t, register 1 of the current task and the register that is named have the address of a cell, register 15 is
 -- 0, unless it is the one that is named, and no other register changes.
@@ -16,8 +11,3 @@ pub record AddressIsSet (s t : State) (named : Option ℕ) (address : ℕ) : Typ
   pub register_15 : named ≢ Some 15 → t.words s.current 15 ≡ 0
   pub other_registers : (r : ℕ) → r ≢ 1 → r ≢ 15 → named ≢ Some r → t.words s.current r ≡ s.words s.current r
   pub other_tasks : (task r : ℕ) → task ≢ s.current → t.words task r ≡ s.words task r
-
--- From s to t, the return code is in register 15, and nothing else changes.
-pub record ReturnCodeIsAll (s t : State) (code : ℕ) : Type 0 where
-  pub same : t ≡ record s { words = t.words }
-  pub registers : ReturnCodeIsSet s t code

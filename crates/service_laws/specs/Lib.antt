@@ -12,7 +12,6 @@ pub mod StorageLowestAddress
 pub mod GivenBack
 pub mod StorageFirstCauses
 pub mod Extents
-pub mod CellLowestAddress
 pub mod CellKept
 pub mod CellRegisters
 pub mod Promises

@@ -19,8 +19,9 @@ use Rattle.vsm_model.specs.Standing.{Accepted}
 use Rattle.vsm_model.specs.Step.{step}
 use Rattle.vsm_model.specs.WellFormed.{IsWellFormed}
 use Rattle.service_laws.specs.Extents.{lies_in, AreaIsTaken}
-use Rattle.service_laws.specs.CellLowestAddress.{IsLowestAddress}
-use Rattle.service_laws.specs.CellRegisters.{ReturnCodeIsSet, AddressIsSet, ReturnCodeIsAll}
+use Rattle.service_laws.specs.StorageLowestAddress.{IsLowestAddress}
+use Rattle.service_laws.specs.CellRegisters.{AddressIsSet}
+use Rattle.service_laws.specs.StorageRegisters.{ReturnCodeIsSet, ReturnCodeIsAll}
 
 -- From s to t, cell pools of other names stay as they are.
 abbrev pub OthersStay : State → State → List ℕ → Type 0
@@ -67,7 +68,7 @@ pub record IsFirstOfFurther (settings : Settings) (s t : State) (name : List ℕ
     pub area : AreaIsTaken region s t pool.subpool cell (doublewords (pool.secondary * pool.size))
     pub lowest :
         IsLowestAddress (regions_for settings pool.location) s pool.subpool
-        (doublewords (pool.secondary * pool.size)) cell
+        (doublewords (pool.secondary * pool.size)) 1 cell
     pub rest : List ℕ
     pub cells : cells_from pool.size cell pool.secondary ≡ cell ∷ rest
     pub after :
@@ -129,7 +130,7 @@ pub record IsBuilt (settings : Settings) (s t : State) (name : List ℕ) (header
       AreaIsTaken region s t (record { number = b.number; owner = owner }) address (doublewords (b.primary * b.size))
   pub lowest :
       IsLowestAddress (regions_for settings (side settings b.location)) s (record { number = b.number; owner = owner })
-      (doublewords (b.primary * b.size)) address
+      (doublewords (b.primary * b.size)) 1 address
   -- the cell pool has this one extent, and all its cells are free, in ascending order
   pub after :
       cell_pool_in t.cell_pools name

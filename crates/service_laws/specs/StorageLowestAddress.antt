@@ -1,4 +1,5 @@
--- The place of an accepted obtain's area, and when there is no room for it, by the storage before, without a search.
+-- The place of an accepted obtain's area, and when there is no room for it, by the storage before, without a search. An
+-- extent of a cell pool is such an area, on the boundary of any doubleword.
 -- Assembler Services Guide, "Virtual storage management", "Explicit requests for virtual storage".
 use Rattle.std.specs.Prelude.{◌≡◌, ℕ, ◌+◌, ◌/◌, ◌%◌, ◌<◌, ◌≤◌, ◌⊎◌, Bool, true, false, Some, None, List, [], ◌∷◌}
 use Rattle.vsm_model.specs.declared.Subpool.{Subpool}
@@ -13,7 +14,8 @@ use Rattle.vsm_model.specs.Areas.{spacing}
 use Rattle.vsm_model.specs.Standing.{Accepted}
 use Rattle.vsm_model.specs.Step.{step}
 
--- The count doublewords from d on lie in the region and are free in the subpool, and d is on the boundary.
+-- The count doublewords from d on lie in the region and are free in the subpool, and d is on the boundary, which is a
+-- number of doublewords.
 abbrev pub AreFree : Region → State → Subpool → ℕ → ℕ → ℕ → Type 0
 AreFree r s p count boundary d =
     (d % boundary ≡ 0)

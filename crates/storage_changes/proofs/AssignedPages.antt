@@ -5,7 +5,7 @@ use Rattle.storage_changes.specs.declared.record.PagesRecord.{PagesRecord}
 use Rattle.storage_changes.specs.declared.record.Record.{Record}
 use Rattle.storage_changes.specs.declared.record.Record.TheVariants.{Area, Extent, Pages, Own, Queues, Register, Bytes}
 use Rattle.storage_changes.specs.declared.record.Record.TheVariants.{Registers, Task, Turn, Sharer, Pass}
-use Rattle.storage_changes.specs.declared.record.Record.TheVariants.{CellPool, CellExtent, Cell}
+use Rattle.storage_changes.specs.declared.record.Record.TheVariants.{CellPool, CellExtent, Cell, Obtain}
 use Rattle.storage_changes.specs.Walk.{Walk}
 use Rattle.storage_changes.specs.Steps.{pages_step, step, walk}
 use Rattle.storage_changes.specs.Fits.{PagesFits, FitInTurn}
@@ -54,6 +54,7 @@ comes w (CellPool r ∷ rs) page h free none = comes (step w (CellPool r)) rs pa
 comes w (CellExtent r ∷ rs) page h free none = comes (step w (CellExtent r)) rs page h.1 free none
 comes w (Cell r ∷ rs) page h free none = comes (step w (Cell r)) rs page h.1 free none
 comes w (Bytes r ∷ rs) page h free none = comes (step w (Bytes r)) rs page h.1 free none
+comes w (Obtain r ∷ rs) page h free none = comes (step w (Obtain r)) rs page h.1 free none
 
 pub assigned-brought : AssignedPagesAreBrought
 assigned-brought m d page fit free none = comes (outset m d) d.records page fit.in_turn free none

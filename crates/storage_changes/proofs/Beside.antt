@@ -11,7 +11,7 @@ use Rattle.storage_changes.specs.declared.record.ExtentRecord.{ExtentRecord}
 use Rattle.storage_changes.specs.declared.record.PagesRecord.{PagesRecord}
 use Rattle.storage_changes.specs.declared.record.Record.{Record}
 use Rattle.storage_changes.specs.declared.record.Record.TheVariants.{Area, Extent, Pages, Own, Queues, Register, Bytes}
-use Rattle.storage_changes.specs.declared.record.Record.TheVariants.{Registers, Task, Turn, Sharer, Pass, CellPool, CellExtent, Cell}
+use Rattle.storage_changes.specs.declared.record.Record.TheVariants.{Registers, Task, Turn, Sharer, Pass, CellPool, CellExtent, Cell, Obtain}
 use Rattle.storage_changes.specs.Fits.{Fits, FitInTurn}
 use Rattle.storage_changes.specs.State.{StorageState}
 use Rattle.storage_changes.specs.Steps.{step, walk, area_spare, extent_spare, pages_spare}
@@ -42,6 +42,7 @@ IsReturn (CellPool r) = ⊥
 IsReturn (CellExtent r) = ⊥
 IsReturn (Cell r) = ⊥
 IsReturn (Bytes r) = ⊥
+IsReturn (Obtain r) = ⊥
 
 abbrev pub AreReturns : List Record → Type 0
 AreReturns [] = Unit {0}
@@ -89,6 +90,7 @@ one_left w (CellPool r ∷ rs) are f some = absurd are.0
 one_left w (CellExtent r ∷ rs) are f some = absurd are.0
 one_left w (Cell r ∷ rs) are f some = absurd are.0
 one_left w (Bytes r ∷ rs) are f some = absurd are.0
+one_left w (Obtain r ∷ rs) are f some = absurd are.0
 
 -- each record takes or gives the same number of blank elements
 spare_more : (b : Bool) (s n more : ℕ) → 0 < s → 0 < (if b then spare_joined s n else spare_left s n)
@@ -199,6 +201,7 @@ module _ (w : Walk) (given : ℕ → Option ℕ) (parked : Subpools) (more : ℕ
   one_beside (CellExtent r) h f = absurd h
   one_beside (Cell r) h f = absurd h
   one_beside (Bytes r) h f = absurd h
+  one_beside (Obtain r) h f = absurd h
 
 -- records in turn
 pub record AllBeside (w : Walk) (rs : List Record) (given : ℕ → Option ℕ) (parked : Subpools) (more : ℕ) : Type 0 where

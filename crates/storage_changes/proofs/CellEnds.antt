@@ -6,7 +6,7 @@ use Rattle.std.specs.Cmp.Lexicographic.{slice_cmp}
 use Rattle.std.proofs.Math.Nat.{mul-le-mul_left}
 use Rattle.std.proofs.lemmas.Bool.{and_parts, and_from, leb-true, le-leb, lt-ltb, cond-true, cond-false, cases_Bool}
 use Rattle.std.proofs.lemmas.List.Elements.{All-head, All-tail, All-cons, All-nil}
-use Rattle.cell_extents.specs.declared.settings.Extent.{Extent}
+use Rattle.cell_pool.specs.declared.settings.Extent.{Extent}
 use Rattle.cell_pool.specs.Pools.{Pool, rounded}
 use Rattle.storage_changes.specs.PoolTable.{extent_of, cell_pool_of}
 use Rattle.storage_changes.specs.TableLaws.{PoolsAreFound}

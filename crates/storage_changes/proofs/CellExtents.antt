@@ -10,10 +10,10 @@ use Rattle.vsm_model.specs.WellFormed.{PoolIsSound, IsInSubpool}
 use Rattle.service_laws.proofs.Deleting.{any_at}
 use Rattle.service_laws.proofs.Pools.{sound_of}
 use Rattle.service_laws.proofs.Spans.{all_unmapped, in-among}
-use Rattle.cell_extents.specs.declared.settings.Extent.{Extent}
-use Rattle.cell_extents.specs.Pool.{cells_of, overlaps}
-use Rattle.cell_extents.proofs.CellLemmas.{cells_more}
-use Rattle.cell_extents.proofs.WalkLemmas.{distinct_cells}
+use Rattle.cell_pool.specs.declared.settings.Extent.{Extent}
+use Rattle.cell_pool.specs.Pool.{cells_of, overlaps}
+use Rattle.cell_pool.proofs.CellLemmas.{cells_more}
+use Rattle.cell_pool.proofs.WalkLemmas.{distinct_cells}
 use Rattle.cell_pool.specs.Pools.{Pool, cells_from, meets, uses, extended, without_first}
 use Rattle.storage_changes.specs.TableLaws.{PoolsAreFound}
 use Rattle.storage_changes.specs.NamedPools.{AreNamed}

@@ -15,7 +15,7 @@ use Rattle.vsm_model.specs.State.{State}
 use Rattle.vsm_model.specs.Subpools.{same_subpool}
 use Rattle.vsm_model.specs.WellFormed.{IsInSubpool}
 use Rattle.service_laws.proofs.Words.{low_page}
-use Rattle.cell_extents.specs.declared.settings.Extent.{Extent}
+use Rattle.cell_pool.specs.declared.settings.Extent.{Extent}
 use Rattle.cell_pool.specs.Pools.{Pool}
 use Rattle.storage_changes.specs.PoolTable.{cell_pool_of, extent_of}
 use Rattle.subpool_storage.specs.Subpools.{Subpools, with_free}
@@ -29,10 +29,10 @@ use Rattle.storage_changes.specs.Walk.{Walk}
 use Rattle.std.specs.Prelude.{◌^◌}
 use Rattle.storage_changes.proofs.Cases.{same-self}
 use Rattle.storage_changes.proofs.MeaningLemmas.{named_pages_are_there}
-use Rattle.storage_changes.specs.StorageActions.{run_of, give_back_records, emptied_pages, first_emptied, past_emptied}
+use Rattle.storage_changes.specs.StorageActions.{run_of, give_back_records, emptied_pages, first_emptied, past_emptied, give_back_blanks}
 use Rattle.storage_changes.specs.Leads.{Leads}
 use Rattle.storage_changes.proofs.ActionCases.{in_inside}
-use Rattle.storage_changes.proofs.GivingBack.{giving_back_leads}
+use Rattle.storage_changes.proofs.GivingBack.{giving_back_leads, blanks_few}
 use Rattle.storage_changes.proofs.Goes.{walk_on, fits_on}
 use Rattle.storage_changes.proofs.Idle.{emptied_pages_are_a_run}
 use Rattle.storage_changes.proofs.Rows.{none_brought}
@@ -146,17 +146,20 @@ module _ (settings : Settings) (valid : settings_valid settings ≡ true) (p : P
   runs : emptied_pages m.subpools sub d count ≡ run
   runs = λ i. run_of (sym first_same i) (sym past_same i - sym first_same i)
 
-  pub leads : Leads settings m (change_of (give run) 5 (run_of 0 0)) left
+  abbrev blanks : ℕ
+  blanks = give_back_blanks run.len
+
+  pub leads : Leads settings m (change_of (give run) blanks (run_of 0 0)) left
   leads =
       let idle = emptied_pages_are_a_run settings m sub d count sound more high held in
       let its_run = emptied_pages m.subpools sub d count in
       let formed = kept settings (model_of m) sound.well_formed (cell_pool_of p) x its clear in
       let one = giving_back_leads settings m sub d count its_run.start its_run.len [] sound (All-nil (λ row. row.0 < 16)) more high idle.1 held idle.0 formed in
-      let P : List Record → Type 0 = λ rs. Leads settings m (change_of rs 5 (run_of 0 0)) left in
-      subst (λ r. P (give r)) runs (subst P (nothing_more (give its_run)) one)
+      let P : Run → List Record → Type 0 = λ r rs. Leads settings m (change_of rs (give_back_blanks r.len) (run_of 0 0)) left in
+      subst (λ r. P r (give r)) runs (subst (P its_run) (nothing_more (give its_run)) one)
 
   abbrev pub then_there : StorageState
-  then_there = overlay m (change_of (give run) 5 (run_of 0 0))
+  then_there = overlay m (change_of (give run) blanks (run_of 0 0))
 
   -- and then it is that of `u` with the extent
   pub same_then : (k : ℕ) → then_there.subpools.pages sub (k / 512) ≡ true → (with_free u sub (run_of d count) true).free sub k ≡ then_there.subpools.free sub k
@@ -174,17 +177,18 @@ module _ (settings : Settings) (valid : settings_valid settings ≡ true) (p : P
       → ((h : ℕ → Option ℕ) (t : ℕ) → IsAway then_there h → s ≤ t + 4 → Reaches (walk_at then_there h parked t) rest n parked)
       → Reaches (walk_at m g parked s) (give run ++ rest) n parked
   reaches_next g parked s rest n away less next =
-      let w = outset m (change_of (give run) 5 (run_of 0 0)) in
-      let more = s - 5 in
+      let w = outset m (change_of (give run) blanks (run_of 0 0)) in
+      let few = blanks_few run.len in
+      let more = s - blanks in
       let all = all_beside w (give run) (gives_back sub d count run.start run.len) leads.fits.in_turn g parked more away in
       let spare = (walk w (give run)).spare + more in
-      let still = one_left w (give run) (gives_back sub d count run.start run.len) leads.fits.in_turn (omega arith) in
+      let still = one_left w (give run) (gives_back sub d count run.start run.len) leads.fits.in_turn (omega (arith, few.0)) in
       let v = walk_at then_there all.then_given parked spare in
-      let there : walk (walk_at m g parked (5 + more)) (give run) ≡ v =
-      plainly (walk w (give run)) all.then_given parked more (walk (walk_at m g parked (5 + more)) (give run)) all.there leads.fits.brought in
-      let e : 5 + more ≡ s = omega (arith, less) in
+      let there : walk (walk_at m g parked (blanks + more)) (give run) ≡ v =
+      plainly (walk w (give run)) all.then_given parked more (walk (walk_at m g parked (blanks + more)) (give run)) all.there leads.fits.brought in
+      let e : blanks + more ≡ s = omega (arith, less, few.1) in
       subst (λ k. Reaches (walk_at m g parked k) (give run ++ rest) n parked) e
-      (reach_on (walk_at m g parked (5 + more)) v (give run) rest n parked all.fits there (next all.then_given spare all.away (omega (arith, less, still))))
+      (reach_on (walk_at m g parked (blanks + more)) v (give run) rest n parked all.fits there (next all.then_given spare all.away (omega (arith, less, still, few.1))))
 
 -- All of them.
 pub record GivesBack (settings : Settings) (p : Pool) (m : StorageState) (u : Subpools) (xs : List Extent) : Type 0 where

@@ -6,7 +6,7 @@ use Rattle.vsm_model.specs.Regions.{pages_for}
 use Rattle.cell_pool.specs.Pools.{Pool}
 use Rattle.storage_changes.specs.declared.record.Record.{Record}
 use Rattle.storage_changes.specs.declared.record.Record.TheVariants.{Area, Extent, Pages, Own, Queues, Register, Bytes}
-use Rattle.storage_changes.specs.declared.record.Record.TheVariants.{Registers, Task, Turn, Sharer, Pass, CellPool, CellExtent, Cell}
+use Rattle.storage_changes.specs.declared.record.Record.TheVariants.{Registers, Task, Turn, Sharer, Pass, CellPool, CellExtent, Cell, Obtain}
 use Rattle.storage_changes.specs.Fits.{Fits, FitInTurn}
 use Rattle.storage_changes.specs.State.{StorageState}
 use Rattle.storage_changes.specs.Steps.{step, walk}
@@ -39,6 +39,7 @@ IsElsewhere (CellPool r) = ⊥
 IsElsewhere (CellExtent r) = ⊥
 IsElsewhere (Cell r) = ⊥
 IsElsewhere (Bytes r) = ⊥
+IsElsewhere (Obtain r) = ⊥
 
 abbrev pub AreElsewhere : List Record → Type 0
 AreElsewhere [] = Unit {0}
@@ -76,6 +77,7 @@ fits_with w cells (CellPool r) h f = absurd h
 fits_with w cells (CellExtent r) h f = absurd h
 fits_with w cells (Cell r) h f = absurd h
 fits_with w cells (Bytes r) h f = absurd h
+fits_with w cells (Obtain r) h f = absurd h
 
 step_with : (w : Walk) (cells : ℕ → Option Pool) (r : Record) → IsElsewhere r → step (walk_with w cells) r ≡ walk_with (step w r) cells
 step_with w cells (Area r) h = refl
@@ -93,6 +95,7 @@ step_with w cells (CellPool r) h = absurd h
 step_with w cells (CellExtent r) h = absurd h
 step_with w cells (Cell r) h = absurd h
 step_with w cells (Bytes r) h = absurd h
+step_with w cells (Obtain r) h = absurd h
 
 fit_with : (w : Walk) (cells : ℕ → Option Pool) (rs : List Record) → AreElsewhere rs → FitInTurn w rs → FitInTurn (walk_with w cells) rs
 fit_with w cells [] h f = tt

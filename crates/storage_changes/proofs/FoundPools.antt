@@ -7,7 +7,7 @@ use Rattle.std.proofs.Props.{props}
 use mathlib.Core.Logic.{∥∥₁_elim}
 use Rattle.vsm_model.specs.CellPools.{CellPool, cell_pool_in}
 use Rattle.vsm_model.specs.Releasing.{overlaps_extent}
-use Rattle.cell_pool.specs.Pools.{Extent}
+use Rattle.cell_pool.specs.declared.settings.Extent.{Extent}
 use Rattle.cell_pool.specs.Pools.{Pool, id_in, meets, overlaps}
 use Rattle.storage_changes.specs.NamedPools.{AreNamed}
 use Rattle.storage_changes.specs.PoolTable.{extent_of, cell_pool_of, cell_pools_in}

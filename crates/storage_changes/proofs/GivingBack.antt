@@ -12,7 +12,7 @@ use Rattle.subpool_storage.specs.Subpools.{is_there}
 use Rattle.storage_changes.specs.State.{StorageState}
 use Rattle.storage_changes.specs.Fits.{FrameIs}
 use Rattle.storage_changes.specs.Meaning.{model_of, subpool_of, IsSound}
-use Rattle.storage_changes.specs.StorageActions.{run_of, area_records, returned_records, give_back_records, register_records}
+use Rattle.storage_changes.specs.StorageActions.{run_of, area_records, returned_records, give_back_records, register_records, give_back_blanks}
 use Rattle.storage_changes.specs.Changes.{change_of}
 use Rattle.storage_changes.specs.Leads.{AreIdle}
 use Rattle.storage_changes.specs.StorageLaws.{GivingBackLeads}
@@ -237,16 +237,21 @@ module _ (settings : Settings) (m : StorageState) (p : Subpool) (d count page : 
   alone_gone : (k : ℕ) → inside (k / 512) (run_of page 0) ≡ true → alone p k ≡ false
   alone_gone k own = absurd (true≢false (sym own ∙ no_page (k / 512)))
 
-  alone_goes : (b g : ℕ → Option ℕ) → d + count ≤ 2 ^ 29 → Goes (at m b g 5) (area_records p d count true) (without_pages m p (run_of page 0) alone) b g 1
+  alone_goes : (b g : ℕ → Option ℕ) → d + count ≤ 2 ^ 29 → Goes (at m b g 2) (area_records p d count true) (without_pages m p (run_of page 0) alone) b g 1
   alone_goes b g high =
-      goes_to (at m b g 5) (area_records p d count true) (freed m p d count true) (without_pages m p (run_of page 0) alone) b g 1 none_leaves
-      (area_goes m b g 5 1 p d count true (has_pages settings m sound p (d / 512) (held d (in_inside d count d (omega arith) (omega (arith, more)))).0) high
+      goes_to (at m b g 2) (area_records p d count true) (freed m p d count true) (without_pages m p (run_of page 0) alone) b g 1 none_leaves
+      (area_goes m b g 2 1 p d count true (has_pages settings m sound p (d / 512) (held d (in_inside d count d (omega arith) (omega (arith, more)))).0) high
       (λ k own. (held k own).1) (omega arith) (omega arith))
+
+-- a blank element or more, and five at most
+pub blanks_few : (n : ℕ) → (1 ≤ give_back_blanks n) × (give_back_blanks n ≤ 5)
+blanks_few zero = (omega arith, omega arith)
+blanks_few (suc n) = (omega arith, omega arith)
 
 pub giving_back_leads : GivingBackLeads
 giving_back_leads settings m p d count page zero rows sound are more high most held idle formed =
     let records = give_back_records p d count page 0 in
-    let change = change_of (records ++ register_records m rows) 5 (run_of 0 0) in
+    let change = change_of (records ++ register_records m rows) 2 (run_of 0 0) in
     let none : ℕ → Option ℕ = λ a. None in
     let f = (freed m p d count true).subpools.free in
     let n = without_pages m p (run_of page 0) f in
@@ -254,8 +259,8 @@ giving_back_leads settings m p d count page zero rows sound are more high most h
     let given : (k : ℕ) → inside k (run_of d count) ≡ true → inside (k / 512) (run_of page 0) ≡ false → f p k ≡ true = λ k own other. freed_in m p d count true k own in
     let gone = alone_gone settings m p d count page sound more held in
     let kept : (k : ℕ) → inside k (run_of d count) ≡ false → inside (k / 512) (run_of page 0) ≡ false → f p k ≡ m.subpools.free p k = λ k beside other. freed_out m p d count true p k beside in
-    leads_with_rows settings m n (records ++ register_records m rows) 5 (run_of 0 0) change.frames none 1 rows (without_area (model_of m) p d count)
-    (goes_on (at m change.frames none 5) records (register_records m rows) n (with_rows n rows) change.frames none change.frames none 1 1
+    leads_with_rows settings m n (records ++ register_records m rows) 2 (run_of 0 0) change.frames none 1 rows (without_area (model_of m) p d count)
+    (goes_on (at m change.frames none 2) records (register_records m rows) n (with_rows n rows) change.frames none change.frames none 1 1
     (alone_goes settings m p d count page sound more held change.frames none high)
     (λ s less. rows_go n change.frames none s 1 rows (task_is_there settings m sound) are less))
     none_brought (none_fresh m)

@@ -13,6 +13,7 @@ pub mod TaskSteps
 pub mod SharingSteps
 pub mod CellSteps
 pub mod ByteSteps
+pub mod ObtainSteps
 pub mod RegistersSteps
 pub mod WalkLemmas
 pub mod FirstLemmas
@@ -72,3 +73,4 @@ pub mod MapSums
 mod MapCounts
 pub mod MapTotalsSummed
 mod CellEnds
+mod WordLemmas

@@ -1,13 +1,12 @@
 -- Tables of cell pools in order: what is found if a row is put or removed, and rows that pass a test.
-use Rattle.std.proofs.Common.{◌≡◌, ◌≢◌, ℕ, suc, ◌+◌, Ordering, Less, Equal, Greater, Bool, true, false, not, ◌&&◌, ◌||◌, if◌then◌else◌, cond, T, Option, Some, None, is_some, List, [], ◌∷◌, length, map, filter, refl, sym, ◌∙◌, ap, subst, true≢false, is_lt, is_eq, inl, inr, add-one}
+use Rattle.std.proofs.Common.{◌≡◌, ◌≢◌, ℕ, suc, ◌+◌, Ordering, Less, Equal, Greater, Bool, true, false, not, ◌||◌, cond, T, Some, None, is_some, List, [], ◌∷◌, length, refl, sym, ◌∙◌, ap, subst, true≢false, is_lt, is_eq, inl, inr, add-one}
 use Rattle.std.specs.Ordering.{nat_cmp, eq_by_cmp}
-use Rattle.std.specs.Option.{option_map}
 use Rattle.std.specs.List.{list_any}
 use Rattle.std.specs.Cmp.{tied_itself}
 use Rattle.std.specs.Cmp.Lexicographic.{slice_cmp, nat_list_cmp_total}
 use Rattle.std.specs.FinMap.{slice_cmp-IsAntisymmetric, nat_cmp-IsAntisymmetric}
 use Rattle.std.specs.FinMap.Entries.{below_all, find-put, find-where_key, is_sorted-put, is_sorted-where_key, length-put}
-use Rattle.std.proofs.lemmas.Bool.{cond-true, cond-false, and_parts, and_from, cases_Bool}
+use Rattle.std.proofs.lemmas.Bool.{cond-true, cond-false, and_parts, cases_Bool}
 use Rattle.service_laws.proofs.Options.{some_none, same_some}
 use Rattle.service_laws.proofs.TaskTables.{found_first, found_later}
 use Rattle.vsm_model.specs.CellPools.{CellPool, CellPools, cell_pool_in, with_cell_pool, without_cell_pool, are_ascending}

@@ -18,7 +18,7 @@ use Rattle.service_laws.proofs.Deleting.{apart_doublewords}
 use Rattle.service_laws.proofs.Emptied.{extent_left}
 use Rattle.service_laws.proofs.Lists.{pairs_head, pairs_tail}
 use Rattle.service_laws.proofs.Spans.{Apart, turned, span, EachIsSound}
-use Rattle.cell_extents.specs.declared.settings.Extent.{Extent}
+use Rattle.cell_pool.specs.declared.settings.Extent.{Extent}
 use Rattle.storage_changes.specs.PoolTable.{extent_of}
 
 -- the doublewords of an extent of the cell pool

@@ -102,16 +102,26 @@ few_records task words row rows = go (words row.0 == row.1) where
   go true = omega (arith, length-map rows (register_record task))
   go false = omega (arith, length-map rows (register_record task))
 
+goes_walked :
+    (m n : StorageState) (b g : ℕ → Option ℕ) (s left : ℕ) (rs : List Record) → FitInTurn (at m b g s) rs → walk (at m b g s) rs ≡ at n b g s → left ≤ s
+    → Goes (at m b g s) rs n b g left
+goes_walked m n b g s left rs fits walks less = record {
+  fits = fits;
+  there = walks ∙ ap (λ (v : Walk). at n b g v.spare) (sym walks);
+  spare = let P : Walk → Type 0 = λ v. left ≤ v.spare in subst P (sym walks) less;
+}
+
+pub each_goes :
+    (m : StorageState) (b g : ℕ → Option ℕ) (s left : ℕ) (rows : List (ℕ × ℕ)) → IsSome (m.tasks.parents m.tasks.current) → AreRegisters rows → left ≤ s
+    → Goes (at m b g s) (map (register_record m.tasks.current) rows) (with_rows m rows) b g left
+each_goes m b g s left rows task are =
+    goes_walked m (with_rows m rows) b g s left (map (register_record m.tasks.current) rows) (each_fit (at m b g s) rows task are) (each_walk (at m b g s) rows)
+
 pub rows_go :
     (m : StorageState) (b g : ℕ → Option ℕ) (s left : ℕ) (rows : List (ℕ × ℕ)) → IsSome (m.tasks.parents m.tasks.current) → AreRegisters rows → left ≤ s
     → Goes (at m b g s) (register_records m rows) (with_rows m rows) b g left
-rows_go m b g s left rows task are less =
-    let walks = rows_walk (at m b g s) rows in
-    record {
-      fits = rows_fit (at m b g s) rows task are;
-      there = walks ∙ ap (λ (v : Walk). at (with_rows m rows) b g v.spare) (sym walks);
-      spare = let P : Walk → Type 0 = λ v. left ≤ v.spare in subst P (sym walks) less;
-    }
+rows_go m b g s left rows task are =
+    goes_walked m (with_rows m rows) b g s left (register_records m rows) (rows_fit (at m b g s) rows task are) (rows_walk (at m b g s) rows)
 
 rows_lead : (m : StorageState) (rows : List (ℕ × ℕ)) → model_of (with_rows m rows) ≡ with_registers (model_of m) rows
 rows_lead m [] = refl

@@ -6,7 +6,7 @@ use Rattle.storage_changes.specs.declared.record.PagesRecord.{PagesRecord}
 use Rattle.storage_changes.specs.declared.record.Record.{Record}
 use Rattle.storage_changes.specs.declared.record.Record.TheVariants.{Area, Extent, Pages, Own, Queues, Register, Bytes}
 use Rattle.storage_changes.specs.declared.record.Record.TheVariants.{Registers, Task, Turn, Sharer, Pass}
-use Rattle.storage_changes.specs.declared.record.Record.TheVariants.{CellPool, CellExtent, Cell}
+use Rattle.storage_changes.specs.declared.record.Record.TheVariants.{CellPool, CellExtent, Cell, Obtain}
 use Rattle.storage_changes.specs.State.{StorageState}
 use Rattle.storage_changes.specs.Walk.{Walk, flip}
 use Rattle.storage_changes.specs.Steps.{pages_step, step, walk}
@@ -24,6 +24,7 @@ use Rattle.storage_changes.proofs.CellSteps.{queues-back, queues-fits, cell_pool
 use Rattle.storage_changes.proofs.CellSteps.{cell_extent-back, cell_extent-fits, cell-back, cell-fits}
 use Rattle.storage_changes.proofs.ByteSteps.{bytes-back, bytes-fits, bytes-again, register-back, register-again}
 use Rattle.storage_changes.proofs.RegistersSteps.{registers-back, registers-fits, registers-again}
+use Rattle.storage_changes.proofs.ObtainSteps.{obtain-back, obtain-fits, obtain-again}
 
 -- one record of each kind
 
@@ -43,6 +44,7 @@ step-back w (CellPool r) h = cell_pool-back w r
 step-back w (CellExtent r) h = cell_extent-back w r h
 step-back w (Cell r) h = cell-back w r h
 step-back w (Bytes r) h = bytes-back w r h
+step-back w (Obtain r) h = obtain-back w r h
 
 step-fits : (w : Walk) (r : Record) → Fits w r → Fits (flip (step w r)) (turned w.state r)
 step-fits w (Area r) h = area-fits w r h
@@ -60,6 +62,7 @@ step-fits w (CellPool r) h = cell_pool-fits w r h
 step-fits w (CellExtent r) h = cell_extent-fits w r h
 step-fits w (Cell r) h = cell-fits w r h
 step-fits w (Bytes r) h = bytes-fits w r h
+step-fits w (Obtain r) h = obtain-fits w r h
 
 step-turned : (w : Walk) (r : Record) → Fits w r → turned (step w r).state (turned w.state r) ≡ r
 step-turned w (Area r) h = λ i. Area (record r { free = not-not r.free i })
@@ -77,6 +80,7 @@ step-turned w (CellPool r) h = λ i. CellPool (record r { present = not-not r.pr
 step-turned w (CellExtent r) h = λ i. CellExtent (record r { present = not-not r.present i })
 step-turned w (Cell r) h = λ i. Cell (record r { free = not-not r.free i })
 step-turned w (Bytes r) h = λ i. Bytes (record r { bytes = bytes-again w r h i })
+step-turned w (Obtain r) h = λ i. Obtain (obtain-again w r i)
 
 -- and in turn, before those that already led here
 
@@ -127,6 +131,7 @@ step-out w (CellPool r) h = h
 step-out w (CellExtent r) h = h
 step-out w (Cell r) h = h
 step-out w (Bytes r) h = h
+step-out w (Obtain r) h = h
 
 walk-out : (w : Walk) (rs : List Record) → GivenOut w → GivenOut (walk w rs)
 walk-out w [] h = h

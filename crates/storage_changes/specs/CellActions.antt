@@ -8,7 +8,7 @@ use Rattle.vsm_model.specs.Cells.{with_pool}
 use Rattle.vsm_model.specs.Obtaining.{with_area}
 use Rattle.vsm_model.specs.Regions.{among, doublewords, pages_for}
 use Rattle.vsm_model.specs.State.{State}
-use Rattle.cell_extents.specs.declared.settings.Extent.{Extent}
+use Rattle.cell_pool.specs.declared.settings.Extent.{Extent}
 use Rattle.cell_pool.specs.Pools.{Pool, extended}
 use Rattle.storage_changes.specs.PoolTable.{cell_pool_of}
 use Rattle.storage_changes.specs.declared.record.Record.{Record}
@@ -42,7 +42,7 @@ area_records p count Nowhere = []
 
 -- with this many blank elements,
 abbrev pub area_blanks : Place → ℕ
-area_blanks (Inside d) = 3
+area_blanks (Inside d) = 2
 area_blanks (Fresh page) = 5
 area_blanks Nowhere = 0
 

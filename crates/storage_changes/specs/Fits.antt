@@ -13,6 +13,7 @@ use Rattle.storage_changes.specs.declared.record.OwnRecord.{OwnRecord}
 use Rattle.storage_changes.specs.declared.record.QueuesRecord.{QueuesRecord}
 use Rattle.storage_changes.specs.declared.record.RegisterRecord.{RegisterRecord}
 use Rattle.storage_changes.specs.declared.record.RegistersRecord.{RegistersRecord}
+use Rattle.storage_changes.specs.declared.record.ObtainRecord.{ObtainRecord}
 use Rattle.storage_changes.specs.declared.record.BytesRecord.{BytesRecord}
 use Rattle.storage_changes.specs.declared.record.TaskRecord.{TaskRecord}
 use Rattle.storage_changes.specs.declared.record.TurnRecord.{TurnRecord}
@@ -24,7 +25,7 @@ use Rattle.storage_changes.specs.declared.record.CellRecord.{CellRecord}
 use Rattle.storage_changes.specs.declared.record.Record.{Record}
 use Rattle.storage_changes.specs.declared.record.Record.TheVariants.{Area, Extent, Pages, Own, Queues, Register, Bytes}
 use Rattle.storage_changes.specs.declared.record.Record.TheVariants.{Registers, Task, Turn, Sharer, Pass}
-use Rattle.storage_changes.specs.declared.record.Record.TheVariants.{CellPool, CellExtent, Cell}
+use Rattle.storage_changes.specs.declared.record.Record.TheVariants.{CellPool, CellExtent, Cell, Obtain}
 use Rattle.storage_changes.specs.Walk.{Walk}
 use Rattle.storage_changes.specs.Steps.{area_spare, extent_spare, pages_spare, own_step, extent_elements, step}
 
@@ -173,6 +174,10 @@ pub record BytesFits (w : Walk) (r : BytesRecord) : Type 0 where
   pub sixteen : length r.bytes ≡ 16
   pub there : (a : ℕ) → a / 16 ≡ r.block → IsSome (w.state.bytes a)
 
+-- the area and the register do
+abbrev pub ObtainFits : Walk → ObtainRecord → Type 0
+ObtainFits w r = AreaFits w r.area × RegisterFits w r.register
+
 -- each kind, and records in their order
 
 abbrev pub Fits : Walk → Record → Type 0
@@ -191,6 +196,7 @@ Fits w (CellPool r) = CellPoolFits w r
 Fits w (CellExtent r) = CellExtentFits w r
 Fits w (Cell r) = CellFits w r
 Fits w (Bytes r) = BytesFits w r
+Fits w (Obtain r) = ObtainFits w r
 
 abbrev pub FitInTurn : Walk → List Record → Type 0
 FitInTurn w [] = Unit {0}

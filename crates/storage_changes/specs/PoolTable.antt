@@ -1,7 +1,8 @@
 -- The cell pools of the storage as the plain machine's table by name. Assembler Services Reference, CPOOL.
 use Rattle.std.specs.Prelude.{ℕ, zero, suc, ◌^◌, Option, Some, None, [], map}
 use Rattle.vsm_model.specs.CellPools.{CellPool, CellExtent, CellPools, with_cell_pool}
-use Rattle.cell_pool.specs.Pools.{Extent, Pool}
+use Rattle.cell_pool.specs.declared.settings.Extent.{Extent}
+use Rattle.cell_pool.specs.Pools.{Pool}
 
 -- an extent, and a cell pool, on the plain machine
 abbrev pub extent_of : Extent → CellExtent

@@ -12,7 +12,7 @@ use Rattle.vsm_model.specs.State.{State}
 use Rattle.storage_changes.specs.declared.record.Record.{Record}
 use Rattle.storage_changes.specs.declared.record.Record.TheVariants.{Area, Extent, Pages, Own, Queues, Register, Bytes}
 use Rattle.storage_changes.specs.declared.record.Record.TheVariants.{Registers, Task, Turn, Sharer, Pass}
-use Rattle.storage_changes.specs.declared.record.Record.TheVariants.{CellPool, CellExtent, Cell}
+use Rattle.storage_changes.specs.declared.record.Record.TheVariants.{CellPool, CellExtent, Cell, Obtain}
 use Rattle.storage_changes.specs.State.{StorageState}
 use Rattle.storage_changes.specs.Walk.{Walk}
 use Rattle.storage_changes.specs.Steps.{step}
@@ -37,6 +37,7 @@ Fits-prop w (CellPool r) = hlevel props
 Fits-prop w (CellExtent r) = hlevel (Pool-set, props)
 Fits-prop w (Cell r) = hlevel (Pool-set, props)
 Fits-prop w (Bytes r) = hlevel props
+Fits-prop w (Obtain r) = hlevel props
 
 pub FitInTurn-prop : (w : Walk) (rs : List Record) → IsProp (FitInTurn w rs)
 FitInTurn-prop w [] = Unit-prop

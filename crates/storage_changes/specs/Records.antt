@@ -1,16 +1,17 @@
 -- How a record is stored in the seven words of an element: its kind, its places and their other value.
-use Rattle.std.specs.Prelude.{ℕ, ◌+◌, Bool, List, [], ◌∷◌, ◌++◌, ◌%◌, ◌==◌, slice_index_or, if◌then◌else◌}
+use Rattle.std.specs.Prelude.{ℕ, ◌+◌, Bool, List, [], ◌∷◌, ◌++◌, ◌/◌, ◌%◌, ◌==◌, slice_index_or, if◌then◌else◌}
 use Rattle.run_set.specs.Runs.{Run}
 use Rattle.vsm_model.specs.declared.Subpool.{Subpool}
 use Rattle.vsm_model.specs.Bytes.{fullword}
 use Rattle.storage_changes.specs.declared.record.RegisterRecord.{RegisterRecord}
 use Rattle.storage_changes.specs.declared.record.RegistersRecord.{RegistersRecord}
+use Rattle.storage_changes.specs.declared.record.ObtainRecord.{ObtainRecord}
 use Rattle.storage_changes.specs.declared.record.Record.{Record}
 use Rattle.storage_changes.specs.declared.record.TaskRecord.{TaskRecord}
 use Rattle.storage_changes.specs.declared.record.CellExtentRecord.{CellExtentRecord}
 use Rattle.storage_changes.specs.declared.record.Record.TheVariants.{Area, Extent, Pages, Own, Queues, Register, Bytes}
 use Rattle.storage_changes.specs.declared.record.Record.TheVariants.{Registers, Task, Turn, Sharer, Pass}
-use Rattle.storage_changes.specs.declared.record.Record.TheVariants.{CellPool, CellExtent, Cell}
+use Rattle.storage_changes.specs.declared.record.Record.TheVariants.{CellPool, CellExtent, Cell, Obtain}
 
 -- the word at a place, or 0 past the last
 abbrev pub word : List ℕ → ℕ → ℕ
@@ -49,6 +50,16 @@ registers_in words =
       words = word words 3 ∷ word words 4 ∷ word words 5 ∷ word words 6 ∷ [];
     }
 
+-- The area as in a record of one; above the number and the owner of its subpool are the task and its register, whose
+-- word is the last.
+abbrev pub obtain_in : List ℕ → ObtainRecord
+obtain_in words =
+    record {
+      area = record { subpool = subpool_in words; area = run_in words; free = word words 5 == 1 };
+      register =
+          record { task = word words 1 / 256 % 256; register = word words 2 / 256 % 256; word = word words 6 };
+    }
+
 -- the task and the parent that the second and the third word name
 abbrev pub task_in : List ℕ → TaskRecord
 task_in words =
@@ -85,4 +96,5 @@ record_of words =
     else if word words 0 == 12 then
     Cell (record { pool = word words 1; cell = word words 3; free = word words 5 == 1 })
     else if word words 0 == 14 then Registers (registers_in words)
+    else if word words 0 == 15 then Obtain (obtain_in words)
     else Bytes (record { block = word words 1; bytes = bytes_in words })

@@ -13,6 +13,7 @@ use Rattle.storage_changes.specs.declared.record.OwnRecord.{OwnRecord}
 use Rattle.storage_changes.specs.declared.record.QueuesRecord.{QueuesRecord}
 use Rattle.storage_changes.specs.declared.record.RegisterRecord.{RegisterRecord}
 use Rattle.storage_changes.specs.declared.record.RegistersRecord.{RegistersRecord}
+use Rattle.storage_changes.specs.declared.record.ObtainRecord.{ObtainRecord}
 use Rattle.storage_changes.specs.declared.record.BytesRecord.{BytesRecord}
 use Rattle.storage_changes.specs.declared.record.TaskRecord.{TaskRecord}
 use Rattle.storage_changes.specs.declared.record.TurnRecord.{TurnRecord}
@@ -24,7 +25,7 @@ use Rattle.storage_changes.specs.declared.record.CellRecord.{CellRecord}
 use Rattle.storage_changes.specs.declared.record.Record.{Record}
 use Rattle.storage_changes.specs.declared.record.Record.TheVariants.{Area, Extent, Pages, Own, Queues, Register, Bytes}
 use Rattle.storage_changes.specs.declared.record.Record.TheVariants.{Registers, Task, Turn, Sharer, Pass}
-use Rattle.storage_changes.specs.declared.record.Record.TheVariants.{CellPool, CellExtent, Cell}
+use Rattle.storage_changes.specs.declared.record.Record.TheVariants.{CellPool, CellExtent, Cell, Obtain}
 use Rattle.storage_changes.specs.Walk.{Walk, spare_joined, spare_left}
 
 -- an area of a subpool's free storage
@@ -201,6 +202,11 @@ bytes_step w r =
       };
     }
 
+-- an area of a subpool's free storage, and then a register of a task
+
+abbrev pub obtain_step : Walk → ObtainRecord → Walk
+obtain_step w r = register_step (area_step w r.area) r.register
+
 -- each kind, and records in their order
 
 abbrev pub step : Walk → Record → Walk
@@ -219,6 +225,7 @@ step w (CellPool r) = cell_pool_step w r
 step w (CellExtent r) = cell_extent_step w r
 step w (Cell r) = cell_step w r
 step w (Bytes r) = bytes_step w r
+step w (Obtain r) = obtain_step w r
 
 abbrev pub walk : Walk → List Record → Walk
 walk w [] = w

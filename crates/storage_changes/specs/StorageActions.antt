@@ -8,7 +8,7 @@ use Rattle.vsm_model.specs.Regions.{among, pages_for}
 use Rattle.vsm_model.specs.Search.{all_pass}
 use Rattle.subpool_storage.specs.Subpools.{Subpools}
 use Rattle.storage_changes.specs.declared.record.Record.{Record}
-use Rattle.storage_changes.specs.declared.record.Record.TheVariants.{Area, Extent, Pages, Own, Register, Bytes}
+use Rattle.storage_changes.specs.declared.record.Record.TheVariants.{Area, Extent, Pages, Own, Register, Bytes, Obtain}
 use Rattle.storage_changes.specs.State.{StorageState}
 use Rattle.storage_changes.specs.Turned.{read}
 
@@ -62,6 +62,11 @@ give_back_records p d count page (suc n) =
     ++ area_records p (d + count) (512 * (page + suc n) - (d + count)) false
     ++ returned_records p page (suc n)
 
+-- with this many blank elements, if this many pages leave.
+abbrev pub give_back_blanks : ℕ → ℕ
+give_back_blanks zero = 2
+give_back_blanks (suc n) = 5
+
 -- the first page that an area from d on empties: it keeps the one that it begins in if some doubleword before it is
 -- taken there,
 abbrev pub first_emptied : Subpools → Subpool → ℕ → ℕ
@@ -105,3 +110,18 @@ set_records task words (row ∷ rows) =
 -- those of the current task
 abbrev pub register_records : StorageState → List (ℕ × ℕ) → List Record
 register_records m rows = set_records m.tasks.current (m.tasks.words m.tasks.current) rows
+
+-- The count doublewords from d on, which are free in the subpool, are taken, and a register of the task gets a word.
+abbrev pub obtain_record : ℕ → Subpool → ℕ → ℕ → ℕ × ℕ → Record
+obtain_record task p d count row =
+    Obtain (record {
+      area = record { subpool = p; area = run_of d count; free = false };
+      register = record { task = task; register = row.0; word = row.1 };
+    })
+
+-- They are taken together with the second of the registers that are set.
+abbrev pub obtained_records : StorageState → Subpool → ℕ → ℕ → ℕ × ℕ → ℕ × ℕ → List (ℕ × ℕ) → List Record
+obtained_records m p d count code address rows =
+    register_records m (code ∷ [])
+    ++ obtain_record m.tasks.current p d count address
+    ∷ map (register_record m.tasks.current) rows

@@ -1,5 +1,5 @@
 -- Each action's records lead to its effect on the plain machine.
-use Rattle.std.specs.Prelude.{◌≡◌, ℕ, ◌+◌, ◌*◌, ◌/◌, ◌^◌, ◌<◌, ◌≤◌, Bool, true, false, List, length, ◌++◌, Some}
+use Rattle.std.specs.Prelude.{◌≡◌, ℕ, ◌+◌, ◌*◌, ◌/◌, ◌^◌, ◌<◌, ◌≤◌, Bool, true, false, List, length, ◌∷◌, ◌++◌, Some}
 use Rattle.vsm_model.specs.declared.Subpool.{Subpool}
 use Rattle.vsm_model.specs.declared.limits.Settings.{Settings}
 use Rattle.vsm_model.specs.Regions.{among, pages_for, settings_valid}
@@ -13,8 +13,8 @@ use Rattle.vsm_model.specs.Registers.{with_registers}
 use Rattle.vsm_model.specs.WellFormed.{IsWellFormed}
 use Rattle.storage_changes.specs.State.{StorageState}
 use Rattle.storage_changes.specs.Meaning.{model_of, IsSound}
-use Rattle.storage_changes.specs.StorageActions.{run_of, own_records, take_records, take_fresh_records}
-use Rattle.storage_changes.specs.StorageActions.{give_back_records, emptied_pages}
+use Rattle.storage_changes.specs.StorageActions.{run_of, own_records, take_fresh_records, obtained_records}
+use Rattle.storage_changes.specs.StorageActions.{give_back_records, give_back_blanks, emptied_pages}
 use Rattle.storage_changes.specs.StorageActions.{write_records, register_records}
 use Rattle.storage_changes.specs.Changes.{change_of, change_from}
 use Rattle.storage_changes.specs.Leads.{Leads, with_new, CanOwn, AreRegisters, AreIdle}
@@ -22,13 +22,15 @@ use Rattle.storage_changes.specs.Leads.{Leads, with_new, CanOwn, AreRegisters, A
 -- An area of the subpool's free storage is taken,
 abbrev pub TakingLeads : Type 0
 TakingLeads =
-    (settings : Settings) (m : StorageState) (p : Subpool) (is_new : Bool) (d count : ℕ) (rows : List (ℕ × ℕ)) →
-    IsSound settings m → CanOwn m p is_new → AreRegisters rows → 0 < count → d + count ≤ 2 ^ 29 →
+    (settings : Settings) (m : StorageState) (p : Subpool) (is_new : Bool) (d count : ℕ) (code address : ℕ × ℕ)
+    (rows : List (ℕ × ℕ)) →
+    IsSound settings m → CanOwn m p is_new → AreRegisters (code ∷ address ∷ rows) → 0 < count → d + count ≤ 2 ^ 29 →
     ((k : ℕ) → among d count k ≡ true → m.subpools.free p k ≡ true) →
-    IsWellFormed settings (with_registers (with_taken (with_new (model_of m) p is_new) d count) rows) →
+    IsWellFormed settings
+    (with_registers (with_taken (with_new (model_of m) p is_new) d count) (code ∷ address ∷ rows)) →
     Leads settings m
-    (change_of (own_records p is_new ++ take_records p d count ++ register_records m rows) 3 (run_of 0 0))
-    (with_registers (with_taken (with_new (model_of m) p is_new) d count) rows)
+    (change_of (own_records p is_new ++ obtained_records m p d count code address rows) 2 (run_of 0 0))
+    (with_registers (with_taken (with_new (model_of m) p is_new) d count) (code ∷ address ∷ rows))
 
 -- or one at the first byte of unassigned pages;
 abbrev pub TakingFreshLeads : Type 0
@@ -53,7 +55,8 @@ GivingBackLeads =
     ((k : ℕ) → among d count k ≡ true → (m.subpools.pages p (k / 512) ≡ true) × (m.subpools.free p k ≡ false)) →
     AreIdle (model_of m) p d count (run_of page n) →
     IsWellFormed settings (with_registers (without_area (model_of m) p d count) rows) →
-    Leads settings m (change_of (give_back_records p d count page n ++ register_records m rows) 5 (run_of 0 0))
+    Leads settings m
+    (change_of (give_back_records p d count page n ++ register_records m rows) (give_back_blanks n) (run_of 0 0))
     (with_registers (without_area (model_of m) p d count) rows)
 
 -- these pages are a run, for which only its first and its last page have to be looked at;

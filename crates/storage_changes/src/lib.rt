@@ -17,8 +17,9 @@ pub mod storage;
 pub mod tables;
 pub mod tasks;
 
+pub use in_words::PlacedWord;
 pub use record::{
-    AreaRecord, BytesRecord, CellExtentRecord, CellPoolRecord, CellRecord, ExtentRecord, OwnRecord,
-    PagesRecord, PassRecord, QueuesRecord, Record, RegisterRecord, RegistersRecord, SharerRecord,
-    TaskRecord, TurnRecord,
+    AreaRecord, BytesRecord, CellExtentRecord, CellPoolRecord, CellRecord, ExtentRecord,
+    ObtainRecord, OwnRecord, PagesRecord, PassRecord, QueuesRecord, Record, RegisterRecord,
+    RegistersRecord, SharerRecord, TaskRecord, TurnRecord,
 };

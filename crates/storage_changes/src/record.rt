@@ -2,6 +2,7 @@ ghost use Rattle.std.specs.Prelude.{◌≡◌, ◌+◌, ◌%◌, ◌≤◌, ◌=
 ghost use Rattle.vsm_model.specs.Bytes.{fullword};
 ghost use Rattle.storage_changes.specs.Records.{record_of, words_of, word, subpool_in, run_in, register_in, bytes_in};
 ghost use Rattle.storage_changes.specs.Records.{four_at, task_in, registers_in, extent_words, cell_extent_in};
+ghost use Rattle.storage_changes.specs.Records.{obtain_in};
 
 use run_set::Run;
 use subpool_storage::CellId;
@@ -128,6 +129,14 @@ pub struct CellRecord {
     pub free: bool,
 }
 
+/// An area of a subpool becomes free storage, or taken, and a register of a task gets a word: the place of an obtained
+/// area, and its address in register 1.
+#[derive(Clone, Copy)]
+pub struct ObtainRecord {
+    pub area: AreaRecord,
+    pub register: RegisterRecord,
+}
+
 /// Places of the storage that change together, with their other value.
 #[derive(Clone, Copy)]
 pub enum Record {
@@ -146,6 +155,7 @@ pub enum Record {
     CellExtent(CellExtentRecord),
     Cell(CellRecord),
     Bytes(BytesRecord),
+    Obtain(ObtainRecord),
 }
 
 impl Default for Record {
@@ -187,6 +197,8 @@ const BYTES: u32 = 13;
 
 const REGISTERS: u32 = 14;
 
+pub(crate) const OBTAIN: u32 = 15;
+
 /// What the words of a record that names no subpool contain,
 const NO_SUBPOOL: Subpool = Subpool {
     number: 0,
@@ -226,6 +238,7 @@ impl Record {
             Record::CellExtent(r) => cell_words(CELL_EXTENT, r.pool, cells_from(r), r.present),
             Record::Cell(r) => cell_words(CELL, r.pool, one_cell(r.cell), r.free),
             Record::Bytes(r) => byte_words(r),
+            Record::Obtain(r) => obtain_words(r),
         }
     }
 
@@ -264,6 +277,7 @@ impl Record {
             }),
             CELL_EXTENT => Record::CellExtent(cell_extent_of(words)),
             CELL => Record::Cell(cell_of(words)),
+            OBTAIN => Record::Obtain(obtain_of(words)),
             _ => Record::Bytes(BytesRecord {
                 block: words[1],
                 bytes: bytes_of(words),
@@ -347,6 +361,22 @@ fn task_words(r: TaskRecord) -> [u32; 7]
         0,
         u32::from(r.present),
         0,
+    ]
+}
+
+/// The words of a record of an obtain: the subpool's number is above the task's, and its owner above the register's.
+fn obtain_words(r: ObtainRecord) -> [u32; 7]
+    ensures kind { word result 0 ≡ 15 }
+    ensures obtain { obtain_in result ≡ r }
+{
+    [
+        OBTAIN,
+        u32::from(r.area.subpool.number) + 256 * u32::from(r.register.task),
+        u32::from(r.area.subpool.owner) + 256 * u32::from(r.register.register),
+        r.area.area.start,
+        r.area.area.len,
+        u32::from(r.area.free),
+        r.register.word,
     ]
 }
 
@@ -480,6 +510,19 @@ pub(crate) fn register_of(words: [u32; 7]) -> RegisterRecord
         task: low_byte(words[1]),
         register: low_byte(words[2]),
         word: words[3],
+    }
+}
+
+pub(crate) fn obtain_of(words: [u32; 7]) -> ObtainRecord
+    ensures { result ≡ obtain_in words }
+{
+    ObtainRecord {
+        area: area_of(words),
+        register: RegisterRecord {
+            task: low_byte(words[1] / 256),
+            register: low_byte(words[2] / 256),
+            word: words[6],
+        },
     }
 }
 

@@ -13,7 +13,8 @@ ghost use Rattle.storage_changes.specs.StorageLaws.{
 
 use crate::tables::rows_of_the_others_stay;
 
-/// An area of the subpool's free storage is taken, and registers are set: three blank elements are enough.
+/// An area of the subpool's free storage is taken, and registers are set, the second one in the record of the area:
+/// two blank elements are enough.
 pub fn taking_leads()
     ensures { TakingLeads }
 {}
@@ -26,7 +27,7 @@ pub fn taking_fresh_leads()
 {}
 
 /// An area of taken doublewords of the subpool is given back, with the pages that it empties, which lie in one run; and
-/// registers are set. Five blank elements are enough.
+/// registers are set. Two blank elements are enough, or five if pages leave.
 pub fn giving_back_leads()
     ensures { GivingBackLeads }
 {}

@@ -12,6 +12,6 @@ use Rattle.storage_core.specs.Planned.{elements_needed}
 use Rattle.storage_core.proofs.Counted.{reserved_count}
 
 pub delete_few : {E : Type 0} (p t : Parts) (m : StorageState) (plan : DeletePlan) (r : Result Change E) → IfOk r (λ c. Reserves p (delete_change m plan) c t) →
-    IfOk r (λ c. c.records.count + c.blanks.count ≤ elements_needed m (Delete plan))
+    IfOk r (λ c. c.records.count + c.blanks ≤ elements_needed m (Delete plan))
 delete_few p t m plan (Ok c) made = omega (arith, reserved_count p t (delete_change m plan) c made, delete-short m (m.subpools.cells plan.pool))
 delete_few p t m plan (Err e) made = made

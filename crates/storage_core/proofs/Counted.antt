@@ -12,10 +12,9 @@ use Rattle.storage_changes.specs.declared.record.Record.{Record}
 use Rattle.storage_changes.specs.Changes.{Change as Meaning, unassigned_records, change_from, change_of, no_pages}
 use Rattle.storage_swap.specs.declared.storage.Parts.{Parts}
 use Rattle.storage_swap.specs.declared.change.Change.{Change}
-use Rattle.raw_region.specs.Pages.{Pages}
 use Rattle.storage_swap.specs.Beside.{record_at, records_of}
 use Rattle.storage_swap.specs.Reserve.{Reserves, elements_for}
-use Rattle.storage_swap.specs.Growth.{MakesElements, MakesFrames}
+use Rattle.storage_swap.specs.Growth.{MakesElements}
 use Rattle.storage_core.specs.Planned.{extents_leaving}
 
 follow-length : (s : Store) (id n : ℕ) → length (follow s id n) ≡ n
@@ -30,10 +29,10 @@ unassigned-length [] = refl
 unassigned-length (r ∷ rs) = ap suc (unassigned-length rs)
 
 -- a change that was reserved has the elements that it means
-pub reserved_count : (p t : Parts) (d : Meaning) (c : Change) → Reserves p d c t → c.records.count + c.blanks.count ≡ length d.records + d.blanks
+pub reserved_count : (p t : Parts) (d : Meaning) (c : Change) → Reserves p d c t → c.records.count + c.blanks ≡ length d.records + d.blanks
 reserved_count p t d c made =
     let same_records : length (records_of t.elements c.records) ≡ length d.records = ap (λ (x : Meaning). length x.records) made.meaning in
-    let same_blanks : c.blanks.count ≡ d.blanks = ap (λ (x : Meaning). x.blanks) made.meaning in
+    let same_blanks : c.blanks ≡ d.blanks = ap (λ (x : Meaning). x.blanks) made.meaning in
     omega (arith, records-length t.elements c.records, same_records, same_blanks)
 
 -- of a change with at most 8 records of its own
@@ -48,13 +47,13 @@ few_from m (Some p) records blanks fresh few =
 
 pub few_answered : {E : Type 0} (p t : Parts) (m : Subpools) (emptied : Option Subpool) (records : List Record) (blanks : ℕ) (fresh : Run) (r : Result Change E) →
     IfOk r (λ c. Reserves p (change_from m emptied records blanks fresh) c t) → length records ≤ 8 →
-    IfOk r (λ c. c.records.count + c.blanks.count ≤ 25 + blanks + 8 * extents_leaving m emptied)
+    IfOk r (λ c. c.records.count + c.blanks ≤ 25 + blanks + 8 * extents_leaving m emptied)
 few_answered p t m emptied records blanks fresh (Ok c) made few =
     omega (arith, few_from m emptied records blanks fresh few, reserved_count p t (change_from m emptied records blanks fresh) c made)
 few_answered p t m emptied records blanks fresh (Err e) made few = made
 
 -- of one with only records
-pub few_records : {E : Type 0} (p t : Parts) (records : List Record) (r : Result Change E) → IfOk r (λ c. Reserves p (change_of records 0 no_pages) c t) → length records ≤ 17 → IfOk r (λ c. c.records.count + c.blanks.count ≤ 17)
+pub few_records : {E : Type 0} (p t : Parts) (records : List Record) (r : Result Change E) → IfOk r (λ c. Reserves p (change_of records 0 no_pages) c t) → length records ≤ 17 → IfOk r (λ c. c.records.count + c.blanks ≤ 17)
 few_records p t records (Ok c) made few = omega (arith, few, reserved_count p t (change_of records 0 no_pages) c made)
 few_records p t records (Err e) made few = made
 
@@ -71,7 +70,3 @@ uses_within old new n most within (Err e) used = used
 -- the same of what is made
 pub makes_within : (old new : Store) (n most : ℕ) → n ≤ most → MakesElements old new n → MakesElements old new most
 makes_within old new n most within made = omega (arith, within, made)
-
--- no frame is made of a region that stays
-pub no_frame_made : (old new : Pages) → new ≡ old → MakesFrames old new 0
-no_frame_made old new same = let h : new.made ≡ old.made = ap (λ (z : Pages). z.made) same in omega (arith, h)

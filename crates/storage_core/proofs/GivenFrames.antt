@@ -5,7 +5,7 @@ use Rattle.storage_changes.specs.declared.record.PagesRecord.{PagesRecord}
 use Rattle.storage_changes.specs.declared.record.Record.{Record}
 use Rattle.storage_changes.specs.declared.record.Record.TheVariants.{Area, Extent, Pages, Own, Queues, Register, Bytes}
 use Rattle.storage_changes.specs.declared.record.Record.TheVariants.{Registers, Task, Turn, Sharer, Pass}
-use Rattle.storage_changes.specs.declared.record.Record.TheVariants.{CellPool, CellExtent, Cell}
+use Rattle.storage_changes.specs.declared.record.Record.TheVariants.{CellPool, CellExtent, Cell, Obtain}
 use Rattle.storage_changes.specs.State.{StorageState}
 use Rattle.storage_changes.specs.Walk.{Walk}
 use Rattle.storage_changes.specs.Steps.{pages_step, step, walk}
@@ -66,6 +66,7 @@ stays-past w (CellPool r ∷ rs) a h past some = stays-past (step w (CellPool r)
 stays-past w (CellExtent r ∷ rs) a h past some = stays-past (step w (CellExtent r)) rs a h.1 (record { none = past.none; gone = past.gone }) some
 stays-past w (Cell r ∷ rs) a h past some = stays-past (step w (Cell r)) rs a h.1 (record { none = past.none; gone = past.gone }) some
 stays-past w (Bytes r ∷ rs) a h past some = stays-past (step w (Bytes r)) rs a h.1 (record { none = past.none; gone = past.gone }) some
+stays-past w (Obtain r ∷ rs) a h past some = stays-past (step w (Obtain r)) rs a h.1 (record { none = past.none; gone = past.gone }) some
 
 -- A frame that is given in the end was in the tables, was given before, or was brought, and its page is then
 -- unassigned.
@@ -115,6 +116,7 @@ came-from w (CellPool r ∷ rs) a h some = came-from (step w (CellPool r)) rs a 
 came-from w (CellExtent r ∷ rs) a h some = came-from (step w (CellExtent r)) rs a h.1 some
 came-from w (Cell r ∷ rs) a h some = came-from (step w (Cell r)) rs a h.1 some
 came-from w (Bytes r ∷ rs) a h some = came-from (step w (Bytes r)) rs a h.1 some
+came-from w (Obtain r ∷ rs) a h some = came-from (step w (Obtain r)) rs a h.1 some
 
 -- once it was exchanged, a change assigns its frames when it's exchanged again
 pub frames_back : (m : StorageState) (d : Change) → Fit m d → AssignsItsFrames m d → AssignsItsFrames (overlay m d) (inverse m d)

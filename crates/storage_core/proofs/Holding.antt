@@ -74,6 +74,7 @@ alone settings p held = record {
   changes = tt;
   once = λ i. omega (arith, held.once i);
   frameless = held.frameless;
+  aside = omega arith;
   out = omega arith;
 }
 
@@ -84,7 +85,6 @@ ready_is_apart p c ready = record {
   changes = (
     record {
       records = ready.records;
-      blanks = ready.blanks;
       parked = ready.stands.parked;
       places = ready.places;
     },
@@ -92,6 +92,7 @@ ready_is_apart p c ready = record {
   );
   once = λ i. omega (arith, ready.once i);
   frameless = ready.frameless;
+  aside = omega (arith, ready.aside);
   out = omega (arith, ready.out);
 }
 

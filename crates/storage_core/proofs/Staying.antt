@@ -59,6 +59,7 @@ module _ (p t : Parts) (stands : Stand p) (grown : Grown p t) where
       once = λ i. omega (arith, h.once i, same-hold i, others-left.held i);
       frameless = λ page e.
           grown.pages page ∙ h.frameless page (sym (ap (λ (m : StorageState). m.unassigned page) same-state) ∙ e);
+      aside = omega (arith, h.aside, grown.aside);
       out = omega (arith, h.out, grown.out);
     }
 
@@ -73,6 +74,7 @@ module _ (p t : Parts) (stands : Stand p) (grown : Grown p t) where
           same-hold i,
           (others-left xs h.apart).held i,
         );
+    all_aside = omega (arith, h.all_aside, grown.aside);
     all_out = omega (arith, h.all_out, grown.out);
   }
 

@@ -23,7 +23,7 @@ use Rattle.storage_core.specs.Planned.{elements_needed}
 use Rattle.storage_core.proofs.Counted.{reserved_count}
 
 few-answered : {E : Type 0} (p t : Parts) (d : Meaning) (most : ℕ) (r : Result Change E) → IfOk r (λ c. Reserves p d c t) → length d.records + d.blanks ≤ most →
-    IfOk r (λ c. c.records.count + c.blanks.count ≤ most)
+    IfOk r (λ c. c.records.count + c.blanks ≤ most)
 few-answered p t d most (Ok c) made few = omega (arith, reserved_count p t d c made, few)
 few-answered p t d most (Err e) made few = made
 
@@ -67,7 +67,7 @@ attach-fits m plan =
     (few_records m.tasks.current (m.tasks.words m.tasks.current) (15, 0) ((1, plan.task) ∷ []))
 
 pub attach_few : {E : Type 0} (p t : Parts) (m : StorageState) (plan : AttachPlan) (r : Result Change E) → IfOk r (λ c. Reserves p (attach_change m plan) c t) →
-    IfOk r (λ c. c.records.count + c.blanks.count ≤ elements_needed m (Attach plan))
+    IfOk r (λ c. c.records.count + c.blanks ≤ elements_needed m (Attach plan))
 attach_few p t m plan r made =
     few-answered p t (attach_change m plan) (elements_needed m (Attach plan)) r made
     (attach-fits m plan)
@@ -89,5 +89,5 @@ end-fits m plan =
     omega (arith, (ends_are_short m ended plan.next).2, length-append records registers, one-register (with_turn m plan.next) plan.reply)
 
 pub end_few : {E : Type 0} (p t : Parts) (m : StorageState) (plan : EndPlan) (r : Result Change E) → IfOk r (λ c. Reserves p (end_change m plan) c t) →
-    IfOk r (λ c. c.records.count + c.blanks.count ≤ elements_needed m (End plan))
+    IfOk r (λ c. c.records.count + c.blanks ≤ elements_needed m (End plan))
 end_few p t m plan r made = few-answered p t (end_change m plan) (elements_needed m (End plan)) r made (omega (arith, end-fits m plan))

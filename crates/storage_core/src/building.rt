@@ -1,7 +1,8 @@
 //! The changes that store bytes, and that create a cell pool.
 ghost use Rattle.std.specs.Prelude.{◌≡◌, ℕ, None, ◌+◌, ◌^◌, ◌<◌, ◌≤◌, length, IsOk, OnErr, IfOk};
 ghost use Rattle.vsm_elements.specs.Store.{live_count};
-ghost use Rattle.storage_swap.specs.Growth.{MakesElements, MakesFrames};
+ghost use Rattle.storage_changes.specs.Changes.{no_pages};
+ghost use Rattle.storage_swap.specs.Growth.{MakesElements, MakesForPages};
 ghost use Rattle.storage_swap.specs.Reserve.{Reserves};
 ghost use Rattle.storage_plans.specs.StorePlans.{store_change, CanBeStored};
 ghost use Rattle.cell_plans.specs.CellPlans.{build_change, CanBeBuilt};
@@ -22,7 +23,7 @@ impl Storage {
     #[inline(never)]
     pub(crate) fn reserve_store(&mut self, plan: StorePlan<'_>) -> Result<Change, AllocError>
         requires { CanBeStored (state_in_place self.old) plan }
-        ensures { IsReserved self.old (store_change (state_in_place self.old) plan.entry) 17 0
+        ensures { IsReserved self.old (store_change (state_in_place self.old) plan.entry) 17 no_pages
             (17 ≤ self.old.parts.elements.spare) self.new result }
     {
         let records = block_records(&self.parts, plan.address, plan.bytes);
@@ -36,14 +37,14 @@ impl Storage {
             × ((id < 2 ^ 32) × ((state_in_place self.old).subpools.cells id ≡ None))
             × Reserves self.old.parts (build_change plan.entry id) change self.new.parts) }
         ensures frames { IfOk result (λ change. length change.frames ≡ plan.entry.fresh.len) }
-        ensures few { IfOk result (λ change. change.records.count + change.blanks.count ≤ 30) }
+        ensures few { IfOk result (λ change. change.records.count + change.blanks ≤ 30) }
         ensures uses { IfOk result (λ _. self.old.parts.elements.spare ≤ self.new.parts.elements.spare
             + (31 + plan.entry.settings.primary)) }
         ensures live { IfOk result (λ _. live_count self.new.parts.elements ≤ live_count self.old.parts.elements
             + (31 + plan.entry.settings.primary)) }
         ensures made { MakesElements self.old.parts.elements self.new.parts.elements
             (31 + plan.entry.settings.primary) }
-        ensures made_frames { MakesFrames self.old.parts.region self.new.parts.region plan.entry.fresh.len }
+        ensures made_for_pages { MakesForPages self.old.parts.region self.new.parts.region plan.entry.fresh }
         ensures err { OnErr result (Stays self.old.parts self.new.parts) }
         ensures needless { IsSpareFor self.old.parts
             (31 + plan.entry.settings.primary) plan.entry.fresh → IsOk result }

@@ -1,15 +1,15 @@
 //! Changes of a storage: made of a plan, exchanged with it, and discarded.
 ghost use Rattle.std.specs.Prelude.{◌≡◌, ℕ, ◌+◌, ◌≤◌, length, IsOk, OnErr, IfOk};
 ghost use Rattle.vsm_elements.specs.Store.{live_count};
-ghost use Rattle.storage_changes.specs.Changes.{Fit, overlay};
+ghost use Rattle.storage_changes.specs.Changes.{Fit, no_pages, overlay};
 ghost use Rattle.storage_changes.specs.Meaning.{IsSound};
 ghost use Rattle.storage_plans.specs.Plans.{change_in};
-ghost use Rattle.storage_swap.specs.Growth.{MakesElements, MakesFrames};
+ghost use Rattle.storage_swap.specs.Growth.{MakesElements, MakesForPages};
 ghost use Rattle.storage_swap.specs.Reserve.{Reserves};
 ghost use Rattle.storage_swap.specs.Swap.{means, Ready, Swaps, Discards};
 ghost use Rattle.storage_core.specs.Meaning.{state_in_place, settings_of};
-ghost use Rattle.storage_core.specs.Planned.{change_for, elements_needed, pages_assigned, storage_elements};
-ghost use Rattle.storage_core.specs.Planned.{CanBeReserved, HasRecords, IsIdFor, IsSpare, IsSpareFor};
+ghost use Rattle.storage_core.specs.Planned.{change_for, elements_needed, fresh_pages, pages_assigned};
+ghost use Rattle.storage_core.specs.Planned.{storage_elements, CanBeReserved, HasRecords, IsIdFor, IsSpare, IsSpareFor};
 ghost use Rattle.storage_core.specs.Reserved.{IsReserved};
 ghost use Rattle.storage_core.specs.Stays.{Stays};
 ghost use Rattle.storage_core.specs.declared.plans.Plan.TheVariants.{Attach, Delete, End};
@@ -36,14 +36,15 @@ impl Storage {
     /// subpool, or the elements of a new cell pool. It has exactly as many frames as pages become assigned.
     ///
     /// `AllocError` if memory is refused, which is possible only if fewer elements or frames are spare, or a table is
-    /// missing. What was made before that stays, as spare elements and frames. Whatever the answer, at most a block of
-    /// elements is made beyond what the change takes, and no frame.
+    /// missing. What was made before that stays, as spare elements and frames and as tables. Whatever the answer, at
+    /// most a block of elements is made beyond what the change takes, no frame, and a table only for a segment of the
+    /// pages that become assigned.
     pub fn reserve(&mut self, plan: &Plan<'_>) -> Result<Change, AllocError>
         requires { CanBeReserved (state_in_place self.old) plan.now }
         ensures ok { IfOk result (λ change. (id : ℕ) × IsIdFor (state_in_place self.old) plan.now id
             × Reserves self.old.parts (change_for (state_in_place self.old) id plan.now) change self.new.parts) }
         ensures frames { IfOk result (λ change. length change.frames ≡ pages_assigned plan.now) }
-        ensures few { IfOk result (λ change. change.records.count + change.blanks.count
+        ensures few { IfOk result (λ change. change.records.count + change.blanks
             ≤ elements_needed (state_in_place self.old) plan.now) }
         ensures uses { IfOk result (λ _. self.old.parts.elements.spare
             ≤ self.new.parts.elements.spare + elements_needed (state_in_place self.old) plan.now) }
@@ -51,7 +52,7 @@ impl Storage {
             ≤ live_count self.old.parts.elements + elements_needed (state_in_place self.old) plan.now) }
         ensures made { MakesElements self.old.parts.elements self.new.parts.elements
             (elements_needed (state_in_place self.old) plan.now) }
-        ensures made_frames { MakesFrames self.old.parts.region self.new.parts.region (pages_assigned plan.now) }
+        ensures made_for_pages { MakesForPages self.old.parts.region self.new.parts.region (fresh_pages plan.now) }
         ensures err { OnErr result (Stays self.old.parts self.new.parts) }
         ensures needless { IsSpare self.old.parts (state_in_place self.old) plan.now → IsOk result }
         ensures settings { settings_of self.new ≡ settings_of self.old }
@@ -70,7 +71,7 @@ impl Storage {
     fn reserve_storage(&mut self, plan: StoragePlan<'_>) -> Result<Change, AllocError>
         requires { HasRecords (state_in_place self.old) plan }
         ensures { IsReserved self.old (change_in (state_in_place self.old) plan.entry)
-            (storage_elements (state_in_place self.old) plan.entry) plan.entry.fresh.len
+            (storage_elements (state_in_place self.old) plan.entry) plan.entry.fresh
             (IsSpareFor self.old.parts (storage_elements (state_in_place self.old) plan.entry) plan.entry.fresh)
             self.new result }
     {
@@ -87,7 +88,7 @@ impl Storage {
     fn reserve_attach(&mut self, plan: AttachPlan) -> Result<Change, AllocError>
         requires { CanBeAttached (state_in_place self.old) plan }
         ensures { IsReserved self.old (attach_change (state_in_place self.old) plan)
-            (elements_needed (state_in_place self.old) (Attach plan)) 0
+            (elements_needed (state_in_place self.old) (Attach plan)) no_pages
             (elements_needed (state_in_place self.old) (Attach plan) ≤ self.old.parts.elements.spare) self.new result }
     {
         plan.reserve(&mut self.parts)
@@ -97,7 +98,7 @@ impl Storage {
     fn reserve_end(&mut self, plan: EndPlan) -> Result<Change, AllocError>
         requires { CanBeEnded (state_in_place self.old) plan }
         ensures { IsReserved self.old (end_change (state_in_place self.old) plan)
-            (elements_needed (state_in_place self.old) (End plan)) 0
+            (elements_needed (state_in_place self.old) (End plan)) no_pages
             (elements_needed (state_in_place self.old) (End plan) ≤ self.old.parts.elements.spare) self.new result }
     {
         plan.reserve(&mut self.parts)
@@ -107,7 +108,7 @@ impl Storage {
     fn reserve_delete(&mut self, plan: DeletePlan) -> Result<Change, AllocError>
         requires { CanBeDeleted (state_in_place self.old) plan }
         ensures { IsReserved self.old (delete_change (state_in_place self.old) plan)
-            (elements_needed (state_in_place self.old) (Delete plan)) 0
+            (elements_needed (state_in_place self.old) (Delete plan)) no_pages
             (elements_needed (state_in_place self.old) (Delete plan) ≤ self.old.parts.elements.spare) self.new result }
     {
         plan.reserve(&mut self.parts)

@@ -54,18 +54,30 @@ impl Storage {
             .owner_seen(&self.parts.elements, task, number)
     }
 
-    /// The subpool that a page is assigned to; `None` if it isn't assigned. A page is an address divided by 4,096.
+    /// The subpool that a page is assigned to; `None` if it isn't assigned. A page is an address divided by 4,096. It
+    /// costs a descent for each subpool that exists.
     pub fn subpool_of_page(&self, page: u32) -> Option<Subpool>
         ensures { result ≡ (state_of self.now).pages page }
     {
-        match self
-            .parts
-            .subpools
-            .subpool_of_page(&self.parts.elements, page)
-        {
-            Some(subpool) => Some(subpool),
-            None => None,
+        let mut place = Storage::first_subpool_place();
+        while let Some((subpool, after)) = self.next_subpool(place) {
+            let elements = &self.parts.elements;
+            let extents = self.parts.subpools.extents_at(elements, after);
+            if extents.contains(elements, page) {
+                return Some(subpool);
+            }
+            place = after;
         }
+        None
+    }
+
+    /// Whether a page belongs to the subpool: one look-up.
+    pub fn has_page(&self, subpool: Subpool, page: u32) -> bool
+        ensures { result ≡ (state_in_place self.now).subpools.pages subpool page }
+    {
+        self.parts
+            .subpools
+            .has_page(&self.parts.elements, subpool, page)
     }
 
     /// Whether a doubleword is free storage of the subpool; the walk goes down one tree, whatever is free.

@@ -3,8 +3,8 @@ use Rattle.std.proofs.Common.{◌≡◌, ℕ, ◌+◌, ◌*◌, ◌^◌, ◌<◌
 use Rattle.std.specs.Prelude.{IfSome, option_map, option_copied}
 use Rattle.std.proofs.lemmas.List.Folds.{flat_map-map}
 use Rattle.arrayvec.specs.ArrayString.{ArrayString}
-use Rattle.cell_extents.specs.declared.settings.Extent.{Extent}
-use Rattle.cell_extents.specs.declared.settings.CellSettings.{CellSettings}
+use Rattle.cell_pool.specs.declared.settings.Extent.{Extent}
+use Rattle.cell_pool.specs.declared.settings.CellSettings.{CellSettings}
 use Rattle.cell_pool.specs.Pools.{Pool, rounded}
 use Rattle.storage_changes.specs.TableOrder.{rows_behind}
 use Rattle.storage_changes.specs.PoolTable.{extent_of, cell_pool_of}

@@ -1,7 +1,7 @@
 -- Cell pools of a storage, and places among their extents and their free cells.
 -- Assembler Services Reference, CPOOL.
 use Rattle.std.specs.Prelude.{◌≡◌, ℕ, List, Option}
-use Rattle.cell_extents.specs.declared.settings.Extent.{Extent}
+use Rattle.cell_pool.specs.declared.settings.Extent.{Extent}
 use Rattle.cell_pool.specs.Pools.{Pool}
 use Rattle.cell_pool.specs.Walks as walks
 use Rattle.cell_pool.specs.declared.walks.CellExtentPlace.{CellExtentPlace}

@@ -3,8 +3,8 @@
 use Rattle.std.specs.Prelude.{ℕ, ◌*◌, ◌==◌, if◌then◌else◌, Option, List, [], ◌++◌, codes, flat_map}
 use Rattle.std.specs.Fmt.{decimal}
 use Rattle.run_set.specs.Runs.{Run}
-use Rattle.cell_extents.specs.declared.settings.Extent.{Extent}
-use Rattle.cell_extents.specs.declared.settings.CellSettings.{CellSettings}
+use Rattle.cell_pool.specs.declared.settings.Extent.{Extent}
+use Rattle.cell_pool.specs.declared.settings.CellSettings.{CellSettings}
 use Rattle.cell_pool.specs.Pools.{rounded}
 use Rattle.storage_map.specs.declared.counts.Totals.{Totals}
 use Rattle.vsm_model.specs.declared.Subpool.{Subpool}

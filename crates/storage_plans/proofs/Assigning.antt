@@ -1,20 +1,21 @@
 -- Pages for which a change has frames become assigned by its records.
 use Rattle.std.specs.Prelude.{⊤}
-use Rattle.std.proofs.Common.{◌≡◌, ℕ, zero, suc, ◌+◌, ◌-◌, ◌*◌, Bool, true, false, ◌==◌, if◌then◌else◌, List, [], ◌∷◌, ◌++◌, map, refl, ◌∙◌, arith}
+use Rattle.std.proofs.Common.{◌≡◌, ℕ, zero, suc, ◌+◌, ◌-◌, ◌*◌, Bool, true, false, ◌==◌, if◌then◌else◌, List, [], ◌∷◌, ◌++◌, map, refl, sym, ap, ◌∙◌, arith}
 use Rattle.std.proofs.lemmas.Bool.{cond-true}
+use Rattle.std.proofs.lemmas.List.{append_assoc}
 use Rattle.run_set.specs.Runs.{inside}
 use Rattle.storage_changes.proofs.ActionCases.{inside_in}
 use Rattle.vsm_model.specs.declared.Subpool.{Subpool}
 use Rattle.vsm_model.specs.Regions.{pages_for}
 use Rattle.storage_changes.specs.declared.record.Record.{Record}
-use Rattle.storage_changes.specs.declared.record.Record.TheVariants.{Area, Extent, Pages, Own, Queues, Register, Registers, Bytes, Task, Turn, Sharer, Pass, CellPool, CellExtent, Cell}
+use Rattle.storage_changes.specs.declared.record.Record.TheVariants.{Area, Extent, Pages, Own, Queues, Register, Registers, Bytes, Task, Turn, Sharer, Pass, CellPool, CellExtent, Cell, Obtain}
 use Rattle.storage_changes.specs.State.{StorageState}
 use Rattle.storage_changes.specs.Steps.{step, walk}
 use Rattle.storage_changes.specs.Walk.{Walk}
-use Rattle.storage_changes.specs.StorageActions.{area_records, own_records, register_record, register_records, run_of}
+use Rattle.storage_changes.specs.StorageActions.{area_records, own_records, register_record, register_records, run_of, take_fresh_records}
 use Rattle.storage_plans.specs.declared.places.AreaPlace.{AreaPlace}
 use Rattle.storage_plans.specs.declared.places.AreaPlace.TheVariants.{Inside, Fresh}
-use Rattle.storage_plans.specs.ObtainPlans.{place_pages, place_records}
+use Rattle.storage_plans.specs.ObtainPlans.{granted_records, place_address, place_pages, place_records}
 
 -- no page is assigned or unassigned by the record
 abbrev pub KeepsPages : Record → Type 0
@@ -33,6 +34,7 @@ KeepsPages (CellPool r) = ⊤
 KeepsPages (CellExtent r) = ⊤
 KeepsPages (Cell r) = ⊤
 KeepsPages (Bytes r) = ⊤
+KeepsPages (Obtain r) = ⊤
 
 abbrev pub KeepPages : List Record → Type 0
 KeepPages [] = ⊤
@@ -74,6 +76,7 @@ kept w (CellPool r ∷ rs) keep k = kept (step w (CellPool r)) rs keep.1 k
 kept w (CellExtent r ∷ rs) keep k = kept (step w (CellExtent r)) rs keep.1 k
 kept w (Cell r ∷ rs) keep k = kept (step w (Cell r)) rs keep.1 k
 kept w (Bytes r ∷ rs) keep k = kept (step w (Bytes r)) rs keep.1 k
+kept w (Obtain r ∷ rs) keep k = kept (step w (Obtain r)) rs keep.1 k
 
 -- if there are no such pages
 pub none_assigned : (unassigned : ℕ → Bool) (k : ℕ) → inside k (run_of 0 0) ≡ true → unassigned k ≡ false
@@ -96,3 +99,12 @@ pub own_assigns : (w : Walk) (p : Subpool) (is_new : Bool) (count : ℕ) (to : A
     (k : ℕ) → inside k (place_pages count to) ≡ true → (walk w (own_records p is_new ++ place_records p count to ++ rest)).state.unassigned k ≡ false
 own_assigns w p true count to rest keep k e = place_assigns (step w (Own (record { subpool = p; present = true }))) p count to rest keep k e
 own_assigns w p false count to rest keep k e = place_assigns w p count to rest keep k e
+
+-- with the registers that are set, of which one may be set together with the area
+pub granted_assigns : (w : Walk) (m : StorageState) (p : Subpool) (is_new : Bool) (count : ℕ) (to : AreaPlace) (rows : List (ℕ × ℕ)) →
+    (k : ℕ) → inside k (place_pages count to) ≡ true → (walk w (own_records p is_new ++ granted_records m p count to rows)).state.unassigned k ≡ false
+granted_assigns w m p is_new count (Inside d) rows k e = none_assigned (λ k. (walk w (own_records p is_new ++ granted_records m p count (Inside d) rows)).state.unassigned k) k e
+granted_assigns w m p is_new count (Fresh page) rows k e =
+    let set = (15, 0) ∷ (1, place_address (Fresh page)) ∷ rows in
+    ap (λ (rs : List Record). (walk w rs).state.unassigned k) (sym (append_assoc (own_records p is_new) (take_fresh_records p page count) (register_records m set)))
+    ∙ own_assigns w p is_new count (Fresh page) (register_records m set) (registers_keep m set) k e

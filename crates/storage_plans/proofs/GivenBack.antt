@@ -27,8 +27,8 @@ use Rattle.service_laws.proofs.Kept.{release_leaves_well_formed}
 use Rattle.storage_changes.specs.State.{StorageState}
 use Rattle.storage_changes.specs.Meaning.{model_of, subpool_of, is_taken, IsSound}
 use Rattle.storage_changes.proofs.MeaningLemmas.{named_pages_are_there}
-use Rattle.storage_changes.specs.StorageActions.{run_of, emptied_pages, give_back_records, register_records}
-use Rattle.storage_changes.proofs.GivingBack.{giving_back_leads}
+use Rattle.storage_changes.specs.StorageActions.{run_of, emptied_pages, give_back_records, give_back_blanks, register_records}
+use Rattle.storage_changes.proofs.GivingBack.{giving_back_leads, blanks_few}
 use Rattle.storage_changes.proofs.Idle.{emptied_pages_are_a_run}
 use Rattle.storage_changes.proofs.Rows.{none_fresh}
 use Rattle.storage_plans.specs.declared.plan.StoragePlan.{StoragePlan}
@@ -152,11 +152,11 @@ module _ (settings : Settings) (m : StorageState) (r : Release) where
         let pages : Run = emptied_pages m.subpools p d count in
         let idle = emptied_pages_are_a_run settings m p d count sound some high taken in
         let outcome : Reply → Stepped = λ reply. Accepted after reply in
-        carries_out settings names_full m (release r) plan (give_back_records p d count pages.start pages.len ++ register_records m ((15, 0) ∷ [])) 5 (run_of 0 0) after
+        carries_out settings names_full m (release r) plan (give_back_records p d count pages.start pages.len ++ register_records m ((15, 0) ∷ [])) (give_back_blanks pages.len) (run_of 0 0) after
         given.emptied given.records given.blanks given.fresh (accepted ∙ ap outcome (sym given.reply))
         (giving_back_leads settings m p d count pages.start pages.len ((15, 0) ∷ []) sound (register_and 15 0 [] (omega arith) no_registers) some high idle.1 taken idle.0
         (release_leaves_well_formed settings names_full s after r (Returned 0) sound.well_formed accepted))
-        (omega arith) (omega arith) (none_fresh m) (none_assigned _)
+        (blanks_few pages.len).1 (omega arith) (none_fresh m) (none_assigned _)
 
   pub is_given_back : (names_full : Bool) (found : GivenBack) (plan : StoragePlan) → ∥ IsSound settings m ∥₁ → first_cause (release_causes settings s r) ≡ None →
       found.subpool ≡ seen_or_own s r.number → found.area ≡ run_of (r.address / 8) (doublewords r.length) → 0 < found.area.len → found.area.start + found.area.len ≤ 2 ^ 29 →

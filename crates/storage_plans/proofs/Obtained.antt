@@ -44,10 +44,10 @@ use Rattle.storage_plans.specs.declared.areas.FoundArea.{FoundArea}
 use Rattle.storage_plans.specs.declared.places.AreaPlace.{AreaPlace}
 use Rattle.storage_plans.specs.declared.places.AreaPlace.TheVariants as areas
 use Rattle.storage_plans.specs.declared.plan.StoragePlan.{StoragePlan}
-use Rattle.storage_plans.specs.ObtainPlans.{IsFound, reply_registers, obtain_records, place_address, place_blanks, place_pages, place_records}
+use Rattle.storage_plans.specs.ObtainPlans.{IsFound, reply_registers, other_registers, granted_records, obtain_records, place_address, place_blanks, place_pages}
 use Rattle.storage_plans.specs.Places.{place_of}
 use Rattle.storage_plans.specs.Plans.{CarriesOut}
-use Rattle.storage_plans.proofs.Assigning.{own_assigns, registers_keep}
+use Rattle.storage_plans.proofs.Assigning.{granted_assigns}
 use Rattle.storage_plans.proofs.Carried.{carries_out, no_registers, register_and}
 use Rattle.storage_plans.proofs.AskedLengths.{is_somewhere}
 
@@ -163,14 +163,19 @@ module _ (settings : Settings) (m : StorageState) (o : Obtain) where
           unassigned_pages_are_nobodys settings m sound k (its k parts.0) ∙ parts.1
 
       -- the change of each place leads to its effect
-      leads_at : (x : AreaPlace) (is_new : Bool) (rows : List (ℕ × ℕ)) → Goes (IsOf settings) s p count (spacing o.boundary) (place_of (Some x)) → CanOwn m p is_new → AreRegisters rows →
-          IsWellFormed settings (with_registers (with_area (with_new s p is_new) p count (place_of (Some x))) rows) →
-          Leads settings m (change_of (own_records p is_new ++ place_records p count x ++ register_records m rows) (place_blanks x) (place_pages count x))
-          (with_registers (with_area (with_new s p is_new) p count (place_of (Some x))) rows)
+      leads_at : (x : AreaPlace) (is_new : Bool) (rows : List (ℕ × ℕ)) → Goes (IsOf settings) s p count (spacing o.boundary) (place_of (Some x)) → CanOwn m p is_new →
+          AreRegisters ((15, 0) ∷ (1, place_address x) ∷ rows) →
+          IsWellFormed settings (with_registers (with_area (with_new s p is_new) p count (place_of (Some x))) ((15, 0) ∷ (1, place_address x) ∷ rows)) →
+          Leads settings m (change_of (own_records p is_new ++ granted_records m p count x rows) (place_blanks x) (place_pages count x))
+          (with_registers (with_area (with_new s p is_new) p count (place_of (Some x))) ((15, 0) ∷ (1, place_address x) ∷ rows))
       leads_at (areas.Inside d) is_new rows goes own are formed =
-          taking_leads settings m p is_new d count rows sound own are some (inside_ends d goes) (inside_free d goes) formed
+          taking_leads settings m p is_new d count (15, 0) (1, place_address (areas.Inside d)) rows sound own are some (inside_ends d goes) (inside_free d goes) formed
       leads_at (areas.Fresh page) is_new rows goes own are formed =
-          taking_fresh_leads settings m p is_new page count rows sound own are some (fresh_ends page goes) (fresh_unassigned page goes) formed
+          let all : List (ℕ × ℕ) = (15, 0) ∷ (1, place_address (areas.Fresh page)) ∷ rows in
+          let P : List Record → Type 0 = λ rs.
+          Leads settings m (change_of rs 5 (run_of page (pages_for count))) (with_registers (with_area (with_new s p is_new) p count (Fresh page)) all) in
+          subst P (append_assoc (own_records p is_new) (take_fresh_records p page count) (register_records m all))
+          (taking_fresh_leads settings m p is_new page count all sound own are some (fresh_ends page goes) (fresh_unassigned page goes) formed)
 
       pages_unassigned : (x : AreaPlace) → Goes (IsOf settings) s p count (spacing o.boundary) (place_of (Some x)) → (k : ℕ) → inside k (place_pages count x) ≡ true → m.unassigned k ≡ true
       pages_unassigned (areas.Inside d) goes k own = none_fresh m k own
@@ -185,12 +190,12 @@ module _ (settings : Settings) (names_full : Bool) (m : StorageState) (o : Obtai
   abbrev goes : Place
   goes = place_of (Some found.place)
 
-  abbrev rows : List (ℕ × ℕ)
-  rows = reply_registers o.lengths o.register (place_address found.place) (8 * found.count)
+  abbrev others : List (ℕ × ℕ)
+  others = other_registers o.lengths o.register (place_address found.place) (8 * found.count)
 
   -- the state after the request
   abbrev after : State
-  after = with_registers (with_area (with_new (model_of m) own found.is_new) own found.count goes) rows
+  after = with_registers (with_area (with_new (model_of m) own found.is_new) own found.count goes) ((15, 0) ∷ (1, place_address found.place) ∷ others)
 
   some : 0 < found.count
   some =
@@ -225,11 +230,11 @@ module _ (settings : Settings) (names_full : Bool) (m : StorageState) (o : Obtai
       let may = obtain_allowed settings names_full (model_of m) o is.none in
       let formed = obtain_leaves_well_formed settings names_full (model_of m) after o (Obtained (place_address found.place) (8 * found.count)) valid (is_register o.register register)
       sound.well_formed (accepted sound) in
-      let leads = leads_at settings m o valid found.count some sound found.place found.is_new rows its (can_own settings m o sound found.is_new is.is_new may.private)
+      let leads = leads_at settings m o valid found.count some sound found.place found.is_new others its (can_own settings m o sound found.is_new is.is_new may.private)
       (are_registers o.lengths o.register (place_address found.place) (8 * found.count) register) formed in
-      carries_out settings names_full m (obtain o) plan (own_records own found.is_new ++ place_records own found.count found.place ++ register_records m rows)
+      carries_out settings names_full m (obtain o) plan (own_records own found.is_new ++ granted_records m own found.count found.place others)
       (place_blanks found.place) (place_pages found.count found.place) after
-      emptied (records ∙ ap (λ (p : Subpool). own_records p found.is_new ++ place_records p found.count found.place ++ register_records m rows) is.subpool) blanks fresh
+      emptied (records ∙ ap (λ (p : Subpool). own_records p found.is_new ++ granted_records m p found.count found.place others) is.subpool) blanks fresh
       (accepted sound ∙ ap (λ r. Accepted after r) (sym reply)) leads (few_blanks found.place)
       (pages_in_range settings m o valid found.count some found.place its) (pages_unassigned settings m o valid found.count some sound found.place its)
-      (own_assigns _ own found.is_new found.count found.place (register_records m rows) (registers_keep m rows))
+      (granted_assigns _ m own found.is_new found.count found.place others)

@@ -16,7 +16,7 @@ use Rattle.storage_changes.specs.Meaning.{model_of}
 use Rattle.storage_changes.specs.declared.record.Record.{Record}
 use Rattle.storage_changes.specs.State.{StorageState}
 use Rattle.storage_changes.specs.StorageActions.{own_records, take_records, take_fresh_records, register_records}
-use Rattle.storage_changes.specs.StorageActions.{run_of}
+use Rattle.storage_changes.specs.StorageActions.{obtained_records, run_of}
 use Rattle.storage_plans.specs.declared.areas.FoundArea.{FoundArea}
 use Rattle.storage_plans.specs.declared.places.AreaPlace.{AreaPlace}
 use Rattle.storage_plans.specs.declared.places.AreaPlace.TheVariants.{Inside, Fresh}
@@ -43,7 +43,7 @@ place_records p count (Fresh page) = take_fresh_records p page count
 
 -- with this many blank elements,
 abbrev pub place_blanks : AreaPlace → ℕ
-place_blanks (Inside doubleword) = 3
+place_blanks (Inside doubleword) = 2
 place_blanks (Fresh page) = 5
 
 -- and these pages become assigned.
@@ -51,14 +51,25 @@ abbrev pub place_pages : ℕ → AreaPlace → Run
 place_pages count (Inside doubleword) = run_of 0 0
 place_pages count (Fresh page) = run_of page (pages_for count)
 
--- The registers that the request sets: the return code, the address in register 1 and in the one that is named, and the
--- length of a variable request in register 0.
+-- The registers that the request sets in addition to 15, which gets the return code, and 1, which gets the address: the
+-- one that is named gets the address too, and register 0 the length of a variable request.
+abbrev pub other_registers : Lengths → Option ℕ → ℕ → ℕ → List (ℕ × ℕ)
+other_registers lengths named address length = length_register lengths length ++ named_register named address
+
 abbrev pub reply_registers : Lengths → Option ℕ → ℕ → ℕ → List (ℕ × ℕ)
 reply_registers lengths named address length =
-    (15, 0) ∷ (1, address) ∷ length_register lengths length ++ named_register named address
+    (15, 0) ∷ (1, address) ∷ other_registers lengths named address length
 
--- The subpool is made first, if it is new; then the area is taken, and the registers are set.
+-- The area is taken, and these registers are set. One of free storage is taken together with register 1.
+abbrev pub granted_records : StorageState → Subpool → ℕ → AreaPlace → List (ℕ × ℕ) → List Record
+granted_records m p count (Inside doubleword) rows =
+    obtained_records m p doubleword count (15, 0) (1, place_address (Inside doubleword)) rows
+granted_records m p count (Fresh page) rows =
+    take_fresh_records p page count ++ register_records m ((15, 0) ∷ (1, place_address (Fresh page)) ∷ rows)
+
+-- The subpool is made first, if it is new.
 abbrev pub obtain_records : StorageState → FoundArea → Obtain → List Record
 obtain_records m found o =
-    own_records found.subpool found.is_new ++ place_records found.subpool found.count found.place
-    ++ register_records m (reply_registers o.lengths o.register (place_address found.place) (8 * found.count))
+    own_records found.subpool found.is_new
+    ++ granted_records m found.subpool found.count found.place
+    (other_registers o.lengths o.register (place_address found.place) (8 * found.count))

@@ -16,7 +16,8 @@ use Rattle.vsm_model.specs.State.{State}
 use Rattle.storage_changes.specs.declared.record.Record.{Record}
 use Rattle.storage_changes.specs.State.{StorageState}
 use Rattle.storage_changes.specs.Meaning.{model_of}
-use Rattle.storage_changes.specs.StorageActions.{emptied_pages, give_back_records, register_records, run_of}
+use Rattle.storage_changes.specs.StorageActions.{emptied_pages, give_back_records, give_back_blanks}
+use Rattle.storage_changes.specs.StorageActions.{register_records, run_of}
 use Rattle.storage_plans.specs.declared.plan.StoragePlan.{StoragePlan}
 use Rattle.storage_plans.specs.declared.release.GivenBack.{GivenBack}
 
@@ -55,6 +56,7 @@ pub record AreSides (free : ℕ → Bool) (area : Run) (sides : Gap) : Type 0 wh
 pub record IsGivenBack (m : StorageState) (found : GivenBack) (plan : StoragePlan) : Type 0 where
   pub emptied : plan.emptied ≡ None
   pub records : plan.records.now.items ≡ given_back_records m found.subpool found.area.start found.area.len
-  pub blanks : plan.blanks ≡ 5
+  pub blanks : plan.blanks
+      ≡ give_back_blanks (emptied_pages m.subpools found.subpool found.area.start found.area.len).len
   pub fresh : plan.fresh ≡ run_of 0 0
   pub reply : plan.reply ≡ Returned 0

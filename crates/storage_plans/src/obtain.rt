@@ -1,13 +1,14 @@
 //! Plans of STORAGE OBTAIN.
-ghost use Rattle.std.specs.Prelude.{◌≡◌, ◌+◌, ◌*◌, ◌<◌, ◌≤◌, ◌^◌, ◌++◌, true, None, IfOk, IfSome};
+ghost use Rattle.std.specs.Prelude.{◌≡◌, ◌+◌, ◌*◌, ◌<◌, ◌≤◌, ◌^◌, [], ◌∷◌, ◌++◌, map, true, None, IfOk, IfSome};
 ghost use Rattle.arrayvec.specs.ArrayVec.{array_vec_len};
 ghost use Rattle.vsm_model.specs.declared.replies.Reply.TheVariants.{Obtained};
 ghost use Rattle.vsm_model.specs.Regions.{pages_for, settings_valid};
 ghost use Rattle.vsm_model.specs.Services.{obtain};
-ghost use Rattle.storage_changes.specs.StorageActions.{own_records, register_records, run_of, take_fresh_records};
+ghost use Rattle.storage_changes.specs.StorageActions.{obtain_record, own_records, register_record, run_of};
+ghost use Rattle.storage_changes.specs.StorageActions.{take_fresh_records};
 ghost use Rattle.storage_swap.specs.Storage.{state_of, Stand};
-ghost use Rattle.storage_plans.specs.ObtainPlans.{reply_registers, obtain_records, place_address, place_blanks};
-ghost use Rattle.storage_plans.specs.ObtainPlans.{place_pages, place_records};
+ghost use Rattle.storage_plans.specs.ObtainPlans.{granted_records, obtain_records, other_registers, place_address};
+ghost use Rattle.storage_plans.specs.ObtainPlans.{place_blanks, place_pages, place_records};
 ghost use Rattle.storage_plans.specs.Places.{StandsSound};
 ghost use Rattle.storage_plans.specs.Plans.{IsPlanned};
 
@@ -19,7 +20,9 @@ use crate::plan::{
 };
 use descriptor_queue::Page;
 use run_set::Run;
-use storage_changes::{ExtentRecord, OwnRecord, PagesRecord, Record};
+use storage_changes::{
+    AreaRecord, ExtentRecord, ObtainRecord, OwnRecord, PagesRecord, Record, RegisterRecord,
+};
 use storage_swap::Parts;
 use vsm_model::geometry::{PAGE_BYTES, PAGE_DOUBLEWORDS};
 use vsm_model::{Cause, Lengths, Obtain, Reply, Settings, Subpool};
@@ -91,18 +94,68 @@ pub fn push_place(records: &mut PlanRecords, subpool: Subpool, place: AreaPlace,
     }
 }
 
-// Up to four more records: the return code 0 if register 15 has another word, the address in register 1 and in the one
-// that is named, and the length in register 0 if it was requested by bounds.
-fn push_reply(records: &mut PlanRecords, storage: &Parts, o: Obtain, address: u32, length: u32)
-    requires few { array_vec_len records.old ≤ 4 }
+// One more record: an area of free storage is taken, and register 1 of the task gets its address.
+fn push_obtain(records: &mut PlanRecords, subpool: Subpool, area: Run, task: u8)
+    requires few { array_vec_len records.old < 8 }
+    requires range { area.start < 2 ^ 29 }
+    ensures records { records.new.items
+        ≡ records.old.items ++ obtain_record task subpool area.start area.len (1, 8 * area.start) ∷ [] }
+    ensures few { array_vec_len records.new ≤ array_vec_len records.old + 1 }
+{
+    records.push(Record::Obtain(ObtainRecord {
+        area: AreaRecord {
+            subpool,
+            area,
+            free: false,
+        },
+        register: RegisterRecord {
+            task,
+            register: 1,
+            word: 8 * area.start,
+        },
+    }));
+}
+
+// Up to five more records: the area that was found is taken, register 15 gets the return code 0 if it has another word,
+// and register 1 the address.
+fn push_granted(records: &mut PlanRecords, storage: &Parts, found: FoundArea)
+    requires few { array_vec_len records.old ≤ 1 }
+    requires stands { Stand storage.now }
+    requires words { (place_address found.place < 2 ^ 32) × (0 < found.count) × (found.count < 2 ^ 29) }
+    ensures records { records.new.items
+        ≡ records.old.items
+        ++ granted_records (state_of storage.now) found.subpool found.count found.place [] }
+    ensures few { array_vec_len records.new ≤ array_vec_len records.old + 5 }
+{
+    let current = storage.tasks.current();
+    match found.place {
+        AreaPlace::Inside(doubleword) => {
+            let area = Run {
+                start: doubleword,
+                len: found.count,
+            };
+            push_return(records, storage, 0);
+            push_obtain(records, found.subpool, area, current);
+        }
+        AreaPlace::Fresh(page) => {
+            push_fresh(records, found.subpool, page, found.count);
+            push_return(records, storage, 0);
+            push_register(records, current, 1, PAGE_BYTES * page);
+        }
+    }
+}
+
+// Up to two more records: the length in register 0 if it was requested by bounds, and the address in the register that
+// is named.
+fn push_others(records: &mut PlanRecords, storage: &Parts, o: Obtain, address: u32, length: u32)
+    requires few { array_vec_len records.old ≤ 6 }
     requires stands { Stand storage.now }
     ensures records { records.new.items
         ≡ records.old.items
-        ++ register_records (state_of storage.now) (reply_registers o.lengths o.register address length) }
+        ++ map (register_record (state_of storage.now).tasks.current)
+        (other_registers o.lengths o.register address length) }
 {
     let current = storage.tasks.current();
-    push_return(records, storage, 0);
-    push_register(records, current, 1, address);
     if let Lengths::Variable { .. } = o.lengths {
         push_register(records, current, 0, length);
     }
@@ -129,7 +182,7 @@ pub fn needs_of(place: AreaPlace, count: u32) -> (u32, Run)
     ensures fresh { result.1 ≡ place_pages count place }
 {
     match place {
-        AreaPlace::Inside(_) => (3, NO_PAGES),
+        AreaPlace::Inside(_) => (2, NO_PAGES),
         AreaPlace::Fresh(page) => (5, pages_from(page, count)),
     }
 }
@@ -153,8 +206,8 @@ fn plan_area<'a>(
     let length = 8 * found.count;
     room.clear();
     push_own(room, found.subpool, found.is_new);
-    push_place(room, found.subpool, found.place, found.count);
-    push_reply(room, storage, o, address, length);
+    push_granted(room, storage, found);
+    push_others(room, storage, o, address, length);
     let (blanks, fresh) = needs_of(found.place, found.count);
     StoragePlan {
         emptied: None,

@@ -1,5 +1,6 @@
 //! Plans of STORAGE RELEASE.
-ghost use Rattle.std.specs.Prelude.{◌≡◌, ◌+◌, ◌-◌, ◌*◌, ◌/◌, ◌^◌, ◌<◌, ◌≤◌, ◌&&◌, Bool, true, false, not, nat_le, nat_lt};
+ghost use Rattle.std.specs.Prelude.{◌≡◌, ◌+◌, ◌-◌, ◌*◌, ◌/◌, ◌^◌, ◌<◌, ◌≤◌, ◌&&◌};
+ghost use Rattle.std.specs.Prelude.{Bool, true, false, not, nat_le, nat_lt};
 ghost use Rattle.std.specs.Prelude.{None, Some, IfNone, IfSome, IfOk, IfErr, OnOk, IsTrue, [], ◌++◌};
 ghost use Rattle.arrayvec.specs.ArrayVec.{array_vec_len};
 ghost use Rattle.run_set.specs.Runs.{inside};
@@ -44,8 +45,10 @@ pub(crate) struct GivenBack {
     pub(crate) sides: Gap,
 }
 
-/// The blank elements that a release needs at most.
-const RELEASE_BLANKS: u32 = 5;
+/// The blank elements that a release needs at most, if no page leaves the subpool, and if one does.
+const AREA_BLANKS: u32 = 2;
+
+const PAGES_BLANKS: u32 = 5;
 
 // The pages that an area in doublewords touches.
 fn pages_of(area: Run) -> Run
@@ -360,7 +363,11 @@ fn give_back<'a>(storage: &Parts, found: GivenBack, room: &'a mut PlanRecords) -
     StoragePlan {
         emptied: None,
         records: room,
-        blanks: RELEASE_BLANKS,
+        blanks: if pages.len == 0 {
+            AREA_BLANKS
+        } else {
+            PAGES_BLANKS
+        },
         fresh: NO_PAGES,
         reply: Reply::Returned(0),
     }

@@ -1,7 +1,7 @@
 -- A change is made record by record next to the storage.
 use Rattle.std.proofs.Common.{◌≡◌, ℕ, ◌+◌, ◌/◌, ◌<◌, ◌≤◌, max, if◌then◌else◌, List, [], ◌∷◌, ◌++◌, length, length-append, map, Some, None, Result, Ok, Err, IfOk, IfErr, IsSome, IsTrue, inl, inr, refl, sym, ap, ◌∙◌, arith, subst}
 use Rattle.std.proofs.lemmas.List.{append_assoc, append-nil}
-use Rattle.vsm_elements.specs.Store.{Store, SameElements, at, live_count, made}
+use Rattle.vsm_elements.specs.Store.{Store, SameElements, SetsAside, at, live_count, made}
 use Rattle.vsm_elements.specs.Chain.{Link, last_or, links, owned, ids, IsChain}
 use Rattle.vsm_elements.specs.Ownership.{Leaves}
 use Rattle.vsm_elements.specs.declared.chain.Chain.{Chain}
@@ -26,7 +26,8 @@ use Rattle.storage_swap.specs.Reserve.{Grown, MoreTables, Reserves}
 use Rattle.storage_swap.specs.Builder.{so_far, records_in, parked_in, meaning_with, builder_holds, IsBuilding, Keeps, Builds, Pushes, Finishes}
 use Rattle.storage_swap.proofs.Below.{storage-owns, storage-stays}
 use Rattle.storage_swap.proofs.FrameLemmas.{nowhere}
-use Rattle.storage_swap.proofs.ThreeLemmas.{no_ids}
+use Rattle.storage_swap.proofs.TwoLemmas.{no_ids}
+use Rattle.storage_swap.proofs.AsideLemmas.{made-same, aside-same}
 use Rattle.storage_swap.proofs.KeptLemmas.{over, holds-live, same-hold, same-stands, same-state, same-unassigned, kept-hold, kept-parked-hold, kept-stands, kept-state, kept-unassigned, kept-parked}
 
 -- What was made for two reservations, one after the other: m and n are how many elements each was for, and k is both.
@@ -55,6 +56,7 @@ keeps-follow s t u f g h a b = record {
   held = λ i. b.held i ∙ a.held i;
   kept = λ i n. b.kept i (omega (arith, n, a.held i)) ∙ a.kept i n;
   moves = moves-follow s.elements t.elements u.elements f g h a.moves b.moves;
+  aside = b.aside ∙ a.aside;
 }
 
 pub keeps-like : (s t : Parts) (f g F G : ℕ → ℕ) → Keeps s t f g → ((i : ℕ) → F i ≡ f i) → ((i : ℕ) → G i ≡ g i) → Keeps s t F G
@@ -64,6 +66,7 @@ keeps-like s t f g F G k a b = record {
   held = k.held;
   kept = k.kept;
   moves = moves-like s.elements t.elements f g F G k.moves a b;
+  aside = k.aside;
 }
 
 pub builds-follow : (s t u : Parts) (a b c : ChangeBuilder) → Builds s a t b → Builds t b u c → Builds s a u c
@@ -76,7 +79,7 @@ builds-follow s t u a b c first second = record {
 pub builds-none : (s : Parts) (a : ChangeBuilder) → IsBuilding s a → Builds s a s a
 builds-none s a h = record {
   building = h;
-  keeps = record { same = refl; shows = refl; held = λ i. refl; kept = λ i n. refl; moves = moves-none s.elements s.elements (builder_holds s a) (λ i. refl) };
+  keeps = record { same = refl; shows = refl; held = λ i. refl; kept = λ i n. refl; moves = moves-none s.elements s.elements (builder_holds s a) (λ i. refl); aside = refl };
 }
 
 pub pushes-none : (s : Parts) (a : ChangeBuilder) → Pushes s a [] s a
@@ -84,7 +87,7 @@ pushes-none s a = record { records = sym (append-nil (records_in s a)); parked =
 
 -- The records become others, or stay.
 module _ (s : Parts) (a : ChangeBuilder) (h : IsBuilding s a) (e : Store) (chain : Chain) (stand : IsChain e chain) (last : ℕ) (is-last : last ≡ last_or 0 (links e chain))
-    (m : Moves s.elements e (λ i. times i (owned s.elements a.records)) (λ i. times i (owned e chain))) where
+    (m : Moves s.elements e (λ i. times i (owned s.elements a.records)) (λ i. times i (owned e chain))) (aside : e.aside ≡ s.elements.aside) where
   abbrev had-records : ℕ → ℕ
   had-records i = times i (owned s.elements a.records)
 
@@ -124,7 +127,7 @@ module _ (s : Parts) (a : ChangeBuilder) (h : IsBuilding s a) (e : Store) (chain
       ready = record {
         stands = stands;
         records = stand;
-        blanks = record { first = refl; count = refl; held = tt; distinct = tt };
+        aside = omega arith;
         once = λ i. omega (arith, once-now i, same-holds i, same-parked-holds i);
         frameless = λ page n. h.ready.frameless page (sym (kept-unassigned s a.parked e h.ready.stands had-records has-records m once page) ∙ n);
         out = h.ready.out;
@@ -138,6 +141,7 @@ module _ (s : Parts) (a : ChangeBuilder) (h : IsBuilding s a) (e : Store) (chain
       held = same-holds;
       kept = storage-kept;
       moves = moves-by s.elements e had-records has-records (builder_holds s a) (builder_holds (over s e) with-records) m (λ i. omega arith) (λ i. omega (arith, same-parked-holds i));
+      aside = aside;
     };
   }
 
@@ -146,7 +150,7 @@ module _ (s : Parts) (a : ChangeBuilder) (h : IsBuilding s a) (e : Store) (chain
 
 -- What is parked becomes something else.
 module _ (s : Parts) (a : ChangeBuilder) (h : IsBuilding s a) (e : Store) (parked : TheParked) (stand : Stands e parked)
-    (m : Moves s.elements e (SubpoolStorage.hold s.elements a.parked) (SubpoolStorage.hold e parked)) where
+    (m : Moves s.elements e (SubpoolStorage.hold s.elements a.parked) (SubpoolStorage.hold e parked)) (aside : e.aside ≡ s.elements.aside) where
   abbrev had-parked : ℕ → ℕ
   had-parked = SubpoolStorage.hold s.elements a.parked
 
@@ -192,7 +196,7 @@ module _ (s : Parts) (a : ChangeBuilder) (h : IsBuilding s a) (e : Store) (parke
       ready = record {
         stands = record { storage = same-stands s e h.ready.stands.storage own; parked = stand; once = λ i. omega (arith, apart-now i, still-holds i) };
         records = chain-stays.0;
-        blanks = record { first = refl; count = refl; held = tt; distinct = tt };
+        aside = omega arith;
         once = λ i. omega (arith, apart-now i, still-holds i, same-ids i);
         frameless = λ page n. h.ready.frameless page (sym (same-unassigned s e h.ready.stands.storage own page) ∙ n);
         out = h.ready.out;
@@ -206,6 +210,7 @@ module _ (s : Parts) (a : ChangeBuilder) (h : IsBuilding s a) (e : Store) (parke
       held = still-holds;
       kept = own;
       moves = moves-by s.elements e had-parked has-parked (builder_holds s a) (builder_holds (over s e) with-parked) m (λ i. omega arith) (λ i. omega (arith, same-ids i));
+      aside = aside;
     };
   }
 
@@ -217,7 +222,7 @@ no-bytes : (a : ℕ) → byte_held [] a ≡ (if inside (a / 4096) no_pages then 
 no-bytes a = sym (cond-out (inside (a / 4096) no_pages) (Some 0) None (nowhere (a / 4096)))
 
 -- Elements are made.
-module _ (s : Parts) (a : ChangeBuilder) (h : IsBuilding s a) (e : Store) (same : SameElements s.elements e) where
+module _ (s : Parts) (a : ChangeBuilder) (h : IsBuilding s a) (e : Store) (same : SameElements s.elements e) (aside : e.aside ≡ s.elements.aside) where
   pub grown-chain : IsChain e a.records × (links e a.records ≡ links s.elements a.records)
   grown-chain = chain-kept s.elements e a.records h.ready.records (λ i n. same i)
 
@@ -229,13 +234,13 @@ module _ (s : Parts) (a : ChangeBuilder) (h : IsBuilding s a) (e : Store) (same 
       (moves-none s.elements e (λ i. times i (owned s.elements a.records)) same) (λ i. refl) grown-ids
 
   pub grown-builds : Builds s a (over s e) a
-  grown-builds = records-build s a h e a.records grown-chain.0 a.last (h.last ∙ sym (ap (last_or 0) grown-chain.1)) still
+  grown-builds = records-build s a h e a.records grown-chain.0 a.last (h.last ∙ sym (ap (last_or 0) grown-chain.1)) still aside
 
   pub grown-records : records_in (over s e) a ≡ records_in s a
   grown-records = ap (map record_at) grown-chain.1
 
   pub grown-parked : parked_in (over s e) a ≡ parked_in s a
-  grown-parked = records-parked s a h e a.records grown-chain.0 a.last (h.last ∙ sym (ap (last_or 0) grown-chain.1)) still
+  grown-parked = records-parked s a h e a.records grown-chain.0 a.last (h.last ∙ sym (ap (last_or 0) grown-chain.1)) still aside
 
   pub grown-pushes : s.elements.spare ≤ e.spare → live_count e ≡ live_count s.elements → MakesElements s.elements e 0 → Pushes s a [] (over s e) a
   grown-pushes more live few = record { records = grown-records ∙ sym (append-nil (records_in s a)); parked = grown-parked; spare = omega (arith, more); live = omega (arith, live); made = few }
@@ -247,67 +252,49 @@ module _ (s : Parts) (a : ChangeBuilder) (h : IsBuilding s a) (e : Store) (same 
     push-builds =
         let first : Builds s a (over s e) a = grown-builds in
         builds-follow s (over s e) (over s end) a a (record { records = chain; last = last; parked = a.parked }) first
-        (records-build (over s e) a first.building end chain stand last is-last (moves-of e end (owned e a.records) (owned end chain) f))
+        (records-build (over s e) a first.building end chain stand last is-last (moves-of e end (owned e a.records) (owned end chain) f) (aside-same e end f.as_many))
 
     pub push-pushes : s.elements.spare ≤ e.spare → live_count e ≡ live_count s.elements → MakesElements s.elements e 0 → end.spare + 1 ≡ e.spare → Pushes s a (added ∷ []) (over s end) (record { records = chain; last = last; parked = a.parked })
     push-pushes more live few less =
         let first : Builds s a (over s e) a = grown-builds in
         record {
           records = put ∙ ap (λ (z : List Record). z ++ added ∷ []) grown-records;
-          parked = records-parked (over s e) a first.building end chain stand last is-last (moves-of e end (owned e a.records) (owned end chain) f) ∙ grown-parked;
+          parked = records-parked (over s e) a first.building end chain stand last is-last (moves-of e end (owned e a.records) (owned end chain) f) (aside-same e end f.as_many) ∙ grown-parked;
           spare = omega (arith, more, less);
-          live = omega (arith, live, less, f.as_many);
-          made = omega (arith, few, f.as_many);
+          live = omega (arith, live, less, made-same e end f.as_many);
+          made = omega (arith, few, made-same e end f.as_many);
         }
 
   -- what is parked becomes something else
-  module _ (end : Store) (parked : TheParked) (stand : Stands end parked) (m : Moves e end (SubpoolStorage.hold e a.parked) (SubpoolStorage.hold end parked)) where
+  module _ (end : Store) (parked : TheParked) (stand : Stands end parked) (m : Moves e end (SubpoolStorage.hold e a.parked) (SubpoolStorage.hold end parked)) (kept : end.aside ≡ e.aside) where
     pub park-builds : Builds s a (over s end) (record { records = a.records; last = a.last; parked = parked })
     park-builds =
         let first : Builds s a (over s e) a = grown-builds in
         builds-follow s (over s e) (over s end) a a (record { records = a.records; last = a.last; parked = parked }) first
-        (parked-build (over s e) a first.building end parked stand m)
+        (parked-build (over s e) a first.building end parked stand m kept)
 
     pub park-records : records_in (over s end) (record { records = a.records; last = a.last; parked = parked }) ≡ records_in s a
-    park-records = parked-records (over s e) a grown-builds.building end parked stand m ∙ grown-records
+    park-records = parked-records (over s e) a grown-builds.building end parked stand m kept ∙ grown-records
 
-  -- blank elements are taken at last
-  module _ (end : Store) (blanks : Chain) (stand : IsChain end blanks) (f : Leaves e end [] (owned end blanks)) where
-    m : Moves e end no_ids (λ i. times i (owned end blanks))
-    m = moves-of e end [] (owned end blanks) f
-
+  -- blank elements are set aside at last
+  module _ (end : Store) (blanks : ℕ) (set : SetsAside e end blanks) where
     began : Builds s a (over s e) a
     began = grown-builds
 
     ready : Ready (over s e) (so_far a)
     ready = began.building.ready
 
-    beside : (i : ℕ) → 0 < times i (owned e a.records) + hold_with (over s e) a.parked i → IsSome (at e i)
-    beside i n = elim (none-or-some (times i (owned e a.records))) [
-      | inr z ↦ chain-live e a.records ready.records i z
-      | inl z ↦ elim (none-or-some (hold (over s e) i)) [
-        | inr y ↦ holds-live (over s e) ready.stands.storage i y
-        | inl y ↦ (storage-owns e a.parked ready.stands.parked).1 i (omega (arith, n, z, y))
-      ]
-    ]
-
-    all-kept : (i : ℕ) → 0 < times i (owned e a.records) + hold_with (over s e) a.parked i → at end i ≡ at e i
-    all-kept = rest-same e end no_ids (λ i. times i (owned end blanks)) m (λ i. times i (owned e a.records) + hold_with (over s e) a.parked i) (λ i. omega (arith, ready.once i)) beside
-
-    all-once : (i : ℕ) → times i (owned end blanks) + (times i (owned e a.records) + hold_with (over s e) a.parked i) ≤ 1
-    all-once = once-after e end no_ids (λ i. times i (owned end blanks)) m (λ i. times i (owned e a.records) + hold_with (over s e) a.parked i) (λ i. omega (arith, ready.once i)) beside (chain-once end blanks stand)
-
     records-stay : IsChain end a.records × (links end a.records ≡ links e a.records)
-    records-stay = chain-kept e end a.records ready.records (λ i n. all-kept i (omega (arith, n)))
+    records-stay = chain-kept e end a.records ready.records (λ i n. set.same i)
 
     end-ids : (i : ℕ) → times i (owned end a.records) ≡ times i (owned e a.records)
     end-ids i = ap (λ (ns : List Link). times i (ids ns)) records-stay.1
 
     parked-stays : Stands end a.parked × (subpools_of end a.parked ≡ subpools_of e a.parked) × ((i : ℕ) → SubpoolStorage.hold end a.parked i ≡ SubpoolStorage.hold e a.parked i)
-    parked-stays = storage-stays e end a.parked ready.stands.parked (λ i n. all-kept i (omega (arith, n)))
+    parked-stays = storage-stays e end a.parked ready.stands.parked (λ i n. set.same i)
 
     own-kept : (i : ℕ) → 0 < hold (over s e) i → at end i ≡ at e i
-    own-kept i n = all-kept i (omega (arith, n))
+    own-kept i n = set.same i
 
     end-hold : (i : ℕ) → hold (over s end) i ≡ hold (over s e) i
     end-hold = same-hold (over s e) end ready.stands.storage own-kept
@@ -315,27 +302,27 @@ module _ (s : Parts) (a : ChangeBuilder) (h : IsBuilding s a) (e : Store) (same 
     abbrev finished : TheChange
     finished = record { records = a.records; blanks = blanks; frames = []; parked = a.parked }
 
-    pub finishes : Finishes s a blanks.count (over s end) finished
+    pub finishes : Finishes s a blanks (over s end) finished
     finishes = record {
       ready = record {
-        stands = record { storage = same-stands (over s e) end ready.stands.storage own-kept; parked = parked-stays.0; once = λ i. omega (arith, all-once i, end-hold i, parked-stays.2 i) };
+        stands = record { storage = same-stands (over s e) end ready.stands.storage own-kept; parked = parked-stays.0; once = λ i. omega (arith, ready.stands.once i, end-hold i, parked-stays.2 i) };
         records = records-stay.0;
-        blanks = stand;
-        once = λ i. omega (arith, all-once i, end-hold i, parked-stays.2 i, end-ids i);
+        aside = omega (arith, set.aside);
+        once = λ i. omega (arith, ready.once i, end-hold i, parked-stays.2 i, end-ids i);
         frameless = λ page n. ready.frameless page (sym (same-unassigned (over s e) end ready.stands.storage own-kept page) ∙ n);
         out = ready.out;
         places = ready.places;
       };
-      keeps = keeps-follow s (over s e) (over s end) (builder_holds s a) (builder_holds (over s e) a) (change_holds end finished) began.keeps (record {
-        same = refl;
-        shows = same-state (over s e) end ready.stands.storage own-kept;
-        held = end-hold;
-        kept = own-kept;
-        moves = moves-by e end no_ids (λ i. times i (owned end blanks)) (builder_holds (over s e) a) (change_holds end finished) m (λ i. omega arith) (λ i. omega (arith, end-ids i, parked-stays.2 i));
-      });
+      same = refl;
+      shows = same-state (over s e) end ready.stands.storage own-kept ∙ began.keeps.shows;
+      held = λ i. end-hold i ∙ began.keeps.held i;
+      moves = moves-follow s.elements e end (builder_holds s a) (builder_holds (over s e) a) (change_holds end finished) began.keeps.moves
+          (moves-like e end (builder_holds (over s e) a) (builder_holds (over s e) a) (builder_holds (over s e) a) (change_holds end finished) (moves-none e end (builder_holds (over s e) a) set.same)
+          (λ i. refl) (λ i. omega (arith, end-ids i, parked-stays.2 i)));
+      aside = omega (arith, set.aside, aside);
       meaning = λ i. record {
         records = (ap (map record_at) records-stay.1 ∙ grown-records) i;
-        blanks = blanks.count;
+        blanks = blanks;
         frames = λ x. no-bytes x i;
         parked = (parked-stays.1 ∙ grown-parked) i;
       };
@@ -343,7 +330,7 @@ module _ (s : Parts) (a : ChangeBuilder) (h : IsBuilding s a) (e : Store) (same 
     }
 
 -- All of it is given back.
-module _ (s : Parts) (b : ChangeBuilder) (h : IsBuilding s b) (e : Store) (m : Moves s.elements e (builder_holds s b) no_ids) where
+module _ (s : Parts) (b : ChangeBuilder) (h : IsBuilding s b) (e : Store) (m : Moves s.elements e (builder_holds s b) no_ids) (aside : e.aside ≡ s.elements.aside) where
   gone-own : (i : ℕ) → 0 < hold s i → at e i ≡ at s.elements i
   gone-own = rest-same s.elements e (builder_holds s b) no_ids m (hold s) (λ i. omega (arith, h.ready.once i)) (holds-live s h.ready.stands.storage)
 
@@ -354,6 +341,7 @@ module _ (s : Parts) (b : ChangeBuilder) (h : IsBuilding s b) (e : Store) (m : M
     held = same-hold s e h.ready.stands.storage gone-own;
     kept = gone-own;
     moves = m;
+    aside = aside;
   }
 
 -- It began with nothing.
@@ -362,28 +350,27 @@ module _ (p t u : Parts) (a b : ChangeBuilder) (none : (i : ℕ) → builder_hol
   all-since g k =
       keeps-like p u (builder_holds p a) g no_ids g (keeps-follow p t u (builder_holds p a) (builder_holds t b) g begun.keeps k) (λ i. sym (none i)) (λ i. refl)
 
-  module _ (g : ℕ → ℕ) (k : Keeps p u no_ids g) where
-    same-region : u.region ≡ p.region
-    same-region = ap (λ (z : Parts). z.region) k.same
-
+  module _ (same : u.region ≡ p.region) where
     same-tables : MoreTables p.region u.region
     same-tables = record {
-      tables = λ page n. (let P : Tables → Type 0 = λ z. IsTrue (has_table z page) in subst P (sym same-region) n);
-      segments = λ page. ap (λ (z : Tables). has_segment z page) same-region;
+      tables = λ page n. (let P : Tables → Type 0 = λ z. IsTrue (has_table z page) in subst P (sym same) n);
+      segments = λ page. ap (λ (z : Tables). has_segment z page) same;
     }
 
   -- the change that was made
   pub begun-reserves : (blanks : ℕ) (d : Change) (c : TheChange) → Finishes t b blanks u c → meaning_with t b blanks ≡ d → Reserves p d c u
   begun-reserves blanks d c f is =
-      let k : Keeps p u no_ids (change_holds u.elements c) = all-since (change_holds u.elements c) f.keeps in
+      let same : u.region ≡ p.region = ap (λ (z : Parts). z.region) f.same ∙ ap (λ (z : Parts). z.region) begun.keeps.same in
       record {
         ready = f.ready;
-        shows = k.shows;
+        shows = f.shows ∙ begun.keeps.shows;
         meaning = f.meaning ∙ is;
-        held = k.held;
-        moves = k.moves;
-        tables = same-tables (change_holds u.elements c) k;
-        out = omega (arith, ap (λ (z : Tables). z.out) (same-region (change_holds u.elements c) k), ap length f.no_frame);
+        held = λ i. f.held i ∙ begun.keeps.held i;
+        moves = moves-like p.elements u.elements (builder_holds p a) (change_holds u.elements c) no_ids (change_holds u.elements c)
+            (moves-follow p.elements t.elements u.elements (builder_holds p a) (builder_holds t b) (change_holds u.elements c) begun.keeps.moves f.moves) (λ i. sym (none i)) (λ i. refl);
+        aside = omega (arith, f.aside, begun.keeps.aside, ap (λ (z : Change). z.blanks) f.meaning);
+        tables = same-tables same;
+        out = omega (arith, ap (λ (z : Tables). z.out) same, ap length f.no_frame);
       }
 
   pub made-reserves : {E : Type 0} (blanks : ℕ) (d : Change) (r : Result TheChange E) → IfOk r (λ c. Finishes t b blanks u c) → meaning_with t b blanks ≡ d → IfOk r (λ c. Reserves p d c u)
@@ -394,12 +381,13 @@ module _ (p t u : Parts) (a b : ChangeBuilder) (none : (i : ℕ) → builder_hol
   pub begun-grown : Keeps t u (builder_holds t b) no_ids → Grown p u
   begun-grown back =
       let k : Keeps p u no_ids no_ids = all-since no_ids back in
-      let r : u.region ≡ p.region = same-region no_ids k in
+      let r : u.region ≡ p.region = ap (λ (z : Parts). z.region) k.same in
       record {
         same = k.same ∙ ap (λ (z : Tables). record p { elements = u.elements; region = z }) (sym r);
         elements = λ i. k.moves.others i refl refl;
+        aside = k.aside;
         pages = λ page. ap (λ (z : Tables). bytes_at z page) r;
-        tables = same-tables no_ids k;
+        tables = same-tables r;
         out = ap (λ (z : Tables). z.out) r;
       }
 

@@ -1,7 +1,7 @@
 -- A record of what one subpool has, of a cell pool, of its extent or of a cell, changed sides with the storage.
 use Rattle.std.proofs.Common.{◌≡◌, ℕ, ◌+◌, ◌-◌, ◌*◌, ◌/◌, ◌^◌, ◌≤◌, ◌⊎◌, inl, inr, Bool, true, false, Some, None, Option, IfSome, if◌then◌else◌, List, refl, ap, sym, subst, ◌∙◌, arith}
 use Rattle.std.specs.Prelude.{◌<◌, nat_lt, slice_get, IsSome}
-use Rattle.vsm_elements.specs.Store.{Store, made}
+use Rattle.vsm_elements.specs.Store.{Store, made_and_aside}
 use Rattle.vsm_elements.specs.Owners.{Moves}
 use Rattle.raw_region.specs.Frames.{PageFrame}
 use Rattle.raw_region.specs.Pages.{byte_at}
@@ -36,7 +36,7 @@ module _ (p : Parts) (parked : Head) (k : StandsWith p parked) (e : Store) (q ot
     (new : SubpoolStorage.Stands e q) (new-parked : SubpoolStorage.Stands e others) (is : subpools_of e q ≡ now) (parked-is : subpools_of e others ≡ parked-now)
     (moved : Moves p.elements e (λ i. SubpoolStorage.hold p.elements p.subpools i + SubpoolStorage.hold p.elements parked i) (λ i. SubpoolStorage.hold e q i + SubpoolStorage.hold e others i))
     (apart : (i : ℕ) → SubpoolStorage.hold e q i + SubpoolStorage.hold e others i ≤ 1)
-    (spares : e.spare ≡ p.elements.spare) (as-many : made e ≡ made p.elements) where
+    (spares : e.spare ≡ p.elements.spare) (as-many : made_and_aside e ≡ made_and_aside p.elements) where
   abbrev t : Parts
   t = with-exchanged p parked k e q others moved new new-parked apart
 
@@ -67,7 +67,7 @@ module _ (p : Parts) (parked : Head) (k : StandsWith p parked) (e : Store) (q ot
     (new : SubpoolStorage.Stands e q) (new-parked : SubpoolStorage.Stands e others)
     (moved : Moves p.elements e (λ i. SubpoolStorage.hold p.elements p.subpools i + SubpoolStorage.hold p.elements parked i) (λ i. SubpoolStorage.hold e q i + SubpoolStorage.hold e others i))
     (apart : (i : ℕ) → SubpoolStorage.hold e q i + SubpoolStorage.hold e others i ≤ 1)
-    (spares : e.spare ≡ p.elements.spare) (as-many : made e ≡ made p.elements) where
+    (spares : e.spare ≡ p.elements.spare) (as-many : made_and_aside e ≡ made_and_aside p.elements) where
   abbrev had : Subpools
   had = subpools_of p.elements p.subpools
 

@@ -2,7 +2,7 @@
 use Rattle.std.proofs.Common.{◌≡◌, ℕ, zero, suc, ◌+◌, ◌-◌, ◌<◌, ◌≤◌, if◌then◌else◌, inl, inr, List, [], ◌∷◌, ◌++◌, map, drop, length, Option, Some, None, IsSome, refl, sym, ap, ◌∙◌, arith, subst}
 use Rattle.std.specs.Prelude.{slice_get, unwrap_or, ◌/◌}
 use Rattle.vsm_elements.specs.Store.{Store, at}
-use Rattle.vsm_elements.specs.Chain.{Link, links, follow, owned, ids, IsChain, IsLink}
+use Rattle.vsm_elements.specs.Chain.{Link, element, links, follow, owned, ids, IsChain, IsLink}
 use Rattle.vsm_elements.specs.Ownership.{Leaves, Apart}
 use Rattle.vsm_elements.specs.declared.chain.Chain.{Chain}
 use Rattle.vsm_elements.specs.Owners.{times, Moves}
@@ -25,6 +25,11 @@ use Rattle.storage_swap.proofs.KeptLemmas.{over, kept-hold-with, kept-stands, ke
 pub first-link : (ns : List Link) (n : Link) → slice_get ns 0 ≡ Some n → ns ≡ n ∷ drop 1 ns
 first-link [] n e = cc
 first-link (o ∷ ns) n e = ap (λ (z : Option Link). unwrap_or z o ∷ ns) e
+
+-- the words of the first link are those of its element
+head-words : (s : Store) (first count : ℕ) (n : Link) → slice_get (follow s first count) 0 ≡ Some n → (element s first).words ≡ n.words
+head-words s first zero n e = cc
+head-words s first (suc k) n e = ap (λ (o : Option Link). (unwrap_or o n).words) e
 
 heads-are : (r s : Record) (rs ss : List Record) → r ∷ rs ≡ s ∷ ss → (r ≡ s) × (rs ≡ ss)
 heads-are r s rs ss e = (ap (λ (l : List Record). unwrap_or (slice_get l 0) r) e, ap (drop 1) e)
@@ -76,6 +81,10 @@ module _ (p m : Parts) (given given' : List PageFrame) (q q' : SubpoolStorage) (
 
   pub both-apart : Apart (owned m.elements c) (owned m.elements d)
   both-apart = apart-from (owned m.elements c) (owned m.elements d) (λ i. omega (arith, once-mid i, first-ids i, done-ids i))
+
+  -- its element still has the words that were read
+  pub first-words : (n : Link) → slice_get (links p.elements c) 0 ≡ Some n → (element m.elements c.first).words ≡ n.words
+  first-words n got = head-words m.elements c.first c.count n (ap (λ (ns : List Link). slice_get ns 0) first-kept.1 ∙ got)
 
   -- it gets the turned words, and goes before those that are done
   module _ (e : Store) (c' d' : Chain) (n n' : Link) (got : slice_get (links p.elements c) 0 ≡ Some n) (of : record_at n ≡ r)

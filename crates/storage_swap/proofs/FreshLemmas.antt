@@ -69,7 +69,7 @@ module _ (settings : Settings) (none first mid second end : Store) (region : Tab
     (stand-subpools : Stands second subpools) (subpools-are : subpools_of second subpools ≡ with_own no_subpools (record { number = 0; owner = 1 }) true)
     (subpools-move : Moves mid second no_ids (SubpoolStorage.hold second subpools))
     (stand-pages : IsPages end unassigned) (pages-are : (page : ℕ) → is_unassigned end unassigned page ≡ in_a_region settings page) (pages-move : Leaves second end [] (Pages.owned end unassigned))
-    (fresh-region : IsFreshRegion region (settings.low_k / 4) (settings.high_k / 4)) (few : made end ≤ 128) where
+    (fresh-region : IsFreshRegion region (settings.low_k / 4) (settings.high_k / 4)) (few : made end ≤ 128) (unset : end.aside ≡ 0) where
   abbrev p : Parts
   p = record { elements = end; region = region; unassigned = unassigned; subpools = subpools; tasks = tree }
 
@@ -171,6 +171,7 @@ module _ (settings : Settings) (none first mid second end : Store) (region : Tab
     once = λ i. omega (arith, held i, all-once i);
     frameless = λ page h. fresh-region.empty page;
     all = λ i h. omega (arith, all-after first end no_ids (hold p) all-moves no_ids (λ j. omega arith) (λ j z. absurd (omega (arith, z))) (λ j z. absurd (no-live j z)) i h);
+    aside = unset;
     out = fresh-region.counts.out_is;
     segments = λ page h. fresh-region.segments page (in-region settings page h);
     small = record { elements = few; frames = fresh-region.counts.made_is };

@@ -3,6 +3,7 @@ pub mod CallLemmas
 pub mod SubpoolLemmas
 pub mod FourWords
 pub mod TaskLemmas
+mod ObtainLemmas
 pub mod CellLemmas
 pub mod PageLemmas
 pub mod ByteLemmas
@@ -11,10 +12,12 @@ pub mod KeptLemmas
 mod FirstLemmas
 mod LoopLemmas
 pub mod FrameLemmas
+pub mod AsideLemmas
 pub mod SwapLemmas
 mod DiscardLemmas
 mod AppendLemmas
-mod ThreeLemmas
+mod TwoLemmas
+pub mod GrowthLemmas
 pub mod ReserveLemmas
 mod BuildingLemmas
 mod SettingsLemmas

@@ -1,7 +1,7 @@
 -- One turn of the loop: the first record changes sides and moves to those that are done.
 use Rattle.std.proofs.Common.{◌≡◌, ℕ, ◌+◌, ◌<◌, ◌≤◌, List, [], ◌∷◌, length, map, refl, sym, ap, ◌∙◌, arith, subst}
 use Rattle.std.proofs.lemmas.List.{length-map}
-use Rattle.vsm_elements.specs.Store.{made}
+use Rattle.vsm_elements.specs.Store.{made_and_aside}
 use Rattle.vsm_elements.specs.Chain.{Link, links, ids, follow, IsChainOf}
 use Rattle.vsm_elements.specs.declared.chain.Chain.{Chain}
 use Rattle.raw_region.specs.Frames.{PageFrame}
@@ -27,7 +27,7 @@ pub record Going (p : Parts) (given : List PageFrame) (q : SubpoolStorage) (c : 
   pub leads : (kept : ℕ) → kept ≤ p.elements.spare → FitInTurn (walk_of p given q kept) (records_of p.elements c) → walk (walk_of s given' q' kept) (records_of s.elements rest) ≡ walk (walk_of p given q kept) (records_of p.elements c)
   pub back : (kept : ℕ) → kept ≤ p.elements.spare → FitInTurn (walk_of p given q kept) (records_of p.elements c)
       → back_onto (walk_of s given' q' kept) (records_of s.elements done) (records_of s.elements rest) ≡ back_onto (walk_of p given q kept) [] (records_of p.elements c)
-  pub as_many : made s.elements ≡ made p.elements
+  pub as_many : made_and_aside s.elements ≡ made_and_aside p.elements
   pub out : s.region.out + length given ≡ p.region.out + length given'
   pub tables : SameTables p.region s.region
   pub frames : SameFrames p.region s.region

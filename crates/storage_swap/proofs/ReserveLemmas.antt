@@ -1,6 +1,6 @@
 -- A change is made of what is spare.
 use Rattle.std.proofs.Common.{◌≡◌, ℕ, zero, suc, ◌+◌, ◌/◌, ◌%◌, ◌<◌, ◌≤◌, Bool, true, false, if◌then◌else◌, List, [], ◌++◌, length, map, get_or, replicate, Option, Some, None, IsSome, IfSome, IsTrue, ◌==◌, refl, sym, ap, ◌∙◌, arith, subst}
-use Rattle.vsm_elements.specs.Store.{Store, at}
+use Rattle.vsm_elements.specs.Store.{Store, at, SetsAside}
 use Rattle.vsm_elements.specs.Chain.{Link, links, owned, ids, IsChain}
 use Rattle.vsm_elements.specs.Ownership.{Leaves}
 use Rattle.vsm_elements.specs.declared.chain.Chain.{Chain}
@@ -36,7 +36,8 @@ use Rattle.storage_swap.specs.Reserve.{Grown, Reserves, elements_for, emptying, 
 use Rattle.storage_swap.proofs.AppendLemmas.{unassigned-length}
 use Rattle.storage_swap.proofs.FrameLemmas.{none-some}
 use Rattle.storage_swap.proofs.Below.{storage-owns, storage-stays}
-use Rattle.storage_swap.proofs.ThreeLemmas.{no_ids, three}
+use Rattle.storage_swap.proofs.TwoLemmas.{no_ids, two}
+use Rattle.storage_swap.proofs.AsideLemmas.{aside-same}
 use Rattle.storage_swap.proofs.KeptLemmas.{over, holds-live, same-hold, same-stands, same-state, region-stands}
 
 get_or-zeros : (n k : ℕ) → get_or {A = ℕ} (replicate n 0) k 0 ≡ 0
@@ -84,7 +85,7 @@ module _ (p : Parts) (e : Store) (region : Tables) (k : Stand p) (one : (i : ℕ
 module _ (p : Parts) (m : Change) (fresh : Run) (k : Stand p) (one : (i : ℕ) → hold p i ≤ 1) (frameless : IsFrameless p) (tables : HaveTables p.region fresh.start fresh.len)
     (bring : (a : ℕ) → m.frames a ≡ (if inside (a / 4096) fresh then Some 0 else None))
     (end : Store) (region : Tables) (c : TheChange) (moved : Moves p.elements end no_ids (change_holds end c)) (apart : (i : ℕ) → change_holds end c i + hold p i ≤ 1)
-    (records : IsChain end c.records) (is : records_of end c.records ≡ m.records) (blanks : IsChain end c.blanks) (count : c.blanks.count ≡ m.blanks)
+    (records : IsChain end c.records) (is : records_of end c.records ≡ m.records) (aside : end.aside ≡ p.elements.aside + c.blanks) (count : c.blanks ≡ m.blanks)
     (parked-stands : Stands end c.parked) (parked-is : subpools_of end c.parked ≡ m.parked)
     (held : (page : ℕ) → held_at c.frames page ≡ (if inside page fresh then Some zeros else None)) (pages : SamePages p.region region) (same : SameTables p.region region)
     (long : length c.frames ≡ fresh.len) (out : region.out ≡ p.region.out + fresh.len) where
@@ -109,7 +110,7 @@ module _ (p : Parts) (m : Change) (fresh : Run) (k : Stand p) (one : (i : ℕ) �
         once = λ i. omega (arith, hold-end i, apart i);
       };
       records = records;
-      blanks = blanks;
+      aside = omega (arith, aside);
       once = λ i. omega (arith, hold-end i, apart i);
       frameless = moved-frameless p end region k one (change_holds end c) moved pages frameless;
       out = omega (arith, out, long);
@@ -119,6 +120,7 @@ module _ (p : Parts) (m : Change) (fresh : Run) (k : Stand p) (one : (i : ℕ) �
     meaning = λ i. record { records = is i; blanks = count i; frames = λ a. (byte-fresh c.frames fresh held a ∙ sym (bring a)) i; parked = parked-is i };
     held = hold-end;
     moves = moved;
+    aside = aside;
     tables = record { tables = λ page n. (let P : Bool → Type 0 = λ z. IsTrue z in subst P (sym (same.tables page)) n); segments = same.segments };
     out = omega (arith, out, long);
   }
@@ -127,65 +129,69 @@ module _ (p : Parts) (m : Change) (fresh : Run) (k : Stand p) (one : (i : ℕ) �
     (bring : (a : ℕ) → m.frames a ≡ (if inside (a / 4096) fresh then Some 0 else None))
     (region : Tables) (frames : List PageFrame) (held : (page : ℕ) → held_at frames page ≡ (if inside page fresh then Some zeros else None)) (pages : SamePages p.region region) (same : SameTables p.region region)
     (long : length frames ≡ fresh.len) (out : region.out ≡ p.region.out + fresh.len) where
-  abbrev with-chains : Chain → Chain → TheParked → TheChange
-  with-chains chain spares parked = record { records = chain; blanks = spares; frames = frames; parked = parked }
+  abbrev with-chain : Chain → ℕ → TheParked → TheChange
+  with-chain chain blanks parked = record { records = chain; blanks = blanks; frames = frames; parked = parked }
 
-  -- the records first, then the blank elements, and what is parked at last,
+  -- the records first, then the blank elements are set aside, and what is parked comes at last,
   module _ (e : Store) (chain : Chain) (stand : IsChain e chain) (is : records_of e chain ≡ m.records) (f : Leaves p.elements e [] (owned e chain))
-      (e' : Store) (spares : Chain) (stand' : IsChain e' spares) (count : spares.count ≡ m.blanks) (g : Leaves e e' [] (owned e' spares))
-      (end : Store) (parked : TheParked) (parked-stands : Stands end parked) (parked-is : subpools_of end parked ≡ m.parked) (h : Moves e' end no_ids (SubpoolStorage.hold end parked)) where
-    abbrev three-last : ((i : ℕ) → 0 < times i (owned e chain) + hold p i → at e' i ≡ at e i) × ((i : ℕ) → 0 < times i (owned e' spares) + (times i (owned e chain) + hold p i) → at end i ≡ at e' i)
-        × ((i : ℕ) → SubpoolStorage.hold end parked i + (times i (owned e' spares) + (times i (owned e chain) + hold p i)) ≤ 1)
-        × Moves p.elements end no_ids (λ i. times i (owned e chain) + times i (owned e' spares) + SubpoolStorage.hold end parked i)
-    three-last = three p k one e e' end (λ i. times i (owned e chain)) (λ i. times i (owned e' spares)) (SubpoolStorage.hold end parked)
-        (moves-of p.elements e [] (owned e chain) f) (chain-once e chain stand) (chain-live e chain stand)
-        (moves-of e e' [] (owned e' spares) g) (chain-once e' spares stand') (chain-live e' spares stand')
+      (e' : Store) (blanks : ℕ) (count : blanks ≡ m.blanks) (set : SetsAside e e' blanks)
+      (end : Store) (parked : TheParked) (parked-stands : Stands end parked) (parked-is : subpools_of end parked ≡ m.parked) (h : Moves e' end no_ids (SubpoolStorage.hold end parked)) (kept : end.aside ≡ e'.aside) where
+    chain-then : IsChain e' chain × (links e' chain ≡ links e chain)
+    chain-then = chain-kept e e' chain stand (λ i n. set.same i)
+
+    ids-then : (i : ℕ) → times i (owned e' chain) ≡ times i (owned e chain)
+    ids-then i = ap (λ (ns : List Link). times i (ids ns)) chain-then.1
+
+    first : Moves p.elements e' no_ids (λ i. times i (owned e' chain))
+    first = moves-follow p.elements e e' no_ids (λ i. times i (owned e chain)) (λ i. times i (owned e' chain)) (moves-of p.elements e [] (owned e chain) f)
+        (moves-like e e' (λ i. times i (owned e chain)) (λ i. times i (owned e chain)) (λ i. times i (owned e chain)) (λ i. times i (owned e' chain)) (moves-none e e' (λ i. times i (owned e chain)) set.same) (λ i. refl) ids-then)
+
+    abbrev two-last : ((i : ℕ) → 0 < times i (owned e' chain) + hold p i → at end i ≡ at e' i)
+        × ((i : ℕ) → SubpoolStorage.hold end parked i + (times i (owned e' chain) + hold p i) ≤ 1)
+        × Moves p.elements end no_ids (λ i. times i (owned e' chain) + SubpoolStorage.hold end parked i)
+    two-last = two p k one e' end (λ i. times i (owned e' chain)) (SubpoolStorage.hold end parked)
+        first (chain-once e' chain chain-then.0) (chain-live e' chain chain-then.0)
         h (storage-owns end parked parked-stands).0
 
-    chain-stays : IsChain end chain × (links end chain ≡ links e chain)
-    chain-stays = chain-kept e end chain stand (λ i n. three-last.1 i (omega (arith, n)) ∙ three-last.0 i (omega (arith, n)))
+    chain-stays : IsChain end chain × (links end chain ≡ links e' chain)
+    chain-stays = chain-kept e' end chain chain-then.0 (λ i n. two-last.0 i (omega (arith, n)))
 
-    spares-stay : IsChain end spares × (links end spares ≡ links e' spares)
-    spares-stay = chain-kept e' end spares stand' (λ i n. three-last.1 i (omega (arith, n)))
-
-    chain-ids-stay : (i : ℕ) → times i (owned end chain) ≡ times i (owned e chain)
+    chain-ids-stay : (i : ℕ) → times i (owned end chain) ≡ times i (owned e' chain)
     chain-ids-stay i = ap (λ (ns : List Link). times i (ids ns)) chain-stays.1
 
-    spare-ids-stay : (i : ℕ) → times i (owned end spares) ≡ times i (owned e' spares)
-    spare-ids-stay i = ap (λ (ns : List Link). times i (ids ns)) spares-stay.1
-
-    pub reserves : Reserves p m (with-chains chain spares parked) (record p { elements = end; region = region })
-    reserves = assembled p m fresh k one frameless tables bring end region (with-chains chain spares parked)
-        (moves-like p.elements end no_ids (λ i. times i (owned e chain) + times i (owned e' spares) + SubpoolStorage.hold end parked i) no_ids (change_holds end (with-chains chain spares parked)) three-last.3 (λ i. refl) (λ i. omega (arith, chain-ids-stay i, spare-ids-stay i)))
-        (λ i. omega (arith, three-last.2 i, chain-ids-stay i, spare-ids-stay i))
-        chain-stays.0 (ap (map record_at) chain-stays.1 ∙ is) spares-stay.0 count parked-stands parked-is held pages same long out
+    pub reserves : Reserves p m (with-chain chain blanks parked) (record p { elements = end; region = region })
+    reserves = assembled p m fresh k one frameless tables bring end region (with-chain chain blanks parked)
+        (moves-like p.elements end no_ids (λ i. times i (owned e' chain) + SubpoolStorage.hold end parked i) no_ids (change_holds end (with-chain chain blanks parked)) two-last.2 (λ i. refl) (λ i. omega (arith, chain-ids-stay i)))
+        (λ i. omega (arith, two-last.1 i, chain-ids-stay i))
+        chain-stays.0 (ap (map record_at) (chain-stays.1 ∙ chain-then.1) ∙ is) (omega (arith, kept, set.aside, aside-same p.elements e f.as_many)) count parked-stands parked-is held pages same long out
 
   -- or what is parked first, then the records, and the blank elements at last
-  module _ (e : Store) (parked : TheParked) (parked-stands : Stands e parked) (parked-is : subpools_of e parked ≡ m.parked) (f : Moves p.elements e no_ids (SubpoolStorage.hold e parked))
+  module _ (e : Store) (parked : TheParked) (parked-stands : Stands e parked) (parked-is : subpools_of e parked ≡ m.parked) (f : Moves p.elements e no_ids (SubpoolStorage.hold e parked)) (kept : e.aside ≡ p.elements.aside)
       (e' : Store) (chain : Chain) (stand : IsChain e' chain) (is : records_of e' chain ≡ m.records) (g : Leaves e e' [] (owned e' chain))
-      (end : Store) (spares : Chain) (stand' : IsChain end spares) (count : spares.count ≡ m.blanks) (h : Leaves e' end [] (owned end spares)) where
-    abbrev parked-first : ((i : ℕ) → 0 < SubpoolStorage.hold e parked i + hold p i → at e' i ≡ at e i) × ((i : ℕ) → 0 < times i (owned e' chain) + (SubpoolStorage.hold e parked i + hold p i) → at end i ≡ at e' i)
-        × ((i : ℕ) → times i (owned end spares) + (times i (owned e' chain) + (SubpoolStorage.hold e parked i + hold p i)) ≤ 1)
-        × Moves p.elements end no_ids (λ i. SubpoolStorage.hold e parked i + times i (owned e' chain) + times i (owned end spares))
-    parked-first = three p k one e e' end (SubpoolStorage.hold e parked) (λ i. times i (owned e' chain)) (λ i. times i (owned end spares))
+      (end : Store) (blanks : ℕ) (count : blanks ≡ m.blanks) (set : SetsAside e' end blanks) where
+    abbrev parked-first : ((i : ℕ) → 0 < SubpoolStorage.hold e parked i + hold p i → at e' i ≡ at e i)
+        × ((i : ℕ) → times i (owned e' chain) + (SubpoolStorage.hold e parked i + hold p i) ≤ 1)
+        × Moves p.elements e' no_ids (λ i. SubpoolStorage.hold e parked i + times i (owned e' chain))
+    parked-first = two p k one e e' (SubpoolStorage.hold e parked) (λ i. times i (owned e' chain))
         f (storage-owns e parked parked-stands).0 (storage-owns e parked parked-stands).1
-        (moves-of e e' [] (owned e' chain) g) (chain-once e' chain stand) (chain-live e' chain stand)
-        (moves-of e' end [] (owned end spares) h) (chain-once end spares stand')
+        (moves-of e e' [] (owned e' chain) g) (chain-once e' chain stand)
 
     parked-stays : Stands end parked × (subpools_of end parked ≡ subpools_of e parked) × ((i : ℕ) → SubpoolStorage.hold end parked i ≡ SubpoolStorage.hold e parked i)
-    parked-stays = storage-stays e end parked parked-stands (λ i n. parked-first.1 i (omega (arith, n)) ∙ parked-first.0 i (omega (arith, n)))
+    parked-stays = storage-stays e end parked parked-stands (λ i n. set.same i ∙ parked-first.0 i (omega (arith, n)))
 
-    behind-stays : IsChain end chain × (links end chain ≡ links e' chain)
-    behind-stays = chain-kept e' end chain stand (λ i n. parked-first.1 i (omega (arith, n)))
+    chain-after : IsChain end chain × (links end chain ≡ links e' chain)
+    chain-after = chain-kept e' end chain stand (λ i n. set.same i)
 
-    behind-ids-stay : (i : ℕ) → times i (owned end chain) ≡ times i (owned e' chain)
-    behind-ids-stay i = ap (λ (ns : List Link). times i (ids ns)) behind-stays.1
+    ids-after : (i : ℕ) → times i (owned end chain) ≡ times i (owned e' chain)
+    ids-after i = ap (λ (ns : List Link). times i (ids ns)) chain-after.1
 
-    pub reserves-behind : Reserves p m (with-chains chain spares parked) (record p { elements = end; region = region })
-    reserves-behind = assembled p m fresh k one frameless tables bring end region (with-chains chain spares parked)
-        (moves-like p.elements end no_ids (λ i. SubpoolStorage.hold e parked i + times i (owned e' chain) + times i (owned end spares)) no_ids (change_holds end (with-chains chain spares parked)) parked-first.3 (λ i. refl) (λ i. omega (arith, behind-ids-stay i, parked-stays.2 i)))
-        (λ i. omega (arith, parked-first.2 i, behind-ids-stay i, parked-stays.2 i))
-        behind-stays.0 (ap (map record_at) behind-stays.1 ∙ is) stand' count parked-stays.0 (parked-stays.1 ∙ parked-is) held pages same long out
+    pub reserves-parked : Reserves p m (with-chain chain blanks parked) (record p { elements = end; region = region })
+    reserves-parked = assembled p m fresh k one frameless tables bring end region (with-chain chain blanks parked)
+        (moves-like p.elements end no_ids (λ i. SubpoolStorage.hold e parked i + times i (owned e' chain)) no_ids (change_holds end (with-chain chain blanks parked))
+        (moves-follow p.elements e' end no_ids (λ i. SubpoolStorage.hold e parked i + times i (owned e' chain)) (λ i. SubpoolStorage.hold e parked i + times i (owned e' chain)) parked-first.2 (moves-none e' end (λ i. SubpoolStorage.hold e parked i + times i (owned e' chain)) set.same))
+        (λ i. refl) (λ i. omega (arith, ids-after i, parked-stays.2 i)))
+        (λ i. omega (arith, parked-first.1 i, ids-after i, parked-stays.2 i))
+        chain-after.0 (ap (map record_at) chain-after.1 ∙ is) (omega (arith, kept, set.aside, aside-same e e' g.as_many)) count parked-stays.0 (parked-stays.1 ∙ parked-is) held pages same long out
 
 -- what the change means, by its parts
 module _ (m : Subpools) (records : List Record) (blanks : ℕ) (fresh : Run) where
@@ -263,6 +269,7 @@ module _ (p m : Parts) (k : Stand p) (one : (i : ℕ) → hold p i ≤ 1) (g : G
     meaning = r.meaning;
     held = λ i. r.held i ∙ grown-hold i;
     moves = moves-follow p.elements m.elements t.elements no_ids no_ids (change_holds t.elements c) still r.moves;
+    aside = omega (arith, r.aside, g.aside);
     tables = record { tables = λ page h. r.tables.tables page (g.tables.tables page h); segments = λ page. r.tables.segments page ∙ g.tables.segments page };
     out = omega (arith, r.out, g.out);
   }

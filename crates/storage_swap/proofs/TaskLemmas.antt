@@ -3,7 +3,7 @@ use Rattle.std.proofs.Common.{◌≡◌, ℕ, ◌+◌, ◌-◌, ◌/◌, ◌<◌
 use Rattle.std.specs.Prelude.{nat_lt}
 use Rattle.std.proofs.lemmas.Bool.{eqb-true, cases_lt, lt-ltb, ltb-true, le-ltb}
 use Rattle.run_set.specs.Runs.{inside}
-use Rattle.vsm_elements.specs.Store.{Store, made}
+use Rattle.vsm_elements.specs.Store.{Store, made_and_aside}
 use Rattle.vsm_elements.specs.Owners.{times, Moves}
 use Rattle.vsm_elements.specs.Ownership.{Leaves}
 use Rattle.vsm_elements.proofs.MoveLemmas.{moves-of}
@@ -67,7 +67,7 @@ walk_with_tasks w tasks spare = record w { state = record w.state { tasks = task
 
 -- the tasks are these now
 module _ (p : Parts) (e : Store) (q : Tree) (now : Tasks) (new : IsTaskTree e q)
-    (moved : Moves p.elements e (λ i. times i (TaskTree.owned p.elements p.tasks)) (λ i. times i (TaskTree.owned e q))) (as-many : made e ≡ made p.elements)
+    (moved : Moves p.elements e (λ i. times i (TaskTree.owned p.elements p.tasks)) (λ i. times i (TaskTree.owned e q))) (as-many : made_and_aside e ≡ made_and_aside p.elements)
     (is-current : current q ≡ now.current) (parents : (task : ℕ) → parent e q task ≡ now.parents task)
     (words : (task k : ℕ) → (if nat_lt k 16 then word e q task k else 0) ≡ now.words task k) where
   abbrev t : Parts

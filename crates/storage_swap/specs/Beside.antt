@@ -1,6 +1,6 @@
 -- A chain of records next to the storage and parked subpools, and the exchange of its records.
 use Rattle.std.specs.Prelude.{◌≡◌, ℕ, ◌+◌, ◌≤◌, List, [], ◌∷◌, map, length}
-use Rattle.vsm_elements.specs.Store.{Store, made}
+use Rattle.vsm_elements.specs.Store.{Store, made_and_aside}
 use Rattle.vsm_elements.specs.Owners.{times, Moves}
 use Rattle.vsm_elements.specs.Chain.{Link, links, owned, IsChain}
 use Rattle.vsm_elements.specs.declared.chain.Chain.{Chain}
@@ -49,7 +49,7 @@ pub record SwapsFirst (p t : Parts) (given given' : List PageFrame) (q q' : Subp
     (r : Record) (rs : List Record) : Type 0 where
   pub beside : BesideBoth t q' c' d'
   pub moves : Moves p.elements t.elements (hold_both p q c d) (hold_both t q' c' d')
-  pub as_many : made t.elements ≡ made p.elements
+  pub as_many : made_and_aside t.elements ≡ made_and_aside p.elements
   pub rest : records_of t.elements c' ≡ rs
   pub done : records_of t.elements d' ≡ turned (state_of p) r ∷ records_of p.elements d
   pub steps :
@@ -65,7 +65,7 @@ pub record SwapsAll (p t : Parts) (given given' : List PageFrame) (q q' : Subpoo
     : Type 0 where
   pub beside : Beside t q' c'
   pub moves : Moves p.elements t.elements (hold_beside p q c) (hold_beside t q' c')
-  pub as_many : made t.elements ≡ made p.elements
+  pub as_many : made_and_aside t.elements ≡ made_and_aside p.elements
   pub steps :
       (kept : ℕ) → kept ≤ p.elements.spare → FitInTurn (walk_of p given q kept) (records_of p.elements c)
       → (kept ≤ t.elements.spare)

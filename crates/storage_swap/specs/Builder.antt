@@ -18,7 +18,7 @@ use Rattle.storage_swap.specs.Swap.{means, change_holds, Ready}
 
 -- the change so far: without a blank element, and without a frame
 abbrev pub so_far : ChangeBuilder → TheChange
-so_far b = record { records = b.records; blanks = record { first = 0; count = 0 }; frames = []; parked = b.parked }
+so_far b = record { records = b.records; blanks = 0; frames = []; parked = b.parked }
 
 -- its records, in their order
 abbrev pub records_in : Parts → ChangeBuilder → List Record
@@ -42,13 +42,14 @@ pub record IsBuilding (p : Parts) (b : ChangeBuilder) : Type 0 where
   pub last : b.last ≡ last_or 0 (links p.elements b.records)
 
 -- The storage is as it was. Next to it elements were given back and taken: those that something had held, and those
--- that it holds.
+-- that it holds. None was set aside.
 pub record Keeps (s t : Parts) (had has : ℕ → ℕ) : Type 0 where
   pub same : t ≡ record s { elements = t.elements }
   pub shows : state_of t ≡ state_of s
   pub held : (i : ℕ) → hold t i ≡ hold s i
   pub kept : (i : ℕ) → 0 < hold s i → at t.elements i ≡ at s.elements i
   pub moves : Moves s.elements t.elements had has
+  pub aside : t.elements.aside ≡ s.elements.aside
 
 -- The one change so far became the other, and the storage is as it was.
 pub record Builds (s : Parts) (a : ChangeBuilder) (t : Parts) (b : ChangeBuilder) : Type 0 where
@@ -72,9 +73,13 @@ pub record Parks (s : Parts) (a : ChangeBuilder) (subpool : Subpool) (t : Parts)
   pub live : live_count t.elements ≤ live_count s.elements + 1
   pub made : MakesElements s.elements t.elements 1
 
--- The change is made, with this many blank elements and no frame, and the storage is as it was.
+-- The change is made, with this many blank elements, which were set aside, and no frame, and the storage is as it was.
 pub record Finishes (s : Parts) (b : ChangeBuilder) (blanks : ℕ) (t : Parts) (c : TheChange) : Type 0 where
   pub ready : Ready t c
-  pub keeps : Keeps s t (builder_holds s b) (change_holds t.elements c)
+  pub same : t ≡ record s { elements = t.elements }
+  pub shows : state_of t ≡ state_of s
+  pub held : (i : ℕ) → hold t i ≡ hold s i
+  pub moves : Moves s.elements t.elements (builder_holds s b) (change_holds t.elements c)
+  pub aside : t.elements.aside ≡ s.elements.aside + blanks
   pub meaning : means t.elements c ≡ meaning_with s b blanks
   pub no_frame : c.frames ≡ []

@@ -1,6 +1,6 @@
 -- A record that changed sides with the storage.
 use Rattle.std.specs.Prelude.{◌≡◌, ℕ, ◌+◌, ◌≤◌, List, length, IsSome, IsTrue}
-use Rattle.vsm_elements.specs.Store.{made}
+use Rattle.vsm_elements.specs.Store.{made_and_aside}
 use Rattle.vsm_elements.specs.Owners.{Moves}
 use Rattle.raw_region.specs.Frames.{PageFrame}
 use Rattle.raw_region.specs.Pages.{Pages, has_table, SameTables}
@@ -27,7 +27,7 @@ pub record Exchanges (p t : Parts) (given given' : List PageFrame) (parked parke
     : Type 0 where
   pub stands : StandsWith t parked'
   pub moves : Moves p.elements t.elements (hold_with p parked) (hold_with t parked')
-  pub as_many : made t.elements ≡ made p.elements
+  pub as_many : made_and_aside t.elements ≡ made_and_aside p.elements
   pub steps :
       (kept : ℕ) → kept ≤ p.elements.spare → Fits (walk_of p given parked kept) r
       → (kept ≤ t.elements.spare) × (walk_of t given' parked' kept ≡ step (walk_of p given parked kept) r)

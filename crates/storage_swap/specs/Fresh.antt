@@ -30,14 +30,15 @@ pub record StartsSmall (p : Parts) : Type 0 where
   pub elements : made p.elements ≤ 128
   pub frames : p.region.made ≡ 0
 
--- The storage is that, each live element is its own, and no frame is out. Each page of the regions can have a table.
--- No more was made for it than it needs, and the rest of a block.
+-- The storage is that, each live element is its own, none is set aside, and no frame is out. Each page of the regions
+-- can have a table. No more was made for it than it needs, and the rest of a block.
 pub record IsFresh (settings : Settings) (p : Parts) : Type 0 where
   pub shows : state_of p ≡ first_storage settings
   pub stands : Stand p
   pub once : (i : ℕ) → hold p i ≤ 1
   pub frameless : IsFrameless p
   pub all : (i : ℕ) → IsSome (at p.elements i) → 0 < hold p i
+  pub aside : p.elements.aside ≡ 0
   pub out : p.region.out ≡ 0
   pub segments : (page : ℕ) → in_a_region settings page ≡ true → IsTrue (has_segment p.region page)
   pub small : StartsSmall p

@@ -17,11 +17,11 @@ use Rattle.storage_changes.proofs.Cases.{state-same}
 use Rattle.storage_swap.specs.declared.storage.Parts.{Parts}
 use Rattle.storage_swap.specs.Storage.{hold, tasks_of, state_of, byte_held, Stand}
 use Rattle.storage_swap.specs.StructureKept.{PagesStay, SubpoolsStay, TasksStay, pages-stay, subpools-stay}
-use Rattle.storage_swap.specs.StructureKept.{tasks-stay, pages-live, tasks-live, three-live}
+use Rattle.storage_swap.specs.StructureKept.{tasks-stay, pages-live, tasks-live, two-live, three-live}
 use Rattle.storage_swap.specs.declared.change.Change.{Change}
 use Rattle.storage_swap.specs.Beside.{record_at}
 use Rattle.storage_swap.specs.Swap.{means, change_holds}
-use Rattle.storage_swap.specs.Apart.{all_hold, all_frames, ChangeStands, AllStand, AreApart}
+use Rattle.storage_swap.specs.Apart.{all_hold, all_blanks, all_frames, ChangeStands, AllStand, AreApart}
 
 -- what the storage holds is live
 pub storage-live : (p : Parts) → Stand p → (i : ℕ) → 0 < hold p i → IsSome (at p.elements i)
@@ -35,9 +35,8 @@ storage-live p k =
 change-live : (p : Parts) (c : Change) → ChangeStands p c → (i : ℕ) → 0 < change_holds p.elements c i
     → IsSome (at p.elements i)
 change-live p c k =
-    three-live p.elements (λ i. times i (owned p.elements c.records)) (λ i. times i (owned p.elements c.blanks))
-    (λ i. SubpoolStorage.hold p.elements c.parked i) (chain-live p.elements c.records k.records)
-    (chain-live p.elements c.blanks k.blanks) (storage_owns p.elements c.parked k.parked).1
+    two-live p.elements (λ i. times i (owned p.elements c.records)) (λ i. SubpoolStorage.hold p.elements c.parked i)
+    (chain-live p.elements c.records k.records) (storage_owns p.elements c.parked k.parked).1
 
 pub all-live : (p : Parts) (cs : List Change) → AllStand p cs → (i : ℕ) → 0 < all_hold p.elements cs i
     → IsSome (at p.elements i)
@@ -113,19 +112,17 @@ module _ (p t : Parts) (f g : ℕ → ℕ) (m : Moves p.elements t.elements f g)
     left c k once = record {
       stand = record {
         records = records.0;
-        blanks = blanks.0;
         parked = parked.stand;
         places = λ page h. tables page (k.places page h);
       };
       held = λ i. omega (
         arith,
         ap (λ (ns : List Link). times i (ids ns)) records.1,
-        ap (λ (ns : List Link). times i (ids ns)) blanks.1,
         parked.held i,
       );
       meant = λ i. record {
         records = map record_at (records.1 i);
-        blanks = c.blanks.count;
+        blanks = c.blanks;
         frames = byte_held c.frames;
         parked = parked.same i;
       };
@@ -135,9 +132,6 @@ module _ (p t : Parts) (f g : ℕ → ℕ) (m : Moves p.elements t.elements f g)
 
       records : IsChain t.elements c.records × (links t.elements c.records ≡ links p.elements c.records)
       records = chain-kept p.elements t.elements c.records k.records (λ i h. same i (omega (arith, h)))
-
-      blanks : IsChain t.elements c.blanks × (links t.elements c.blanks ≡ links p.elements c.blanks)
-      blanks = chain-kept p.elements t.elements c.blanks k.blanks (λ i h. same i (omega (arith, h)))
 
       parked : SubpoolsStay p.elements t.elements c.parked
       parked = subpools-stay p.elements t.elements c.parked k.parked (λ i h. same i (omega (arith, h)))
@@ -159,6 +153,10 @@ pub hold-append : (s : Store) (xs ys : List Change) (i : ℕ)
     → all_hold s (xs ++ ys) i ≡ all_hold s xs i + all_hold s ys i
 hold-append s [] ys i = omega arith
 hold-append s (x ∷ xs) ys i = omega (arith, hold-append s xs ys i)
+
+pub blanks-append : (xs ys : List Change) → all_blanks (xs ++ ys) ≡ all_blanks xs + all_blanks ys
+blanks-append [] ys = omega arith
+blanks-append (x ∷ xs) ys = omega (arith, blanks-append xs ys)
 
 pub frames-append : (xs ys : List Change) → all_frames (xs ++ ys) ≡ all_frames xs + all_frames ys
 frames-append [] ys = omega arith
@@ -188,6 +186,7 @@ apart-pick xs ys c p h =
         hold-append p.elements xs ys i,
       );
       frameless = h.frameless;
+      aside = omega (arith, h.aside, blanks-append xs (c ∷ ys), blanks-append xs ys);
       out = omega (arith, h.out, frames-append xs (c ∷ ys), frames-append xs ys);
     }
 
@@ -205,6 +204,7 @@ apart-put xs ys c p h =
         hold-append p.elements xs ys i,
       );
       frameless = h.frameless;
+      aside = omega (arith, h.aside, blanks-append xs (c ∷ ys), blanks-append xs ys);
       out = omega (arith, h.out, frames-append xs (c ∷ ys), frames-append xs ys);
     }
 
@@ -214,5 +214,6 @@ apart-rest xs c p h = record {
   changes = h.changes.1;
   once = λ i. omega (arith, h.once i);
   frameless = h.frameless;
+  aside = omega (arith, h.aside);
   out = omega (arith, h.out);
 }

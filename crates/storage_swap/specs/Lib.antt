@@ -16,3 +16,4 @@ pub mod Builder
 pub mod Building
 pub mod Fresh
 pub mod Laws
+pub mod Words

@@ -25,17 +25,20 @@ pub record MoreTables (old new : Pages) : Type 0 where
 pub record Grown (p t : Parts) : Type 0 where
   pub same : t ≡ record p { elements = t.elements; region = t.region }
   pub elements : SameElements p.elements t.elements
+  pub aside : t.elements.aside ≡ p.elements.aside
   pub pages : SamePages p.region t.region
   pub tables : MoreTables p.region t.region
   pub out : t.region.out ≡ p.region.out
 
--- The change exists, the storage is as it was, and elements and frames that nobody had are the change's.
+-- The change exists, the storage is as it was, and elements and frames that nobody had are the change's, or set aside
+-- for it.
 pub record Reserves (p : Parts) (d : Change) (c : TheChange) (t : Parts) : Type 0 where
   pub ready : Ready t c
   pub shows : state_of t ≡ state_of p
   pub meaning : means t.elements c ≡ d
   pub held : (i : ℕ) → hold t i ≡ hold p i
   pub moves : Moves p.elements t.elements (λ i. 0) (change_holds t.elements c)
+  pub aside : t.elements.aside ≡ p.elements.aside + c.blanks
   pub tables : MoreTables p.region t.region
   pub out : t.region.out ≡ p.region.out + length c.frames
 

@@ -51,7 +51,6 @@ module _ (p t : Parts) (d : Meaning) (c : Change) (w : Reserves p d c t) where
       changes = (
         record {
           records = w.ready.records;
-          blanks = w.ready.blanks;
           parked = w.ready.stands.parked;
           places = w.ready.places;
         },
@@ -59,6 +58,7 @@ module _ (p t : Parts) (d : Meaning) (c : Change) (w : Reserves p d c t) where
       );
       once = λ i. omega (arith, reserve-once i, w.held i, reserve-left.held i);
       frameless = w.ready.frameless;
+      aside = omega (arith, h.aside, w.aside);
       out = omega (arith, h.out, w.out);
     }
 
@@ -76,6 +76,7 @@ module _ (p t : Parts) (d : Meaning) (c : Change) (w : Reserves p d c t) where
   reserve-whole xs h = record {
     apart = reserve-apart xs h.apart;
     all = reserve-all xs h.apart h.all;
+    all_aside = omega (arith, h.all_aside, w.aside);
     all_out = omega (arith, h.all_out, w.out);
   }
 

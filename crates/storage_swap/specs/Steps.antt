@@ -14,7 +14,7 @@ use Rattle.step_history.specs.Single.{SingleSteps}
 use Rattle.storage_swap.specs.Apart.{all_hold, meaning, AreApart, AreWhole, CanSwap}
 use Rattle.storage_swap.specs.HistoryKept.{storage-live, all-live, apart-live, tables-kept, moved-hold, moved-stand}
 use Rattle.storage_swap.specs.HistoryKept.{moved-unassigned, moved-state, left, AllLeft, all-left, hold-append}
-use Rattle.storage_swap.specs.HistoryKept.{frames-append, apart-pick, apart-put, apart-rest}
+use Rattle.storage_swap.specs.HistoryKept.{blanks-append, frames-append, apart-pick, apart-put, apart-rest}
 
 -- a change that is apart from the storage is next to it
 apart-ready : (p : Parts) (c : Change) (cs : List Change) → AreApart p (c ∷ cs) → Ready p c
@@ -25,7 +25,7 @@ apart-ready p c cs h = record {
     once = λ i. omega (arith, h.once i);
   };
   records = h.changes.0.records;
-  blanks = h.changes.0.blanks;
+  aside = omega (arith, h.aside);
   once = λ i. omega (arith, h.once i);
   frameless = h.frameless;
   out = omega (arith, h.out);
@@ -58,7 +58,6 @@ module _ (p t : Parts) (c d : Change) (w : Swaps p c t d) (xs : List Change) (h 
     changes = (
       record {
         records = w.after.records;
-        blanks = w.after.blanks;
         parked = w.after.stands.parked;
         places = w.after.places;
       },
@@ -66,6 +65,7 @@ module _ (p t : Parts) (c d : Change) (w : Swaps p c t d) (xs : List Change) (h 
     );
     once = λ i. omega (arith, swap-once i, swap-left.held i);
     frameless = w.after.frameless;
+    aside = omega (arith, h.aside, w.aside);
     out = omega (arith, h.out, w.out);
   }
 
@@ -87,6 +87,14 @@ swap-whole xs ys c d p t h w = record {
     swap-all p t c d w (xs ++ ys) picked all-before i live,
     hold-append t.elements xs (d ∷ ys) i,
     hold-append t.elements xs ys i,
+  );
+  all_aside = omega (
+    arith,
+    h.all_aside,
+    w.aside,
+    blanks-append xs (c ∷ ys),
+    blanks-append xs (d ∷ ys),
+    blanks-append xs ys,
   );
   all_out = omega (
     arith,
@@ -154,6 +162,7 @@ module _ (p t : Parts) (c : Change) (w : Discards p c t) where
       changes = discard-left.stand;
       once = λ i. omega (arith, h.once i, discard-hold i, discard-left.held i);
       frameless = λ page e. w.pages page ∙ h.frameless page (sym (unassigned-kept page) ∙ e);
+      aside = omega (arith, h.aside, w.aside);
       out = omega (arith, h.out, w.out);
     }
 
@@ -173,6 +182,7 @@ discard-whole : (xs ys : List Change) (c : Change) (p t : Parts) → AreWhole p 
 discard-whole xs ys c p t h w = record {
   apart = discard-apart p t c w (xs ++ ys) picked;
   all = discard-all p t c w (xs ++ ys) picked all-before;
+  all_aside = omega (arith, h.all_aside, w.aside, blanks-append xs (c ∷ ys), blanks-append xs ys);
   all_out = omega (arith, h.all_out, w.out, frames-append xs (c ∷ ys), frames-append xs ys);
 } where
   picked : AreApart p (c ∷ (xs ++ ys))

@@ -22,37 +22,37 @@ abbrev pub means : Store → TheChange → Change
 means s c =
     record {
       records = records_of s c.records;
-      blanks = c.blanks.count;
+      blanks = c.blanks;
       frames = byte_held c.frames;
       parked = subpools_of s c.parked;
     }
 
--- how often chains of records and of blank elements and parked subpools hold an element
-abbrev pub held_by : Store → Chain → Chain → SubpoolStorage → ℕ → ℕ
-held_by s records blanks parked i =
-    times i (owned s records) + times i (owned s blanks) + SubpoolStorage.hold s parked i
+-- how often a chain of records and parked subpools hold an element
+abbrev pub held_by : Store → Chain → SubpoolStorage → ℕ → ℕ
+held_by s records parked i = times i (owned s records) + SubpoolStorage.hold s parked i
 
 -- how often a change holds an element
 abbrev pub change_holds : Store → TheChange → ℕ → ℕ
-change_holds s c i = held_by s c.records c.blanks c.parked i
+change_holds s c i = held_by s c.records c.parked i
 
 -- the storage and a change of it together
 abbrev pub both_hold : Parts → TheChange → ℕ → ℕ
 both_hold p c i = hold p i + change_holds p.elements c i
 
--- A change next to the storage: both are well formed, no element has two owners, an unassigned page has no frame, and
--- the change's frames are out and have places in the tables.
+-- A change next to the storage: both are well formed, no element has two owners, an unassigned page has no frame, the
+-- change's blank elements are set aside, and its frames are out and have places in the tables.
 pub record Ready (p : Parts) (c : TheChange) : Type 0 where
   pub stands : StandsWith p c.parked
   pub records : IsChain p.elements c.records
-  pub blanks : IsChain p.elements c.blanks
+  pub aside : c.blanks ≤ p.elements.aside
   pub once : (i : ℕ) → both_hold p c i ≤ 1
   pub frameless : (page : ℕ) → (state_of p).unassigned page ≡ true → bytes_at p.region page ≡ None
   pub out : length c.frames ≤ p.region.out
   pub places : HavePlaces p c.frames
 
 -- The storage is what the change means, and the change the one that leads back. Elements and frames went from the one
--- to the other, and nothing else changed: the same number of elements and frames is spare, and none was made.
+-- to the other, and nothing else changed: the same number of elements and frames is spare, what was set aside by others
+-- stays so, and none was made.
 pub record Swaps (p : Parts) (c : TheChange) (t : Parts) (d : TheChange) : Type 0 where
   pub before : Ready p c
   pub after : Ready t d
@@ -60,13 +60,14 @@ pub record Swaps (p : Parts) (c : TheChange) (t : Parts) (d : TheChange) : Type 
   pub turned : means t.elements d ≡ inverse (state_of p) (means p.elements c)
   pub moves : Moves p.elements t.elements (both_hold p c) (both_hold t d)
   pub spare : t.elements.spare ≡ p.elements.spare
+  pub aside : t.elements.aside + c.blanks ≡ p.elements.aside + d.blanks
   pub as_many : made t.elements ≡ made p.elements
   pub out : t.region.out + length c.frames ≡ p.region.out + length d.frames
   pub tables : SameTables p.region t.region
   pub frames : SameFrames p.region t.region
 
 -- The change's elements and frames are spare, and nothing else changed: exactly as many more of both are spare as the
--- change had, and none was made.
+-- change had, with those that were set aside for it, and none was made.
 pub record Discards (p : Parts) (c : TheChange) (t : Parts) : Type 0 where
   pub before : Ready p c
   pub same : t ≡ record p { elements = t.elements; region = t.region }
@@ -74,7 +75,9 @@ pub record Discards (p : Parts) (c : TheChange) (t : Parts) : Type 0 where
   pub pages : SamePages p.region t.region
   pub tables : SameTables p.region t.region
   pub out : t.region.out + length c.frames ≡ p.region.out
-  pub spare : GivenBack (change_holds p.elements c) p.elements t.elements
+  pub spare : GivenBack (change_holds p.elements c)
+      (record p.elements { spare = p.elements.spare + c.blanks }) t.elements
+  pub aside : t.elements.aside + c.blanks ≡ p.elements.aside
   pub as_many : made t.elements ≡ made p.elements
   pub spare_frames : t.region.spare ≡ p.region.spare + length c.frames
   pub made : t.region.made ≡ p.region.made

@@ -17,8 +17,10 @@ fresh-storages-are-whole settings p fresh = record {
     changes = tt;
     once = λ i. omega (arith, fresh.once i);
     frameless = fresh.frameless;
+    aside = omega arith;
     out = omega arith;
   };
   all = λ i live. omega (arith, fresh.all i live);
+  all_aside = omega (arith, fresh.aside);
   all_out = omega (arith, fresh.out);
 }

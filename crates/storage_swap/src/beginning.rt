@@ -1,7 +1,7 @@
 //! A storage before the first request.
 
 ghost use Rattle.std.specs.Prelude.{◌≡◌, ℕ, ◌+◌, ◌<◌, ◌≤◌, [], true, IfOk};
-ghost use Rattle.vsm_elements.specs.Store.{made};
+ghost use Rattle.vsm_elements.specs.Store.{made, made_and_aside};
 ghost use Rattle.vsm_elements.specs.Owners.{Moves};
 ghost use Rattle.vsm_elements.specs.Ownership.{Leaves};
 ghost use Rattle.descriptor_queue.specs.Pages.{is_unassigned, IsPages, owned as owned_pages};
@@ -59,7 +59,7 @@ fn first_subpools(elements: &mut Elements) -> SubpoolStorage
         ≡ with_own no_subpools (record { number = 0; owner = 1 }) true }
     ensures moves { Moves elements.old elements.new (λ i. 0) (λ i. hold elements.new result i) }
     ensures spares { elements.new.spare + 1 ≡ elements.old.spare }
-    ensures as_many { made elements.new ≡ made elements.old }
+    ensures as_many { made_and_aside elements.new ≡ made_and_aside elements.old }
 {
     let mut subpools = SubpoolStorage::new();
     let subpool = Subpool {

@@ -13,7 +13,6 @@ ghost use Rattle.storage_swap.specs.Builder.{IsBuilding, Keeps, Builds, Pushes, 
 
 use crate::chains::append;
 use crate::change::{Change, discard_elements};
-use crate::reserve::take_blanks;
 use crate::storage::Parts;
 use raw_region::Parked;
 use std::alloc::AllocError;
@@ -147,7 +146,7 @@ impl ChangeBuilder {
             last: _,
             parked,
         } = self;
-        let blanks = take_blanks(&mut storage.elements, blanks);
+        storage.elements.set_aside(blanks);
         Ok(Change {
             records,
             blanks,
@@ -168,6 +167,6 @@ impl ChangeBuilder {
             last: _,
             parked,
         } = self;
-        discard_elements(&mut storage.elements, records, Chain::new(), parked);
+        discard_elements(&mut storage.elements, records, parked);
     }
 }

@@ -2,21 +2,21 @@
 
 ghost use Rattle.std.specs.Prelude.{◌≡◌, ℕ, ◌+◌, ◌*◌, ◌^◌, ◌<◌, ◌≤◌, ◌∷◌, true, None, length, option_map, IsTrue, IsOk};
 ghost use Rattle.std.specs.Prelude.{IfOk, IfErr};
-ghost use Rattle.vsm_elements.specs.Store.{made, live_count};
+ghost use Rattle.vsm_elements.specs.Store.{made, live_count, made_and_aside};
 ghost use Rattle.vsm_elements.specs.Owners.{Moves};
 ghost use Rattle.run_set.specs.Runs.{inside};
-ghost use Rattle.raw_region.specs.Pages.{has_segment, HaveTables};
+ghost use Rattle.raw_region.specs.Pages.{has_segment, HaveTables, SameTables};
 ghost use Rattle.subpool_storage.specs.Subpools.{no_subpools, with_new_pool};
 ghost use Rattle.subpool_storage.specs.SubpoolStorage.{subpools_of, hold as held_parked, Stands};
 ghost use Rattle.storage_changes.specs.Changes.{change_of, change_building};
 ghost use Rattle.storage_swap.specs.Storage.{hold, state_of, Stand, IsFrameless};
-ghost use Rattle.storage_swap.specs.Growth.{MakesElements, MakesFrames};
+ghost use Rattle.storage_swap.specs.Growth.{MakesElements, MakesForPages};
 ghost use Rattle.storage_swap.specs.Reserve.{Grown, Reserves};
 ghost use Rattle.storage_swap.specs.Building.{pool_as, pool_elements, elements_to_build};
 
 use crate::chains::building_records;
 use crate::change::Change;
-use crate::reserve::{grow, take_blanks};
+use crate::reserve::grow;
 use crate::storage::Parts;
 use run_set::Run;
 use std::alloc::AllocError;
@@ -47,7 +47,7 @@ impl Change {
     ///
     /// It returns an error if memory is refused. What was made before that stays, as spare elements, spare frames and
     /// tables. If that many elements and frames are spare and the tables exist, it takes no memory. At most a block of
-    /// elements is made beyond what is needed, and no frame.
+    /// elements is made beyond what is needed, no frame, and a table only for a segment of these pages.
     pub fn reserve_building(
         storage: &mut Parts,
         pool: &ReservedCellPool<'_>,
@@ -77,7 +77,7 @@ impl Change {
             ≤ live_count storage.old.elements + elements_to_build pool.now (length records.now) blanks) }
         ensures made { MakesElements storage.old.elements storage.new.elements
             (elements_to_build pool.now (length records.now) blanks) }
-        ensures made_frames { MakesFrames storage.old.region storage.new.region fresh.len }
+        ensures made_for_pages { MakesForPages storage.old.region storage.new.region fresh }
         ensures needless { elements_to_build pool.now (length records.now) blanks ≤ storage.old.elements.spare
             → fresh.len ≤ storage.old.region.spare → HaveTables storage.old.region fresh.start fresh.len
             → IsOk result }
@@ -116,11 +116,12 @@ fn make_building(
         ≡ storage.old.elements.spare }
     ensures as_many { made storage.new.elements ≡ made storage.old.elements }
     ensures as_many_frames { storage.new.region.made ≡ storage.old.region.made }
+    ensures tables { SameTables storage.old.region storage.new.region }
 {
     pools_are_held();
     let (parked, id) = park_pool(&mut storage.elements, pool);
     let records = building_records(&mut storage.elements, id, records);
-    let blanks = take_blanks(&mut storage.elements, blanks);
+    storage.elements.set_aside(blanks);
     let frames = storage.region.park_zeros(fresh.start, fresh.len);
     let change = Change {
         records,
@@ -141,7 +142,7 @@ fn park_pool(elements: &mut Elements, pool: &ReservedCellPool<'_>) -> (SubpoolSt
     ensures subpools { subpools_of elements.new result.0 ≡ with_new_pool no_subpools (pool_as pool.now result.1) }
     ensures moves { Moves elements.old elements.new (λ i. 0) (λ i. held_parked elements.new result.0 i) }
     ensures spares { elements.new.spare + pool_elements pool.now ≡ elements.old.spare }
-    ensures as_many { made elements.new ≡ made elements.old }
+    ensures as_many { made_and_aside elements.new ≡ made_and_aside elements.old }
 {
     let mut parked = SubpoolStorage::new();
     let header = same_header(pool.header);

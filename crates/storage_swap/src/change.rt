@@ -1,5 +1,5 @@
 ghost use Rattle.std.specs.Prelude.{◌≡◌, ℕ, ◌≤◌};
-ghost use Rattle.vsm_elements.specs.Store.{made};
+ghost use Rattle.vsm_elements.specs.Store.{made_and_aside};
 ghost use Rattle.vsm_elements.specs.Chain.{IsChain};
 ghost use Rattle.vsm_elements.specs.Owners.{Moves};
 ghost use Rattle.subpool_storage.specs.Held.{GivenBack};
@@ -8,21 +8,21 @@ ghost use Rattle.storage_changes.specs.Changes.{Fit};
 ghost use Rattle.storage_swap.specs.Storage.{state_of};
 ghost use Rattle.storage_swap.specs.Swap.{held_by, means, Ready, Swaps, Discards};
 
-use crate::records::{give_back, settle, swap_records};
+use crate::records::swap_records;
 use crate::storage::Parts;
 use raw_region::Parked;
 use std::mem;
 use subpool_storage::SubpoolStorage;
 use vsm_elements::{Chain, Elements};
 
-/// What is exchanged with the storage: records, blank elements for their exchange, the frames of pages that become
-/// assigned, and subpools that are parked with their queues.
+/// What is exchanged with the storage: records, the frames of pages that become assigned, and subpools that are parked
+/// with their queues; and how many blank elements are set aside for the exchange.
 ///
-/// Only [`Change::discard`] drops it: its elements stay live until then.
+/// Only [`Change::discard`] drops it: its elements stay live, and its blank ones set aside, until then.
 #[derive(Drop)]
 pub struct Change {
     pub(crate) records: Chain,
-    pub(crate) blanks: Chain,
+    pub(crate) blanks: u32,
     pub(crate) frames: Parked,
     pub(crate) parked: SubpoolStorage,
 }
@@ -38,8 +38,7 @@ impl Change {
         ensures { Swaps storage.old self.old storage.new self.new }
     {
         let kept = storage.elements.spare();
-        let needed = self.blanks.count;
-        give_back(&mut storage.elements, &mut self.blanks, needed);
+        storage.elements.put_back(self.blanks);
         let frames = mem::replace(&mut self.frames, Parked::empty());
         storage.region.restore(frames);
         swap_records(
@@ -48,7 +47,8 @@ impl Change {
             &mut self.parked,
             &mut self.records,
         );
-        settle(&mut storage.elements, &mut self.blanks, kept);
+        self.blanks = storage.elements.spare() - kept;
+        storage.elements.set_aside(self.blanks);
     }
 
     /// Gives back every element and every frame of the change, including those of the subpools that it has parked.
@@ -64,27 +64,21 @@ impl Change {
             frames,
             parked,
         } = self;
-        discard_elements(&mut storage.elements, records, blanks, parked);
+        storage.elements.put_back(blanks);
+        discard_elements(&mut storage.elements, records, parked);
         storage.region.discard(frames);
     }
 }
 
-// The elements of both chains and of the parked subpools are spare.
-pub(crate) fn discard_elements(
-    elements: &mut Elements,
-    records: Chain,
-    blanks: Chain,
-    parked: SubpoolStorage,
-)
+// The elements of the records and of the parked subpools are spare.
+pub(crate) fn discard_elements(elements: &mut Elements, records: Chain, parked: SubpoolStorage)
     requires records { IsChain elements.old records }
-    requires blanks { IsChain elements.old blanks }
     requires parked { Stands elements.old parked }
-    requires once { (i : ℕ) → held_by elements.old records blanks parked i ≤ 1 }
-    ensures moves { Moves elements.old elements.new (held_by elements.old records blanks parked) (λ i. 0) }
-    ensures spares { GivenBack (held_by elements.old records blanks parked) elements.old elements.new }
-    ensures as_many { made elements.new ≡ made elements.old }
+    requires once { (i : ℕ) → held_by elements.old records parked i ≤ 1 }
+    ensures moves { Moves elements.old elements.new (held_by elements.old records parked) (λ i. 0) }
+    ensures spares { GivenBack (held_by elements.old records parked) elements.old elements.new }
+    ensures as_many { made_and_aside elements.new ≡ made_and_aside elements.old }
 {
     records.discard(elements);
-    blanks.discard(elements);
     parked.discard(elements);
 }

@@ -6,23 +6,31 @@ ghost use Rattle.raw_region.specs.Frames.{PageFrame};
 ghost use Rattle.subpool_storage.specs.declared.storage.SubpoolStorage.{SubpoolStorage as TheParked};
 ghost use Rattle.storage_changes.specs.declared.record.Record.TheVariants.{Area, Extent, Own, Queues};
 ghost use Rattle.storage_changes.specs.declared.record.Record.TheVariants.{Pages as Assignment, Bytes};
-ghost use Rattle.storage_changes.specs.declared.record.Record.TheVariants.{Register, Registers};
+ghost use Rattle.storage_changes.specs.declared.record.Record.TheVariants.{Obtain, Register, Registers};
 ghost use Rattle.storage_changes.specs.Records.{record_of};
-ghost use Rattle.storage_changes.specs.Turned.{turned, read, four_words};
+ghost use Rattle.storage_changes.specs.Turned.{turned, turned_obtain, read, four_words};
 ghost use Rattle.storage_changes.specs.Fits.{Fits, AreaFits, ExtentFits, PagesFits, OwnFits, QueuesFits};
-ghost use Rattle.storage_changes.specs.Fits.{RegisterFits, RegistersFits, BytesFits};
+ghost use Rattle.storage_changes.specs.Fits.{RegisterFits, RegistersFits, BytesFits, ObtainFits};
 ghost use Rattle.storage_swap.specs.Storage.{state_of, walk_of, Stand, StandsWith};
 ghost use Rattle.storage_swap.specs.Exchange.{Exchanges};
+ghost use Rattle.storage_swap.specs.Words.{words_after, HasPlace};
 
 use crate::storage::Parts;
 use raw_region::Parked;
 use run_set::Run;
 use std::mem;
 use storage_changes::{
-    AreaRecord, BytesRecord, ExtentRecord, OwnRecord, PagesRecord, QueuesRecord, Record,
-    RegisterRecord, RegistersRecord,
+    AreaRecord, BytesRecord, ExtentRecord, ObtainRecord, OwnRecord, PagesRecord, PlacedWord,
+    QueuesRecord, Record, RegisterRecord, RegistersRecord,
 };
 use subpool_storage::SubpoolStorage;
+
+/// What a record that is exchanged becomes, in words: one or two of them change, or all may.
+pub enum TurnedWords {
+    One(PlacedWord),
+    Two(PlacedWord, PlacedWord),
+    All([u32; 7]),
+}
 
 impl Parts {
     /// Exchanges a record with the storage: its places get its value, and the record with the value that they had is
@@ -80,36 +88,44 @@ impl Parts {
             Record::CellExtent(r) => Record::CellExtent(self.exchange_cell_extent(r)),
             Record::Cell(r) => Record::Cell(self.exchange_cell(r)),
             Record::Bytes(r) => Record::Bytes(self.exchange_bytes(r)),
+            Record::Obtain(r) => Record::Obtain(self.exchange_obtain(r)),
         }
     }
 
-    /// Exchanges a record given in words with the storage, and returns it in words: all words of most records stay
-    /// except one.
+    /// Exchanges a record given in words with the storage, and returns what it becomes: of most records all words stay
+    /// except one or two.
     pub fn exchange_words(
         &mut self,
         given: &mut Parked,
         parked: &mut SubpoolStorage,
         words: [u32; 7],
-    ) -> [u32; 7]
+    ) -> TurnedWords
         requires stands { StandsWith self.old parked.old }
         requires fits { (kept : ℕ) × (kept ≤ self.old.elements.spare)
             × Fits (walk_of self.old given.old parked.old kept) (record_of words) }
         ensures exchanges { Exchanges self.old self.new given.old given.new parked.old parked.new (record_of words) }
-        ensures turned { record_of result ≡ turned (state_of self.old) (record_of words) }
+        ensures turned { record_of (words_after words result) ≡ turned (state_of self.old) (record_of words) }
+        ensures place { HasPlace result }
     {
         if let Some(r) = RegisterRecord::in_words(words) {
             let turned = self.exchange_register(r);
-            return RegisterRecord::with_word(words, turned.word);
+            return TurnedWords::One(RegisterRecord::register_word(turned.word));
         }
         if let Some(r) = AreaRecord::in_words(words) {
             self.exchange_area(r);
-            return AreaRecord::with_free(words, !r.free);
+            return TurnedWords::One(AreaRecord::free_word(!r.free));
+        }
+        if let Some(r) = ObtainRecord::in_words(words) {
+            let turned = self.exchange_obtain(r);
+            let (free, word) = ObtainRecord::turned_words(turned.area.free, turned.register.word);
+            return TurnedWords::Two(free, word);
         }
         let change = Record::from_words(words);
-        self.exchange_record(given, parked, change).words()
+        TurnedWords::All(self.exchange_record(given, parked, change).words())
     }
 
     // The doublewords of an area become free, or taken.
+    #[inline(always)]
     fn exchange_area(&mut self, r: AreaRecord)
         requires stands { Stand self.old }
         requires fits { (given : List PageFrame) × (parked : TheParked) × (kept : ℕ)
@@ -123,6 +139,24 @@ impl Parts {
         } else {
             self.subpools
                 .carve_area(&mut self.elements, r.subpool, r.area);
+        }
+    }
+
+    // The doublewords of an area become free, or taken, and the register gets the word.
+    fn exchange_obtain(&mut self, r: ObtainRecord) -> ObtainRecord
+        requires fits { (given : List PageFrame) × (parked : TheParked) × (kept : ℕ) × StandsWith self.old parked
+            × (kept ≤ self.old.elements.spare) × ObtainFits (walk_of self.old given parked kept) r }
+        ensures exchanges { (given : List PageFrame) (parked : TheParked) → StandsWith self.old parked
+            → Exchanges self.old self.new given given parked parked (Obtain r) }
+        ensures turned { result ≡ turned_obtain (state_of self.old) r }
+    {
+        self.exchange_area(r.area);
+        ObtainRecord {
+            area: AreaRecord {
+                free: !r.area.free,
+                ..r.area
+            },
+            register: self.exchange_register(r.register),
         }
     }
 

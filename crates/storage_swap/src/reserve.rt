@@ -3,23 +3,20 @@
 
 ghost use Rattle.std.specs.Prelude.{◌≡◌, ℕ, ◌+◌, ◌^◌, ◌<◌, ◌≤◌, true, None, Some, [], length, IsTrue, IsOk};
 ghost use Rattle.std.specs.Prelude.{OnOk, IfOk, IfErr, IfSome};
-ghost use Rattle.vsm_elements.specs.Store.{made, live_count};
-ghost use Rattle.vsm_elements.specs.Chain.{owned, IsChain};
-ghost use Rattle.vsm_elements.specs.Ownership.{Leaves};
+ghost use Rattle.vsm_elements.specs.Store.{made, live_count, made_and_aside};
 ghost use Rattle.vsm_elements.specs.Owners.{Moves};
 ghost use Rattle.run_set.specs.Runs.{inside};
 ghost use Rattle.descriptor_queue.specs.Extents.{extents, IsExtents};
-ghost use Rattle.raw_region.specs.Pages.{has_segment, HaveTables};
+ghost use Rattle.raw_region.specs.Pages.{has_segment, HaveTables, SameTables};
 ghost use Rattle.subpool_storage.specs.Subpools.{Subpools, is_there};
 ghost use Rattle.subpool_storage.specs.SubpoolStorage.{subpools_of, hold as held_parked, Stands};
 ghost use Rattle.storage_changes.specs.Changes.{change_from};
 ghost use Rattle.storage_swap.specs.Storage.{hold, state_of, Stand, IsFrameless};
-ghost use Rattle.storage_swap.specs.Growth.{MakesElements, MakesFrames};
+ghost use Rattle.storage_swap.specs.Growth.{MakesElements, MakesForPages};
 ghost use Rattle.storage_swap.specs.Reserve.{Grown, Reserves, elements_for, emptied_extents, emptying, parked_under};
 
 use crate::chains::take_records;
 use crate::change::Change;
-use crate::records::settle;
 use crate::storage::Parts;
 use descriptor_queue::Extents;
 use run_set::Run;
@@ -27,7 +24,7 @@ use std::alloc::AllocError;
 use storage_changes::Record;
 use subpool_storage::SubpoolStorage;
 use subpool_storage::laws::{extents_are_few, subpools_are_there};
-use vsm_elements::{Chain, Elements};
+use vsm_elements::Elements;
 use vsm_model::Subpool;
 
 impl Change {
@@ -44,7 +41,7 @@ impl Change {
     ///
     /// It returns an error if memory is refused. What was made before that stays, as spare elements, spare frames and
     /// tables. If that many elements and frames are spare and the tables exist, it takes no memory. At most a block of
-    /// elements is made beyond what is needed, and no frame.
+    /// elements is made beyond what is needed, no frame, and a table only for a segment of these pages.
     pub fn reserve(
         storage: &mut Parts,
         emptied: Option<Subpool>,
@@ -70,7 +67,7 @@ impl Change {
             + elements_for (state_of storage.old).subpools emptied (length records.now) blanks) }
         ensures made { MakesElements storage.old.elements storage.new.elements
             (elements_for (state_of storage.old).subpools emptied (length records.now) blanks) }
-        ensures made_frames { MakesFrames storage.old.region storage.new.region fresh.len }
+        ensures made_for_pages { MakesForPages storage.old.region storage.new.region fresh }
         ensures needless { elements_for (state_of storage.old).subpools emptied (length records.now) blanks
             ≤ storage.old.elements.spare
             → fresh.len ≤ storage.old.region.spare → HaveTables storage.old.region fresh.start fresh.len
@@ -118,7 +115,7 @@ pub(crate) fn grow(storage: &mut Parts, elements: u32, fresh: Run) -> Result<(),
     ensures more { storage.old.elements.spare ≤ storage.new.elements.spare }
     ensures live { live_count storage.new.elements ≡ live_count storage.old.elements }
     ensures made { MakesElements storage.old.elements storage.new.elements elements }
-    ensures made_frames { MakesFrames storage.old.region storage.new.region fresh.len }
+    ensures made_for_pages { MakesForPages storage.old.region storage.new.region fresh }
     ensures elements { OnOk result (elements ≤ storage.new.elements.spare) }
     ensures frames { OnOk result (fresh.len ≤ storage.new.region.spare) }
     ensures tables { OnOk result (HaveTables storage.new.region fresh.start fresh.len) }
@@ -162,10 +159,12 @@ fn make(
         ≡ storage.old.elements.spare }
     ensures as_many { made storage.new.elements ≡ made storage.old.elements }
     ensures as_many_frames { storage.new.region.made ≡ storage.old.region.made }
+    ensures tables { SameTables storage.old.region storage.new.region }
 {
     subpools_are_there();
     let records = take_records(&mut storage.elements, emptied, pages, records);
-    let blanks = take_blanks(&mut storage.elements, pages.count() + blanks);
+    let blanks = pages.count() + blanks;
+    storage.elements.set_aside(blanks);
     let parked = park_empty(&mut storage.elements, emptied);
     let frames = storage.region.park_zeros(fresh.start, fresh.len);
     Change {
@@ -176,20 +175,6 @@ fn make(
     }
 }
 
-// This many blank elements.
-pub(crate) fn take_blanks(elements: &mut Elements, n: u32) -> Chain
-    requires room { n ≤ elements.old.spare }
-    ensures chain { IsChain elements.new result }
-    ensures owned { Leaves elements.old elements.new [] (owned elements.new result) }
-    ensures count { result.count ≡ n }
-    ensures spare { elements.new.spare + n ≡ elements.old.spare }
-{
-    let keep = elements.spare() - n;
-    let mut blanks = Chain::new();
-    settle(elements, &mut blanks, keep);
-    blanks
-}
-
 // An empty subpool of this name; none if none is emptied.
 fn park_empty(elements: &mut Elements, emptied: Option<Subpool>) -> SubpoolStorage
     requires range { IfSome emptied (λ p. (1 ≤ p.owner) × (p.owner ≤ 64) × (p.number ≤ 127)) }
@@ -198,7 +183,7 @@ fn park_empty(elements: &mut Elements, emptied: Option<Subpool>) -> SubpoolStora
     ensures subpools { subpools_of elements.new result ≡ parked_under emptied }
     ensures moves { Moves elements.old elements.new (λ i. 0) (λ i. held_parked elements.new result i) }
     ensures spare { elements.new.spare + length (emptying emptied []) ≡ elements.old.spare }
-    ensures as_many { made elements.new ≡ made elements.old }
+    ensures as_many { made_and_aside elements.new ≡ made_and_aside elements.old }
 {
     let mut parked = SubpoolStorage::new();
     if let Some(subpool) = emptied {

@@ -5,7 +5,7 @@ use Rattle.std.specs.Prelude.{map}
 use Rattle.vsm_elements.specs.Store.{Store, among}
 use Rattle.vsm_elements.specs.Ownership.{Apart}
 use Rattle.vsm_elements.specs.Chain.{Link}
-use Rattle.item_tree.specs.Trees.{items}
+use Rattle.row_table.specs.Trees.{items}
 use Rattle.row_table.specs.Keys.{links}
 use Rattle.row_table.proofs.KeyLemmas.{links_ascend}
 use Rattle.vsm_elements.proofs.ChainFrame.{false_if}

@@ -5,7 +5,7 @@ use Rattle.std.proofs.lemmas.Bool.{eq-eqb, eqb-true, cond-true, cond-false}
 use Rattle.vsm_elements.specs.Store.{Store}
 use Rattle.vsm_elements.proofs.ChainFrame.{false_if}
 use Rattle.subpool_set.proofs.KeyLemmas.{not_both}
-use Rattle.cell_pool.specs.Pools.{CellSettings}
+use Rattle.cell_pool.specs.declared.settings.CellSettings.{CellSettings}
 use Rattle.cell_pool.specs.Pools.{Pool, at_id, extended}
 use Rattle.cell_pool.specs.CellPools.{pool, by_id}
 use Rattle.cell_pool.specs.Laws.{AreOne}

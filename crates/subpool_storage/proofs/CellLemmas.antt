@@ -12,7 +12,7 @@ use Rattle.cell_pool.specs.declared.pools.CellPools.{CellPools}
 use Rattle.vsm_model.specs.declared.Subpool.{Subpool}
 use Rattle.cell_pool.specs.Named.{AreNamed}
 use Rattle.cell_pool.specs.Pools.{Pool, lies_in, holds_of, either_of, exchanged, extended, retracted, IsExtended, GoTogether}
-use Rattle.cell_pool.specs.Pools.{Extent}
+use Rattle.cell_pool.specs.declared.settings.Extent.{Extent}
 use Rattle.cell_pool.specs.CellPools.{pool, by_id, owned, IsCellPools}
 use Rattle.cell_pool.specs.Laws.{AreOne}
 use Rattle.cell_pool.proofs.LawLemmas.{pools_are_one, some_extent, last_is}

@@ -14,11 +14,10 @@ use Rattle.subpool_storage.specs.declared.storage.SubpoolStorage.{SubpoolStorage
 use Rattle.subpool_storage.specs.SubpoolStorage.{page_in, free_in, subpools_of, hold_queues, hold, Stands, Becomes}
 use Rattle.subpool_storage.proofs.SubpoolLemmas.{same_subpools}
 use Rattle.vsm_elements.proofs.MoveLemmas.{none-or-some, others-kept}
-use Rattle.vsm_model.specs.declared.Subpool.{Subpool}
 use Rattle.vsm_model.specs.Search.{holds}
 use Rattle.subpool_set.proofs.KeyLemmas.{eqb_refl, none_some}
 use Rattle.subpool_set.proofs.LawLemmas.{sets_stand, sights_are_in_range}
-use Rattle.subpool_storage.specs.Subpools.{Subpools, is_there}
+use Rattle.subpool_storage.specs.Subpools.{Subpools}
 use Rattle.cell_pool.specs.Laws.{AreSame}
 use Rattle.cell_pool.proofs.LawLemmas.{pools_are_one, pools_have_cells, ids_are_small, names_are_single}
 use Rattle.subpool_storage.specs.Laws.{StorageOwns, SubpoolsAreThere, StorageStays, CellPoolsAreNamed, PoolsAreHeld}

@@ -1,6 +1,6 @@
 -- What a call on the set and its queues leaves of the whole, and what one on cell pools does.
 use Rattle.std.proofs.Common.{◌≡◌, ℕ, ◌+◌, ◌<◌, ◌≤◌, true, [], ◌++◌, Option, IsSome, Some, refl, sym, ap, ◌∙◌, arith, subst}
-use Rattle.vsm_elements.specs.Store.{Store, at, among, made}
+use Rattle.vsm_elements.specs.Store.{Store, at, among, made_and_aside}
 use Rattle.vsm_elements.specs.Ownership.{Leaves}
 use Rattle.vsm_elements.specs.Owners.{times, Moves}
 use Rattle.vsm_elements.proofs.TimesLemmas.{times-append, times-some, some-from, times-once}
@@ -41,7 +41,7 @@ pub record SetSame (s t : Store) (q : SubpoolStorage) : Type 0 where
 pub record SetBecomes (s t : Store) (q r : SubpoolStorage) (m : Subpools) : Type 0 where
   pub stands : SetStands t r
   pub moves : Moves s t (hold_queues s q) (hold_queues t r)
-  pub as_many : made t ≡ made s
+  pub as_many : made_and_aside t ≡ made_and_aside s
   pub sights : (a b : ℕ) → sight t r.set a b ≡ m.sight a b
   pub pages : (p : Subpool) (x : ℕ) → page_in t (pool t r.set p.number p.owner) x ≡ m.pages p x
   pub free : (p : Subpool) (d : ℕ) → free_in t (pool t r.set p.number p.owner) d ≡ m.free p d

@@ -2,7 +2,7 @@
 --
 -- The definitions are closed, so that nothing above depends on how the subpools are kept in the elements.
 use Rattle.std.specs.Prelude.{◌≡◌, ℕ, ◌+◌, ◌≤◌, Bool, false, List, map, Option, Some, None}
-use Rattle.vsm_elements.specs.Store.{Store, made}
+use Rattle.vsm_elements.specs.Store.{Store, made_and_aside}
 use Rattle.vsm_elements.specs.Owners.{times, Moves}
 use Rattle.descriptor_queue.specs.Extents.{has_page}
 use Rattle.free_queue.specs.FreeQueue.{is_free}
@@ -86,5 +86,5 @@ sharers_left s q place p = SubpoolSet.sharers_left s q.set place p.number p.owne
 pub record Becomes (s t : Store) (q r : SubpoolStorage) (m : Subpools) : Type 0 where
   pub stands : Stands t r
   pub moves : Moves s t (hold s q) (hold t r)
-  pub as_many : made t ≡ made s
+  pub as_many : made_and_aside t ≡ made_and_aside s
   pub subpools : subpools_of t r ≡ m

@@ -7,7 +7,8 @@ use Rattle.vsm_model.specs.declared.Subpool.{Subpool}
 use Rattle.vsm_model.specs.Passing.{sight_after_gift}
 use Rattle.vsm_model.specs.Search.{holds}
 use Rattle.vsm_model.specs.Subpools.{same_subpool}
-use Rattle.cell_pool.specs.Pools.{Pool, CellSettings, cells_from, at_id, handed_on, exchanged, lies_in}
+use Rattle.cell_pool.specs.declared.settings.CellSettings.{CellSettings}
+use Rattle.cell_pool.specs.Pools.{Pool, cells_from, at_id, handed_on, exchanged, lies_in}
 
 -- A set is its test: equal subpools are equal at every place.
 pub record Subpools : Type 0 where

@@ -2,7 +2,7 @@
 
 ghost use Rattle.std.specs.Prelude.{◌≡◌, ℕ, ◌+◌, ◌*◌, ◌≤◌, ◌<◌, ◌^◌, ◌∷◌, true, false, None, Some, IsSome, IfSome};
 ghost use Rattle.std.specs.Prelude.{slice_get, option_map, if◌then◌else◌};
-ghost use Rattle.vsm_elements.specs.Store.{made};
+ghost use Rattle.vsm_elements.specs.Store.{made_and_aside};
 ghost use Rattle.vsm_elements.specs.Owners.{times, Moves};
 ghost use Rattle.cell_pool.specs.CellPools.{by_id, owned as cells_own, IsCellPools};
 ghost use Rattle.cell_pool.specs.Pools.{Pool, uses, meets, without_first, with_first, extended, retracted};
@@ -154,7 +154,7 @@ impl SubpoolStorage {
             (λ i. hold elements.old self.old i + hold elements.old others.old i)
             (λ i. hold elements.new self.new i + hold elements.new others.new i) }
         ensures spares { elements.new.spare ≡ elements.old.spare }
-        ensures as_many { made elements.new ≡ made elements.old }
+        ensures as_many { made_and_aside elements.new ≡ made_and_aside elements.old }
     {
         self.cells.exchange_pool(elements, id, &mut others.cells);
     }

@@ -1,5 +1,5 @@
 ghost use Rattle.std.specs.Prelude.{◌≡◌, ◌≢◌, ℕ, ◌+◌, ◌^◌, ◌<◌, ◌≤◌, true, false, Some, None};
-ghost use Rattle.vsm_elements.specs.Store.{Store, made};
+ghost use Rattle.vsm_elements.specs.Store.{Store, made_and_aside};
 ghost use Rattle.vsm_elements.specs.Owners.{Moves};
 ghost use Rattle.run_set.specs.Runs.{AllIn, NoneIn};
 ghost use Rattle.run_set.specs.Counts.{joins};
@@ -231,7 +231,7 @@ impl SubpoolStorage {
             (λ i. hold elements.old self.old i + hold elements.old others.old i)
             (λ i. hold elements.new self.new i + hold elements.new others.new i) }
         ensures spares { elements.new.spare ≡ elements.old.spare }
-        ensures as_many { made elements.new ≡ made elements.old }
+        ensures as_many { made_and_aside elements.new ≡ made_and_aside elements.old }
     {
         let id = self.id(elements, subpool);
         let other = others.id(elements, subpool);

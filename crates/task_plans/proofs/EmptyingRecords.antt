@@ -1,5 +1,5 @@
 -- The records of one row of sight, if the task owns what it sees, and if it doesn't.
-use Rattle.std.proofs.Common.{◌≡◌, ℕ, Bool, true, false, List, [], ◌∷◌, sym, ap, ◌∙◌}
+use Rattle.std.proofs.Common.{◌≡◌, ℕ, Bool, true, false, List, [], ◌∷◌, ◌++◌, sym, ap, ◌∙◌}
 use Rattle.std.specs.Prelude.{map, if◌then◌else◌}
 use Rattle.std.specs.List.{flat_map}
 use Rattle.std.proofs.lemmas.List.{append-nil}
@@ -7,10 +7,20 @@ use Rattle.vsm_model.specs.declared.Subpool.{Subpool}
 use Rattle.vsm_model.specs.Search.{is_in}
 use Rattle.subpool_storage.specs.Extents.{extents}
 use Rattle.subpool_storage.specs.Subpools.{Subpools}
+use Rattle.storage_changes.specs.declared.record.Record.{Record}
 use Rattle.storage_changes.specs.declared.record.Record.TheVariants.{Queues}
 use Rattle.storage_changes.specs.Changes.{unassigned_records}
 use Rattle.storage_changes.specs.State.{StorageState}
+use Rattle.storage_swap.specs.declared.storage.Parts.{Parts}
+use Rattle.storage_swap.specs.Storage.{state_of}
+use Rattle.storage_swap.specs.declared.builder.ChangeBuilder.{ChangeBuilder}
+use Rattle.storage_swap.specs.Builder.{IsBuilding}
+use Rattle.task_plans.proofs.Steps.{Next, first_is}
 use Rattle.storage_changes.specs.Ending.{SightRow, is_own, owned_in, emptying_records, sharer_rows, rows_with}
+
+-- what follows the queues of a subpool whose storage moves into the change
+abbrev pub behind_queues : Subpool → StorageState → List Record
+behind_queues p m = unassigned_records (extents m.subpools p)
 
 module _ (row : SightRow) where
   abbrev its : Bool → List Subpool
@@ -22,8 +32,12 @@ module _ (row : SightRow) where
   pub not_own : false ≡ is_own row → owned_in (row ∷ []) ≡ []
   not_own is = ap its (sym is)
 
-  pub emptied : (m : StorageState) → true ≡ is_own row → flat_map (emptying_records m.subpools) (owned_in (row ∷ [])) ≡ Queues (record { subpool = row.0 }) ∷ unassigned_records (extents m.subpools row.0)
-  emptied m is = ap (flat_map (emptying_records m.subpools)) (own_is is) ∙ append-nil (Queues (record { subpool = row.0 }) ∷ unassigned_records (extents m.subpools row.0))
+  pub to_queues : {s : Parts} {a : ChangeBuilder} → IsBuilding s a → true ≡ is_own row
+      → Next s a (flat_map (emptying_records (state_of s).subpools) (owned_in (row ∷ []))) s a (Queues (record { subpool = row.0 }) ∷ []) (behind_queues row.0 (state_of s))
+  to_queues {s} building is =
+      let m = state_of s in
+      let first : List Record = Queues (record { subpool = row.0 }) ∷ [] in
+      first_is building first (behind_queues row.0 m) (ap (flat_map (emptying_records m.subpools)) (own_is is) ∙ append-nil (first ++ behind_queues row.0 m))
 
 -- what is removed with a row of a task that ends, in each of the three cases
 module _ (m : Subpools) (ended : List ℕ) (row : SightRow) where

@@ -9,14 +9,14 @@ mod OwnedNames
 mod SightLemmas
 mod EndingTasks
 mod Unshared
+mod Steps
 mod Walks
+mod EndedWalks
 mod Parks
 mod Reservations
-mod TwoSteps
 mod ShareRecords
 mod GiftRecords
 mod EmptyingRecords
-mod FourSteps
 mod RestRecords
 mod AttachRecords
 mod EndRecords

@@ -1,20 +1,10 @@
 -- The parents that were read into an array.
-use Rattle.std.proofs.Common.{◌≡◌, ◌≢◌, ℕ, suc, ◌+◌, ◌<◌, ◌≤◌, nat_lt, Bool, true, false, ◌⊎◌, inl, inr, List, length, Option, Some, None, IsSome, refl, sym, ap, ◌∙◌, subst, arith}
+use Rattle.std.proofs.Common.{◌≡◌, ◌≢◌, ℕ, ◌+◌, ◌<◌, ◌≤◌, Bool, ◌⊎◌, inl, inr, List, length, Option, Some, None, IsSome, refl, sym, ap, ◌∙◌, subst, arith}
 use Rattle.std.specs.Prelude.{if◌then◌else◌, unwrap_or, slice_index_or, slice_set}
 use Rattle.std.proofs.lemmas.List.{get_or-set_same, get_or-set_other, length-set}
-use Rattle.std.proofs.lemmas.Bool.Decides.{eqb_tells, leb_tells}
+use Rattle.std.proofs.lemmas.Bool.Decides.{eqb_tells}
 use Rattle.storage_changes.specs.State.{StorageState}
 use Rattle.task_plans.specs.Parents.{present, AreParents}
-
-lt_tells : (t m : ℕ) → ((nat_lt t m ≡ true) × (t < m)) ⊎ ((nat_lt t m ≡ false) × (m ≤ t))
-lt_tells t m = elim (leb_tells (suc t) m) [
-  | inl z ↦ inl (z.0, omega (arith, z.1))
-  | inr z ↦ inr (z.0, omega (arith, z.1))
-]
-
-none_some : (o : Option ℕ) → o ≡ None → IsSome o → ⊥
-none_some None e h = cc
-none_some (Some x) e h = cc
 
 pub outside : (f : ℕ → Option ℕ) → ((t : ℕ) → IsSome (f t) → (1 ≤ t) × (t ≤ 64)) → (t : ℕ) → (t ≡ 0) ⊎ (65 ≤ t) → f t ≡ None
 outside f range t out = go (f t) refl where
@@ -57,25 +47,6 @@ one_more f xs task i v is len low done here = (
   length-set xs i v ∙ len,
   (let P : ℕ → Type 0 = λ j. (t : ℕ) → t < task + 1 → f t ≡ present (slice_index_or (slice_set xs j v) t 255) in subst P (sym is) (more f xs task v len low done here)),
 )
-
-pub all_read : (f : ℕ → Option ℕ) (xs : List ℕ) → ((t : ℕ) → IsSome (f t) → (1 ≤ t) × (t ≤ 64)) → ((t : ℕ) → t < 65 → f t ≡ present (slice_index_or xs t 255)) → AreParents xs f
-all_read f xs range done t = elim (lt_tells t 65) [
-  | inl z ↦ done t z.1 ∙ sym (ap (λ (b : Bool). if b then present (slice_index_or xs t 255) else None) z.0)
-  | inr z ↦ outside f range t (inr z.1) ∙ sym (ap (λ (b : Bool). if b then present (slice_index_or xs t 255) else None) z.0)
-]
-
--- a look-up
-pub read_none : (f : ℕ → Option ℕ) (xs : List ℕ) → AreParents xs f → (t : ℕ) → 65 ≤ t → None ≡ f t
-read_none f xs h t high = elim (lt_tells t 65) [
-  | inl z ↦ absurd (omega (arith, z.1, high))
-  | inr z ↦ sym (h t ∙ ap (λ (b : Bool). if b then present (slice_index_or xs t 255) else None) z.0)
-]
-
-pub read_is : (f : ℕ → Option ℕ) (xs : List ℕ) → AreParents xs f → (t v : ℕ) → t < 65 → slice_index_or xs t 255 ≡ v → present v ≡ f t
-read_is f xs h t v low e = elim (lt_tells t 65) [
-  | inl z ↦ sym (h t ∙ ap (λ (b : Bool). if b then present (slice_index_or xs t 255) else None) z.0 ∙ ap present e)
-  | inr z ↦ absurd (omega (arith, z.1, low))
-]
 
 -- the parents of a storage whose state is the same
 pub still : (xs : List ℕ) (m k : StorageState) → k ≡ m → AreParents xs m.tasks.parents → AreParents xs k.tasks.parents

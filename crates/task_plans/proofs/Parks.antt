@@ -101,69 +101,68 @@ pub record ParksLead (top : ℕ) (s : Parts) (a : ChangeBuilder) (t : Parts) (b 
   pub live : live_count t.elements + length (owned_in (seen_left (state_of s) top place)) ≤ live_count s.elements + length (parks_all (state_of s) top)
   pub made : MakesElements s.elements t.elements (length (parks_all (state_of s) top))
 
-module _ (top : ℕ) (s : Parts) (a : ChangeBuilder) where
+pub parks_none : {s : Parts} {a : ChangeBuilder} (top : ℕ) (place : SightPlace) → IsBuilding s a → seen_left (state_of s) top place ≡ seen_by_these (state_of s).subpools (ended_below (state_of s).tasks.parents top)
+    → CanPark (parked_in s a) (parks_all (state_of s) top) → ParksLead top s a s a place
+parks_none {s} {a} top place building all can =
+    let P : List SightRow → Type 0 = λ xs. CanPark (parked_in s a) (owned_in xs) in
+    record {
+      builds = builds-none s a building;
+      records = refl;
+      parked = ap (λ (xs : List SightRow). parked_onto (parked_in s a) (owned_in xs)) all;
+      can = subst P (sym all) can;
+      spare = omega (arith, ap (λ (xs : List SightRow). length (owned_in xs)) all);
+      live = omega (arith, ap (λ (xs : List SightRow). length (owned_in xs)) all);
+      made = omega arith;
+    }
+
+module _ {top : ℕ} {s t : Parts} {a b : ChangeBuilder} {place : SightPlace} (w : ParksLead top s a t b place) where
   abbrev left : SightPlace → List Subpool
   left place = owned_in (seen_left (state_of s) top place)
 
-  pub parks_none : (place : SightPlace) → IsBuilding s a → seen_left (state_of s) top place ≡ seen_by_these (state_of s).subpools (ended_below (state_of s).tasks.parents top)
-      → CanPark (parked_in s a) (parks_all (state_of s) top) → ParksLead top s a s a place
-  parks_none place building all can =
-      let P : List SightRow → Type 0 = λ xs. CanPark (parked_in s a) (owned_in xs) in
+  same-rows : (place : SightPlace) → seen_left (state_of t) top place ≡ seen_left (state_of s) top place
+  same-rows place = ap (λ (m : StorageState). seen_left m top place) w.builds.keeps.shows
+
+  pub parks_done : seen_left (state_of t) top place ≡ [] → ParksAll s a (parks_all (state_of s) top) t b
+  parks_done none =
+      let is : left place ≡ [] = ap owned_in (sym (same-rows place) ∙ none) in
       record {
-        builds = builds-none s a building;
-        records = refl;
-        parked = ap (λ (xs : List SightRow). parked_onto (parked_in s a) (owned_in xs)) all;
-        can = subst P (sym all) can;
-        spare = omega (arith, ap (λ (xs : List SightRow). length (owned_in xs)) all);
-        live = omega (arith, ap (λ (xs : List SightRow). length (owned_in xs)) all);
-        made = omega arith;
+        records = w.records;
+        parked = ap (parked_onto (parked_in t b)) (sym is) ∙ w.parked;
+        spare = omega (arith, w.spare, ap length is);
+        live = omega (arith, w.live, ap length is);
+        made = w.made;
       }
 
-  module _ (t : Parts) (b : ChangeBuilder) (place : SightPlace) (w : ParksLead top s a t b place) where
-    same-rows : (place : SightPlace) → seen_left (state_of t) top place ≡ seen_left (state_of s) top place
-    same-rows place = ap (λ (m : StorageState). seen_left m top place) w.builds.keeps.shows
+  -- the next one
+  module _ (next : SightPlace) {x : SightRow} (is : seen_left (state_of t) top place ≡ x ∷ seen_left (state_of t) top next) where
+    abbrev added : List Subpool
+    added = owned_in (x ∷ [])
 
-    pub parks_done : seen_left (state_of t) top place ≡ [] → ParksAll s a (parks_all (state_of s) top) t b
-    parks_done none =
-        let is : left place ≡ [] = ap owned_in (sym (same-rows place) ∙ none) in
+    front : left place ≡ added ++ left next
+    front = ap owned_in (sym (same-rows place) ∙ is ∙ ap (λ (z : List SightRow). x ∷ z) (same-rows next)) ∙ owned_first x (seen_left (state_of s) top next)
+
+    pub parks_can : CanPark (parked_in t b) added
+    parks_can = let P : List Subpool → Type 0 = CanPark (parked_in t b) in can-front (parked_in t b) added (left next) (subst P front w.can)
+
+    pub parks_room : length (parks_all (state_of s) top) ≤ s.elements.spare → length added ≤ t.elements.spare
+    parks_room room = omega (arith, room, w.spare, ap length front, length-append added (left next))
+
+    pub parks_refused : (e : Store) → MakesElements t.elements e (length added) → MakesElements s.elements e (length (parks_all (state_of s) top))
+    parks_refused e =
+        makes-follow (made s.elements) (made t.elements) (made e) (live_count s.elements) (live_count t.elements)
+        (length (parks_all (state_of s) top)) (length added) (length (parks_all (state_of s) top)) w.made (omega (arith, w.live, ap length front, length-append added (left next))) (omega arith)
+
+    pub parks_more : {u : Parts} {c : ChangeBuilder} → Builds t b u c → ParksAll t b added u c → ParksLead top s a u c next
+    parks_more {u} {c} builds all =
+        let P : List Subpool → Type 0 = CanPark (parked_in t b) in
+        let R : Subpools → Type 0 = λ m. CanPark m (left next) in
         record {
-          records = w.records;
-          parked = ap (parked_onto (parked_in t b)) (sym is) ∙ w.parked;
-          spare = omega (arith, w.spare, ap length is);
-          live = omega (arith, w.live, ap length is);
-          made = w.made;
+          builds = builds-follow s t u a b c w.builds builds;
+          records = all.records ∙ w.records;
+          parked = ap (λ (m : Subpools). parked_onto m (left next)) all.parked ∙ sym (onto-more (parked_in t b) added (left next)) ∙ ap (parked_onto (parked_in t b)) (sym front) ∙ w.parked;
+          can = subst R (sym all.parked) (can-rest (parked_in t b) added (left next) (subst P front w.can));
+          spare = omega (arith, w.spare, all.spare, ap length front, length-append added (left next));
+          live = omega (arith, w.live, all.live, ap length front, length-append added (left next));
+          made = makes-follow (made s.elements) (made t.elements) (made u.elements) (live_count s.elements) (live_count t.elements)
+              (length (parks_all (state_of s) top)) (length added) (length (parks_all (state_of s) top)) w.made (omega (arith, w.live, ap length front, length-append added (left next))) (omega arith) all.made;
         }
-
-    -- the next one
-    module _ (next : SightPlace) (x : SightRow) (is : seen_left (state_of t) top place ≡ x ∷ seen_left (state_of t) top next) where
-      abbrev added : List Subpool
-      added = owned_in (x ∷ [])
-
-      front : left place ≡ added ++ left next
-      front = ap owned_in (sym (same-rows place) ∙ is ∙ ap (λ (z : List SightRow). x ∷ z) (same-rows next)) ∙ owned_first x (seen_left (state_of s) top next)
-
-      pub parks_can : CanPark (parked_in t b) added
-      parks_can = let P : List Subpool → Type 0 = CanPark (parked_in t b) in can-front (parked_in t b) added (left next) (subst P front w.can)
-
-      pub parks_room : length (parks_all (state_of s) top) ≤ s.elements.spare → length added ≤ t.elements.spare
-      parks_room room = omega (arith, room, w.spare, ap length front, length-append added (left next))
-
-      pub parks_refused : (e : Store) → MakesElements t.elements e (length added) → MakesElements s.elements e (length (parks_all (state_of s) top))
-      parks_refused e =
-          makes-follow (made s.elements) (made t.elements) (made e) (live_count s.elements) (live_count t.elements)
-          (length (parks_all (state_of s) top)) (length added) (length (parks_all (state_of s) top)) w.made (omega (arith, w.live, ap length front, length-append added (left next))) (omega arith)
-
-      pub parks_more : (u : Parts) (c : ChangeBuilder) → Builds t b u c → ParksAll t b added u c → ParksLead top s a u c next
-      parks_more u c builds all =
-          let P : List Subpool → Type 0 = CanPark (parked_in t b) in
-          let R : Subpools → Type 0 = λ m. CanPark m (left next) in
-          record {
-            builds = builds-follow s t u a b c w.builds builds;
-            records = all.records ∙ w.records;
-            parked = ap (λ (m : Subpools). parked_onto m (left next)) all.parked ∙ sym (onto-more (parked_in t b) added (left next)) ∙ ap (parked_onto (parked_in t b)) (sym front) ∙ w.parked;
-            can = subst R (sym all.parked) (can-rest (parked_in t b) added (left next) (subst P front w.can));
-            spare = omega (arith, w.spare, all.spare, ap length front, length-append added (left next));
-            live = omega (arith, w.live, all.live, ap length front, length-append added (left next));
-            made = makes-follow (made s.elements) (made t.elements) (made u.elements) (live_count s.elements) (live_count t.elements)
-                (length (parks_all (state_of s) top)) (length added) (length (parks_all (state_of s) top)) w.made (omega (arith, w.live, ap length front, length-append added (left next))) (omega arith) all.made;
-          }

@@ -1,5 +1,5 @@
 -- The records of an end that follow the turn.
-use Rattle.std.proofs.Common.{◌≡◌, ℕ, ◌≤◌, List, [], ◌∷◌, length, sym, subst, Result, OnErr}
+use Rattle.std.proofs.Common.{◌≡◌, ℕ, List, [], ◌∷◌, ◌++◌, sym, ap, ◌∙◌, subst}
 use Rattle.std.specs.List.{flat_map}
 use Rattle.vsm_model.specs.declared.replies.Reply.{Reply}
 use Rattle.vsm_model.specs.declared.replies.Reply.TheVariants.{Returned}
@@ -7,50 +7,43 @@ use Rattle.storage_changes.specs.declared.record.Record.{Record}
 use Rattle.storage_changes.specs.State.{StorageState}
 use Rattle.storage_changes.specs.StorageActions.{register_records, set_records}
 use Rattle.storage_changes.specs.Ending.{ended_below, ended_records, removed_records, unshared_records, with_turn}
+use Rattle.storage_swap.specs.declared.storage.Parts.{Parts}
+use Rattle.storage_swap.specs.Storage.{state_of}
+use Rattle.storage_swap.specs.declared.builder.ChangeBuilder.{ChangeBuilder}
+use Rattle.storage_swap.specs.Builder.{IsBuilding, Pushes}
 use Rattle.task_plans.specs.declared.end.EndPlan.{EndPlan}
 use Rattle.task_plans.specs.TaskPlans.{end_registers, rest_records}
-use Rattle.storage_swap.specs.Growth.{MakesElements}
-use Rattle.vsm_elements.specs.Store.{Store}
-
--- the plan of what ends with this task
-abbrev pub with_top : EndPlan → ℕ → EndPlan
-with_top plan top = record plan { top = top }
-
-module _ (plan : EndPlan) (top : ℕ) (is : top ≡ plan.top) where
-  pub same_plan : with_top plan top ≡ plan
-  same_plan = λ i. record plan { top = is i }
-
-  pub same_room : (m : StorageState) {n : ℕ} → length (rest_records m plan) ≤ n → length (rest_records m (with_top plan top)) ≤ n
-  same_room m {n} room = let P : EndPlan → Type 0 = λ plan. length (rest_records m plan) ≤ n in subst P (sym same_plan) room
-
-  pub same_refused : (m : StorageState) (s e : Store) → MakesElements s e (length (rest_records m (with_top plan top))) → MakesElements s e (length (rest_records m plan))
-  same_refused m s e = let P : EndPlan → Type 0 = λ plan. MakesElements s e (length (rest_records m plan)) in subst P same_plan
+use Rattle.task_plans.proofs.RecordCounts.{four_together, no_register}
+use Rattle.task_plans.proofs.Steps.{Next, first_is, none_last}
 
 -- the four kinds of them
-module _ (plan : EndPlan) where
+module _ (top : ℕ) where
   abbrev pub unseen : StorageState → List Record
-  unseen m = unshared_records m.subpools (ended_below m.tasks.parents plan.top)
+  unseen m = unshared_records m.subpools (ended_below m.tasks.parents top)
 
   abbrev pub gone : StorageState → List Record
-  gone m = removed_records m.subpools (ended_below m.tasks.parents plan.top)
+  gone m = removed_records m.subpools (ended_below m.tasks.parents top)
 
   abbrev pub tasks : StorageState → List Record
-  tasks m = flat_map (ended_records m) (ended_below m.tasks.parents plan.top)
+  tasks m = flat_map (ended_records m) (ended_below m.tasks.parents top)
 
-  abbrev pub registers : StorageState → List Record
-  registers m = register_records (with_turn m plan.next) (end_registers plan.reply)
+abbrev pub registers : EndPlan → StorageState → List Record
+registers plan m = register_records (with_turn m plan.next) (end_registers plan.reply)
 
-  -- the return code
-  abbrev pub returned : StorageState → ℕ → List Record
-  returned m code = set_records plan.next (m.tasks.words plan.next) ((15, code) ∷ [])
+-- the tasks of the subtree no longer see subpools at first
+pub to_unseen : {s : Parts} {a : ChangeBuilder} (plan : EndPlan) (top : ℕ) → top ≡ plan.top → IsBuilding s a
+    → Next s a (rest_records (state_of s) plan) s a (unseen top (state_of s)) (gone top (state_of s) ++ (tasks top (state_of s) ++ registers plan (state_of s)))
+to_unseen {s} plan top is building =
+    let m = state_of s in
+    let each : ℕ → List Record = λ n. unseen n m ++ gone n m ++ tasks n m ++ registers plan m in
+    first_is building (unseen top m) (gone top m ++ (tasks top m ++ registers plan m)) (ap each (sym is) ∙ four_together (unseen top m) (gone top m) (tasks top m) (registers plan m))
 
-  -- if one is returned, it's all of the registers
-  pub register_room : (m : StorageState) (code : ℕ) → plan.reply ≡ Returned code → {n : ℕ} → length (registers m) ≤ n → length (returned m code) ≤ n
-  register_room m code is {n} room =
-      let P : Reply → Type 0 = λ reply. length (register_records (with_turn m plan.next) (end_registers reply)) ≤ n in
-      subst P is room
+module _ {s t : Parts} {a b : ChangeBuilder} {all : List Record} (plan : EndPlan) (m : StorageState) (n : Next s a all t b (registers plan m) []) where
+  -- a return code is all of the registers, or there are none
+  pub to_code : (code : ℕ) → plan.reply ≡ Returned code → Next s a all t b (set_records plan.next (m.tasks.words plan.next) ((15, code) ∷ [])) []
+  to_code code is =
+      let P : Reply → Type 0 = λ reply. Next s a all t b (register_records (with_turn m plan.next) (end_registers reply)) [] in
+      subst P is n
 
-  pub register_refused : {E : Type 0} (m : StorageState) (code : ℕ) → plan.reply ≡ Returned code → (s e : Store) (r : Result (Unit {0}) E) → OnErr r (MakesElements s e (length (returned m code))) → OnErr r (MakesElements s e (length (registers m)))
-  register_refused m code is s e r =
-      let P : Reply → Type 0 = λ reply. OnErr r (MakesElements s e (length (register_records (with_turn m plan.next) (end_registers reply)))) in
-      subst P (sym is)
+  pub no_code : ((code : ℕ) → plan.reply ≡ Returned code → ⊥) → Pushes s a all t b
+  no_code none = none_last n (ap (register_records (with_turn m plan.next)) (no_register plan.reply none))

@@ -1,9 +1,10 @@
 -- Numbers digit by digit.
 use Rattle.std.proofs.Common.{◌≡◌, ℕ, zero, suc, ◌+◌, ◌-◌, ◌*◌, ◌/◌, ◌%◌, ◌^◌, ◌<◌, ◌≤◌, ◌⊎◌, inl, inr, true, false, cond, List, [], ◌∷◌, ◌++◌, length, take, drop, set, get_or, min, replicate, subst, sym, ◌∙◌, ap, refl, arith, append_assoc}
+use Rattle.std.proofs.Math.Seq.{take-append_seam}
 use Rattle.std.proofs.lemmas.Bool.{cases_lt, eq-eqb, ne_eqb}
 use Rattle.std.proofs.lemmas.Fmt.{hex_byte}
 use Rattle.std.proofs.lemmas.Grind.{flat_map-append}
-use Rattle.std.proofs.lemmas.List.{append-nil, length-append, length-set, drop-set, take-append-drop, take_more, take_more_set, replicate-append-replicate, length-replicate}
+use Rattle.std.proofs.lemmas.List.{append-nil, length-append, length-take-le, drop-set, take-append-drop, take_more, replicate-append-replicate, length-replicate}
 use Rattle.std.specs.Fmt.{decimal, digits, digits_onto, digit_glyph, padded_integral, format_spec, char_count}
 use Rattle.std.specs.List.{flat_map}
 use Rattle.vsm_model.specs.Texts.{hexadecimal, padded_decimal}
@@ -104,32 +105,33 @@ hexadecimal_more width n some small = elim (cases_lt n 16) [
   | inr large ↦ hexadecimal_large width n large (omega arith)
 ]
 
--- the digits of a number, the last after the others
-one_more : (width n : ℕ) (front : List ℕ) → 1 < width → n < 2 ^ 32 → hexadecimal (width - 1) (n / 16) ≡ front → hexadecimal width n ≡ front ++ glyph n ∷ []
-one_more width n front wide small e = hexadecimal_more width n (inl wide) small ∙ ap (λ x. x ++ glyph n ∷ []) e
+-- the last two digits after the others
+two_more : (width n : ℕ) → 2 < width → n < 2 ^ 32 → hexadecimal width n ≡ hexadecimal (width - 2) (n / 256) ++ hexadecimal 2 (n % 256)
+two_more width n wide small =
+    let next : n / 16 / 16 ≡ n / 256 = omega arith in
+    let less : width - 1 - 1 ≡ width - 2 = omega arith in
+    let high : n / 16 % 16 ≡ n % 256 / 16 = omega arith in
+    let low : n % 16 ≡ n % 256 % 16 = omega arith in
+    hexadecimal_more width n (inl (omega arith)) small
+    ∙ ap (λ x. x ++ glyph n ∷ []) (hexadecimal_more (width - 1) (n / 16) (inl (omega arith)) (omega (arith, small)))
+    ∙ append_assoc (hexadecimal (width - 1 - 1) (n / 16 / 16)) (glyph (n / 16) ∷ []) (glyph n ∷ [])
+    ∙ (λ i. hexadecimal (less i) (next i) ++ digit_glyph true (high i) ∷ digit_glyph true (low i) ∷ [])
+    ∙ ap (λ x. hexadecimal (width - 2) (n / 256) ++ x) (sym (hex_byte true (n % 256) (omega arith)))
 
--- a word's digits, each by the number that remains without those after it
-by_remains : (a b c d e f g h : ℕ) → h < 2 ^ 32 → g ≡ h / 16 → f ≡ g / 16 → e ≡ f / 16 → d ≡ e / 16 → c ≡ d / 16 → b ≡ c / 16 → a ≡ b / 16
-    → hexadecimal 8 h ≡ glyph a ∷ glyph b ∷ glyph c ∷ glyph d ∷ glyph e ∷ glyph f ∷ glyph g ∷ glyph h ∷ []
-by_remains a b c d e f g h small to_g to_f to_e to_d to_c to_b to_a =
-    one_more 8 h _ (omega arith) small (ap (hexadecimal 7) (sym to_g)
-    ∙ one_more 7 g _ (omega arith) (omega arith) (ap (hexadecimal 6) (sym to_f)
-    ∙ one_more 6 f _ (omega arith) (omega arith) (ap (hexadecimal 5) (sym to_e)
-    ∙ one_more 5 e _ (omega arith) (omega arith) (ap (hexadecimal 4) (sym to_d)
-    ∙ one_more 4 d _ (omega arith) (omega arith) (ap (hexadecimal 3) (sym to_c)
-    ∙ one_more 3 c _ (omega arith) (omega arith) (ap (hexadecimal 2) (sym to_b)
-    ∙ one_more 2 b _ (omega arith) (omega arith) (ap (hexadecimal 1) (sym to_a)
-    ∙ hexadecimal_one 1 a (omega arith) (omega arith))))))))
-
--- The eight digits of a word.
+-- The digits of a word, by its bytes.
 pub word_written : (n : ℕ) → n < 2 ^ 32
-    → digit_glyph true (n / 268435456) ∷ digit_glyph true (n / 16777216 % 16) ∷ digit_glyph true (n / 1048576 % 16) ∷ digit_glyph true (n / 65536 % 16)
-    ∷ digit_glyph true (n / 4096 % 16) ∷ digit_glyph true (n / 256 % 16) ∷ digit_glyph true (n / 16 % 16) ∷ digit_glyph true (n % 16) ∷ [] ≡ hexadecimal 8 n
+    → hexadecimal 2 (n / 16777216) ++ (hexadecimal 2 (n / 65536 % 256) ++ (hexadecimal 2 (n / 256 % 256) ++ hexadecimal 2 (n % 256))) ≡ hexadecimal 8 n
 word_written n small =
-    let first : n / 268435456 % 16 ≡ n / 268435456 = omega (arith, small) in
-    ap (λ d. digit_glyph true d ∷ glyph (n / 16777216) ∷ glyph (n / 1048576) ∷ glyph (n / 65536) ∷ glyph (n / 4096) ∷ glyph (n / 256) ∷ glyph (n / 16) ∷ glyph n ∷ []) (sym first)
-    ∙ sym (by_remains (n / 268435456) (n / 16777216) (n / 1048576) (n / 65536) (n / 4096) (n / 256) (n / 16) n small
-    refl (omega arith) (omega arith) (omega arith) (omega arith) (omega arith) (omega arith))
+    let second : n / 256 / 256 ≡ n / 65536 = omega arith in
+    let first : n / 65536 / 256 ≡ n / 16777216 = omega arith in
+    let a = hexadecimal 2 (n / 16777216) in
+    let b = hexadecimal 2 (n / 65536 % 256) in
+    let c = hexadecimal 2 (n / 256 % 256) in
+    let d = hexadecimal 2 (n % 256) in
+    let four : hexadecimal 4 (n / 65536) ≡ a ++ b = two_more 4 (n / 65536) (omega arith) (omega (arith, small)) ∙ ap (λ x. hexadecimal 2 x ++ b) first in
+    let six : hexadecimal 6 (n / 256) ≡ (a ++ b) ++ c =
+    two_more 6 (n / 256) (omega arith) (omega (arith, small)) ∙ ap (λ x. hexadecimal 4 x ++ c) second ∙ ap (λ x. x ++ c) four in
+    sym (two_more 8 n (omega arith) small ∙ ap (λ x. x ++ d) six ∙ append_assoc (a ++ b) c d ∙ append_assoc a b (c ++ d))
 
 split_zeros : (all front behind : ℕ) (ds : List ℕ) → all ≡ front + behind → zeros all ++ ds ≡ zeros front ++ (zeros behind ++ ds)
 split_zeros all front behind ds both =
@@ -235,16 +237,6 @@ zeros_in_front width n small =
     with_zeros width ds ∙ split_zeros (width - length ds) (width - 8) (min width 8 - length ds) ds both
     ∙ ap (λ x. zeros (width - 8) ++ x) (sym (with_zeros (min width 8) ds))
 
--- two more places are written
-two_more : (places : List ℕ) (i a b : ℕ) → 2 * i + 1 < length places → take (2 * (i + 1)) (set (set places (2 * i) a) (2 * i + 1) b) ≡ take (2 * i) places ++ a ∷ b ∷ []
-two_more places i a b room =
-    let next : 2 * (i + 1) ≡ 2 * i + 1 + 1 = omega arith in
-    let once = set places (2 * i) a in
-    let long : length once ≡ length places = length-set places (2 * i) a in
-    ap (λ k. take k (set once (2 * i + 1) b)) next ∙ take_more_set once (2 * i + 1) b (omega (arith, room, long))
-    ∙ ap (λ x. x ++ b ∷ []) (take_more_set places (2 * i) a (omega (arith, room)))
-    ∙ append_assoc (take (2 * i) places) (a ∷ []) (b ∷ [])
-
 -- the digits of one more byte
 bytes_more : (bytes : List ℕ) (i d : ℕ) → i < length bytes
     → flat_map (hexadecimal 2) (take (i + 1) bytes) ≡ flat_map (hexadecimal 2) (take i bytes) ++ hexadecimal 2 (get_or bytes i d)
@@ -253,9 +245,14 @@ bytes_more bytes i d within =
     ∙ ap (λ x. flat_map (hexadecimal 2) (take i bytes) ++ x) (append-nil (hexadecimal 2 (get_or bytes i d)))
 
 -- The two digits of a byte are written after those of the bytes before it.
-pub byte_written : (places bytes : List ℕ) (i d n a b : ℕ) → i < length bytes → 2 * i + 1 < length places → n ≡ get_or bytes i d → n < 256
-    → a ≡ digit_glyph true (n / 16) → b ≡ digit_glyph true (n % 16) → take (2 * i) places ≡ flat_map (hexadecimal 2) (take i bytes)
-    → take (2 * (i + 1)) (set (set places (2 * i) a) (2 * i + 1) b) ≡ flat_map (hexadecimal 2) (take (i + 1) bytes)
-byte_written places bytes i d n a b within room is small high low front =
-    let shown : a ∷ b ∷ [] ≡ hexadecimal 2 (get_or bytes i d) = (λ j. high j ∷ low j ∷ []) ∙ sym (hex_byte true n small) ∙ ap (hexadecimal 2) is in
-    two_more places i a b room ∙ (λ j. front j ++ shown j) ∙ sym (bytes_more bytes i d within)
+pub byte_written : (places now bytes : List ℕ) (i d byte : ℕ) → i < length bytes → 2 * i + 2 ≤ length places → byte ≡ get_or bytes i d → byte < 256
+    → now ≡ take (2 * i) places ++ hexadecimal 2 byte ++ drop (2 * i + 2) places → take (2 * i) places ≡ flat_map (hexadecimal 2) (take i bytes)
+    → take (2 * (i + 1)) now ≡ flat_map (hexadecimal 2) (take (i + 1) bytes)
+byte_written places now bytes i d byte within room is small then front =
+    let text = take (2 * i) places ++ hexadecimal 2 byte in
+    let before : length (take (2 * i) places) ≡ 2 * i = length-take-le (2 * i) places (omega (arith, room)) in
+    let two : length (hexadecimal 2 byte) ≡ 2 = ap length (hex_byte true byte small) in
+    let both = length-append (take (2 * i) places) (hexadecimal 2 byte) in
+    let long : 2 * (i + 1) ≡ length text = omega (arith, before, two, both) in
+    (λ j. take (long j) (then j)) ∙ take-append_seam text (drop (2 * i + 2) places)
+    ∙ (λ j. front j ++ hexadecimal 2 (is j)) ∙ sym (bytes_more bytes i d within)

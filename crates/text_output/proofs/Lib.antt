@@ -2,3 +2,4 @@ pub mod Known
 pub mod Gathering
 pub mod DigitByDigit
 mod DigitTable
+mod Places

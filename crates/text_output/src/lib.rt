@@ -5,6 +5,7 @@ mod numbers;
 mod writing;
 
 pub use numbers::{
-    put_byte, put_bytes, put_decimal, put_hexadecimal, put_line_number, put_padded_decimal,
+    put_byte, put_bytes, put_decimal, put_hexadecimal, put_line_number, put_over_zeros,
+    put_padded_decimal, write_word,
 };
 pub use writing::{Gathered, WriteFault};

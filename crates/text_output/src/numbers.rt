@@ -1,5 +1,5 @@
 //! Numbers of output, digit by digit.
-ghost use Rattle.std.specs.Prelude.{◌≡◌, ◌<◌, ◌≤◌, ◌*◌, ◌++◌, codes, decimal, drop, take, length, true};
+ghost use Rattle.std.specs.Prelude.{◌≡◌, ◌<◌, ◌≤◌, ◌+◌, ◌*◌, ◌++◌, codes, decimal, drop, take, length, true};
 ghost use Rattle.std.specs.Fmt.{digit_glyph};
 ghost use Rattle.std.specs.List.{flat_map};
 ghost use Rattle.vsm_model.specs.Texts.{hexadecimal, padded_decimal};
@@ -27,41 +27,72 @@ pub fn put_padded_decimal<W: Write>(gathered: &mut Gathered, writer: &mut W, wid
     gathered.put(writer, &places[first.min(10 - width)..]);
 }
 
+/// Puts a number in decimal digits, with leading zeros to seven, and what follows its ten places.
+pub fn put_over_zeros<W: Write>(gathered: &mut Gathered, writer: &mut W, n: u32, places: &mut [u8])
+    requires { take 10 places.old ≡ codes "0000000000" }
+    ensures { Puts (W.contents writer.old) (W.contents writer.new) gathered.old gathered.new
+        (padded_decimal 7 n ++ drop 10 places.old) }
+{
+    let first = write_digits(u64::from(n), places, 10);
+    gathered.put(writer, &places[first.min(3)..]);
+}
+
 /// Puts the number of a line: decimal digits, with leading zeros to seven, and a blank.
 pub fn put_line_number<W: Write>(gathered: &mut Gathered, writer: &mut W, n: u32)
     ensures { Puts (W.contents writer.old) (W.contents writer.new) gathered.old gathered.new
         (padded_decimal 7 n ++ codes " ") }
 {
     let mut places = *b"0000000000 ";
-    let first = write_digits(u64::from(n), &mut places, 10);
-    gathered.put(writer, &places[first.min(3)..]);
+    put_over_zeros(gathered, writer, n, &mut places);
 }
 
-// The upper case hexadecimal digits.
-static DIGITS: [u8; 16] = *b"0123456789ABCDEF";
+// The two upper case hexadecimal digits of each byte.
+static PAIRS: [u8; 512] = *b"000102030405060708090A0B0C0D0E0F\
+        101112131415161718191A1B1C1D1E1F\
+        202122232425262728292A2B2C2D2E2F\
+        303132333435363738393A3B3C3D3E3F\
+        404142434445464748494A4B4C4D4E4F\
+        505152535455565758595A5B5C5D5E5F\
+        606162636465666768696A6B6C6D6E6F\
+        707172737475767778797A7B7C7D7E7F\
+        808182838485868788898A8B8C8D8E8F\
+        909192939495969798999A9B9C9D9E9F\
+        A0A1A2A3A4A5A6A7A8A9AAABACADAEAF\
+        B0B1B2B3B4B5B6B7B8B9BABBBCBDBEBF\
+        C0C1C2C3C4C5C6C7C8C9CACBCCCDCECF\
+        D0D1D2D3D4D5D6D7D8D9DADBDCDDDEDF\
+        E0E1E2E3E4E5E6E7E8E9EAEBECEDEEEF\
+        F0F1F2F3F4F5F6F7F8F9FAFBFCFDFEFF";
 
 /// One upper case hexadecimal digit.
 fn hexadecimal_digit(n: u32) -> u8
     requires { n < 16 }
     ensures { result ≡ digit_glyph true n }
 {
-    DIGITS[n as usize]
+    PAIRS[2 * n as usize + 1]
 }
 
-/// The eight upper case hexadecimal digits of a word.
-fn eight_digits(n: u32) -> [u8; 8]
-    ensures { result ≡ hexadecimal 8 n }
+/// Writes a byte in two upper case hexadecimal digits, from this place on.
+fn write_pair(places: &mut [u8], from: usize, byte: u32)
+    requires byte { byte < 256 }
+    requires room { from + 2 ≤ length places.old }
+    ensures { places.new ≡ take from places.old ++ hexadecimal 2 byte ++ drop (from + 2) places.old }
 {
-    [
-        hexadecimal_digit(n / 0x1000_0000),
-        hexadecimal_digit(n / 0x100_0000 % 16),
-        hexadecimal_digit(n / 0x10_0000 % 16),
-        hexadecimal_digit(n / 0x1_0000 % 16),
-        hexadecimal_digit(n / 0x1000 % 16),
-        hexadecimal_digit(n / 0x100 % 16),
-        hexadecimal_digit(n / 0x10 % 16),
-        hexadecimal_digit(n % 16),
-    ]
+    let pair = 2 * byte as usize;
+    let (high, low) = (PAIRS[pair], PAIRS[pair + 1]);
+    places[from] = high;
+    places[from + 1] = low;
+}
+
+/// Writes a word in eight upper case hexadecimal digits, from this place on.
+pub fn write_word(places: &mut [u8], from: usize, n: u32)
+    requires { from + 8 ≤ length places.old }
+    ensures { places.new ≡ take from places.old ++ hexadecimal 8 n ++ drop (from + 8) places.old }
+{
+    write_pair(places, from + 6, n % 0x100);
+    write_pair(places, from + 4, n / 0x100 % 0x100);
+    write_pair(places, from + 2, n / 0x1_0000 % 0x100);
+    write_pair(places, from, n / 0x100_0000);
 }
 
 /// Writes a number in upper case hexadecimal digits, with leading zeros to this width, up to the last of eight places,
@@ -89,7 +120,9 @@ pub fn put_hexadecimal<W: Write>(gathered: &mut Gathered, writer: &mut W, width:
     ensures { Puts (W.contents writer.old) (W.contents writer.new) gathered.old gathered.new (hexadecimal width n) }
 {
     if width == 8 {
-        gathered.put(writer, &eight_digits(n));
+        let mut places = [0; 8];
+        write_word(&mut places, 0, n);
+        gathered.put(writer, &places);
         return;
     }
     for _ in 0..width.saturating_sub(8) {
@@ -104,11 +137,9 @@ pub fn put_hexadecimal<W: Write>(gathered: &mut Gathered, writer: &mut W, width:
 pub fn put_byte<W: Write>(gathered: &mut Gathered, writer: &mut W, byte: u8)
     ensures { Puts (W.contents writer.old) (W.contents writer.new) gathered.old gathered.new (hexadecimal 2 byte) }
 {
-    let n = u32::from(byte);
-    gathered.put(
-        writer,
-        &[hexadecimal_digit(n / 16), hexadecimal_digit(n % 16)],
-    );
+    let mut places = [0; 2];
+    write_pair(&mut places, 0, u32::from(byte));
+    gathered.put(writer, &places);
 }
 
 /// Writes each of at most sixteen bytes in two upper case hexadecimal digits, from the first of 32 places on.
@@ -117,9 +148,7 @@ fn byte_digits(places: &mut [u8; 32], bytes: &[u8])
     ensures { take (2 * length bytes.now) places.new ≡ flat_map (hexadecimal 2) bytes.now }
 {
     for i in 0..bytes.len() {
-        let n = u32::from(bytes[i]);
-        places[2 * i] = hexadecimal_digit(n / 16);
-        places[2 * i + 1] = hexadecimal_digit(n % 16);
+        write_pair(places, 2 * i, u32::from(bytes[i]));
     }
 }
 

@@ -97,6 +97,15 @@ impl Gathered {
         if let Ok(()) = self.text.try_extend_from_slice(more) {
             return;
         }
+        self.put_at_once(writer, more);
+    }
+
+    /// Hands out what was gathered, and then the text. It's a call of its own, so that no other text pays for the room
+    /// of a fault.
+    #[inline(never)]
+    fn put_at_once<W: Write>(&mut self, writer: &mut W, more: &[u8])
+        ensures { Puts (W.contents writer.old) (W.contents writer.new) self.old self.new more.now }
+    {
         if let Ok(()) = self.hand_out(writer) {
             self.fault = write_out(writer, more).err();
         }

@@ -1,5 +1,5 @@
 -- What the program does is what its arguments ask for.
-use Rattle.std.proofs.Common.{arith, map, Bool, ◌≡◌, ◌∙◌, ◌≤◌, ◌⊎◌, inl, inr, ℕ, ap, refl, sym, subst, codes, true, true≢false, List, [], ◌∷◌, length, Option, Some, Err}
+use Rattle.std.proofs.Common.{arith, codes, map, Bool, ◌≡◌, ◌∙◌, ◌≤◌, ◌⊎◌, inl, inr, ℕ, ap, refl, sym, subst, true, true≢false, List, [], ◌∷◌, length, None, Option, Some, Err}
 use Rattle.std.specs.Io.KnownBytes.{Appends}
 use Rattle.std.proofs.lemmas.Option.{none-some}
 use Rattle.std.proofs.KnownBytes.{Appends-nil, Consumes-nil}
@@ -11,7 +11,7 @@ use Rattle.vsm_model.specs.declared.limits.Settings.{Settings}
 use Rattle.vsm_bench.specs.Command.{Answers, Commanded, Does, Obeys, Refuses}
 use Rattle.vsm_bench.specs.Settings.{settings_asked}
 use Rattle.vsm_bench.specs.Options.{AnswersKind, Gives, IsKindOf, file_asked, is_wrong}
-use Rattle.vsm_bench.specs.Words.{Asked, asked, given, help, run, version, wrong}
+use Rattle.vsm_bench.specs.Words.{Asked, asked_words, given, help, run, version, wrong}
 use Rattle.script_steps.specs.declared.faults.RunFault.TheVariants as fault
 use Rattle.bench_core.specs.NewFault.TheVariants as new_fault
 use Rattle.vsm_bench.proofs.Asked.{file_is, nothing_asked, settings_are}
@@ -23,9 +23,9 @@ map_few f (x ∷ []) few = few
 map_few f (x ∷ y ∷ xs) few = absurd (omega arith)
 
 -- without arguments there is no file
-names_no_file : (words : List Text) (rows : List Row) (path : Text) → Gives rows (asked words) → Some path ≡ file_asked rows → length words ≤ 1 → ⊥
+names_no_file : (words : List Text) (rows : List Row) (path : Text) → Gives rows (asked_words words) → Some path ≡ file_asked rows → length words ≤ 1 → ⊥
 names_no_file words rows path gives named few =
-    none-some path (sym (named ∙ ap file_asked (subst (Gives rows) (nothing_asked words few) gives)))
+    none-some path (sym (named ∙ file_is rows [] (subst (Gives rows) (nothing_asked words few) gives)))
 
 module _ {O E : Type 0} (contents : O → Option (List ℕ)) (said : E → E → List ℕ → Bool → Type 0) (output later : O) (errors told : E) (at_terminal : Bool) (code : ℕ) where
   -- a run that found no memory for its bench
@@ -51,7 +51,7 @@ module _ {O E : Type 0} (contents : O → Option (List ℕ)) (said : E → E →
   wrong_answer _ bad answers = answers
 
 module _ {I O E : Type 0} (remaining : I → Option (List ℕ)) (contents : O → Option (List ℕ)) (said : E → E → List ℕ → Bool → Type 0) (input : I) (output later : O) (errors told : E) (at_terminal : Bool) (code : ℕ) where
-  pub runs_refuse : (words : List Text) (e : Error) → (kind_of e ≡ kind.OutOfMemory) ⊎ IsKindOf (kind_of e) (asked words)
+  pub runs_refuse : (words : List Text) (e : Error) → (kind_of e ≡ kind.OutOfMemory) ⊎ IsKindOf (kind_of e) (asked_words words)
       → AnswersKind said errors told at_terminal contents (kind_of e) output later code → length words ≤ 1
       → Commanded said errors told at_terminal (remaining input) (remaining input) (contents output) (contents later) code
   runs_refuse words e (inl memory) answers few =
@@ -59,7 +59,7 @@ module _ {I O E : Type 0} (remaining : I → Option (List ℕ)) (contents : O �
   runs_refuse words e (inr is) answers few = absurd (subst (IsKindOf (kind_of e)) (nothing_asked words few) is)
 
   -- a file that is named is an argument
-  pub runs_named : (words : List Text) (rows : List Row) (path : Text) → Gives rows (asked words) → Some path ≡ file_asked rows → length words ≤ 1
+  pub runs_named : (words : List Text) (rows : List Row) (path : Text) → Gives rows (asked_words words) → Some path ≡ file_asked rows → length words ≤ 1
       → Commanded said errors told at_terminal (remaining input) (remaining input) (contents output) (contents later) code
   runs_named words rows path gives named few = absurd (names_no_file words rows path gives named few)
 
@@ -75,10 +75,10 @@ module _ {F I O E : Type 0} (opened : Text → Option F → Type 0) (unread : F 
   answers_kind k (run uses) is answers = absurd is
 
   -- the arguments ask for no run, or there was no memory
-  pub does_refuse : (words : List Text) (e : Error) → (kind_of e ≡ kind.OutOfMemory) ⊎ IsKindOf (kind_of e) (asked words)
+  pub does_refuse : (words : List Text) (e : Error) → (kind_of e ≡ kind.OutOfMemory) ⊎ IsKindOf (kind_of e) (asked_words words)
       → AnswersKind said errors told at_terminal contents (kind_of e) output later code → Does opened unread remaining contents said input input output later errors told at_terminal code words
   does_refuse words e (inl memory) answers = inl (refl, refuses_memory contents said output later errors told at_terminal code e memory answers)
-  does_refuse words e (inr is) answers = inr (answers_kind (kind_of e) (asked words) is answers)
+  does_refuse words e (inr is) answers = inr (answers_kind (kind_of e) (asked_words words) is answers)
 
 module _ {F I O E : Type 0} (opened : Text → Option F → Type 0) (unread : F → Option (List ℕ)) (remaining : I → Option (List ℕ)) (contents : O → Option (List ℕ))
     (said : E → E → List ℕ → Bool → Type 0) (input left : I) (output later : O) (errors told : E) (at_terminal : Bool) (code : ℕ) where
@@ -98,15 +98,16 @@ module _ {F I O E : Type 0} (opened : Text → Option F → Type 0) (unread : F 
   answers_run rows version is obeys = absurd is
   answers_run rows wrong is obeys = absurd is
 
-  pub does_obey : (words : List Text) (rows : List Row) → Gives rows (asked words)
+  pub does_obey : (words : List Text) (rows : List Row) → Gives rows (asked_words words)
       → Obeys opened unread remaining contents said input left output later errors told at_terminal code (settings_asked rows) (file_asked rows)
       → Does opened unread remaining contents said input left output later errors told at_terminal code words
-  does_obey words rows gives obeys = inr (answers_run rows (asked words) gives obeys)
+  does_obey words rows gives obeys = inr (answers_run rows (asked_words words) gives obeys)
 
   -- without arguments it's a run by default
-  pub runs_obey : (words : List Text) (rows : List Row) → Gives rows (asked words)
+  pub runs_obey : (words : List Text) (rows : List Row) → Gives rows (asked_words words)
       → Obeys opened unread remaining contents said input left output later errors told at_terminal code (settings_asked rows) (file_asked rows) → length words ≤ 1
       → Commanded said errors told at_terminal (remaining input) (remaining left) (contents output) (contents later) code
   runs_obey words rows gives obeys few =
-      subst (λ (rs : List Row). Obeys opened unread remaining contents said input left output later errors told at_terminal code (settings_asked rs) (file_asked rs))
-      (subst (Gives rows) (nothing_asked words few) gives) obeys
+      let none = subst (Gives rows) (nothing_asked words few) gives in
+      subst (λ s. Obeys opened unread remaining contents said input left output later errors told at_terminal code s None) (settings_are rows [] none)
+      (subst (Obeys opened unread remaining contents said input left output later errors told at_terminal code (settings_asked rows)) (file_is rows [] none) obeys)

@@ -9,7 +9,7 @@ use Rattle.script_steps.specs.Run.{Ran}
 use Rattle.vsm_bench.specs.Settings.{default_settings}
 use Rattle.vsm_bench.specs.Help.{help_end, version_text}
 use Rattle.vsm_bench.specs.Messages.{SaysFirst, fault_text}
-use Rattle.vsm_bench.specs.Words.{Asked, help, version, wrong, run, asked, given, settings_in}
+use Rattle.vsm_bench.specs.Words.{Asked, help, version, wrong, run, asked_words, given, settings_in}
 use Rattle.script_steps.specs.declared.faults.RunFault.{RunFault}
 use Rattle.script_steps.specs.declared.faults.RunFault.TheVariants as fault
 use Rattle.script_steps.specs.declared.totals.RunTotals.{RunTotals}
@@ -117,4 +117,4 @@ module _ {F I O E : Type 0} (opened : List ℕ → Option F → Type 0) (unread 
   -- or there is no memory to read the arguments, which is reported
   abbrev pub Does : List (List ℕ) → Type 0
   Does words = ((left ≡ input) × Refuses said errors told at_terminal output later code (fault.New new_fault.NoMemory))
-      ⊎ Answers (asked words)
+      ⊎ Answers (asked_words words)

@@ -1,7 +1,8 @@
 -- The command line as clap is given it, and what clap reads.
 use Rattle.std.specs.Prelude.{◌≡◌, ◌⊎◌, ℕ, Bool, true, false, List, [], ◌∷◌, map, codes, Option, Some, None, Result}
-use Rattle.std.specs.Prelude.{Ok, Err}
+use Rattle.std.specs.Prelude.{Ok, Err, slice_get}
 use Rattle.clap.specs.Words.{App, Row, Text, new_app, new_rule, with_rule, first_of, rows_of, found_of}
+use Rattle.clap.specs.Walk.{row_text}
 use Rattle.clap.specs.Words.{kind_of, reading_of}
 use Rattle.clap.specs.declared.error.ErrorKind.{ErrorKind}
 use Rattle.clap.specs.declared.error.ErrorKind.TheVariants as kind
@@ -13,7 +14,7 @@ use Rattle.bench_core.specs.NewFault.TheVariants as new_fault
 use Rattle.script_steps.specs.declared.faults.RunFault.TheVariants as fault
 use Rattle.vsm_bench.specs.Settings.{Residences, with_settings}
 use Rattle.vsm_bench.specs.Command.{Helps, Refuses, Versions}
-use Rattle.vsm_bench.specs.Words.{Asked, help, version, wrong, run, Uses, asked}
+use Rattle.vsm_bench.specs.Words.{Asked, help, version, wrong, run, asked_words}
 
 -- a program that has a version
 abbrev pub with_version : App → App
@@ -37,6 +38,13 @@ row_of_use pair = record {
   reading = reading_of parser.String;
 }
 
+-- what a row says, as it's written and as it's read
+abbrev pub said : Row → Text × (Option Text × Option Text)
+said row = (row.id, (slice_get row.values 0, row_text row))
+
+abbrev pub said_in : Text × Text → Text × (Option Text × Option Text)
+said_in pair = (pair.0, (Some pair.1, Some pair.1))
+
 -- a kind of error that says that arguments are wrong
 abbrev pub is_wrong : ErrorKind → Bool
 is_wrong kind.DisplayHelp = false
@@ -51,14 +59,14 @@ IsKindOf k wrong = is_wrong k ≡ true
 IsKindOf k (run uses) = ⊥
 
 abbrev pub Gives : List Row → Asked → Type 0
-Gives rows (run uses) = rows ≡ map row_of_use uses
+Gives rows (run uses) = map said rows ≡ map said_in uses
 Gives rows _ = ⊥
 
 -- The arguments were read as they ask: what was read is what they give, or the error is of what they ask for (or memory
 -- ran out).
 abbrev pub Reads : List Text → Result ArgMatches Error → Type 0
-Reads words (Ok m) = Gives (rows_of (found_of m)) (asked words)
-Reads words (Err e) = (kind_of e ≡ kind.OutOfMemory) ⊎ IsKindOf (kind_of e) (asked words)
+Reads words (Ok m) = Gives (rows_of (found_of m)) (asked_words words)
+Reads words (Err e) = (kind_of e ≡ kind.OutOfMemory) ⊎ IsKindOf (kind_of e) (asked_words words)
 
 -- An answer to arguments that gave an error of this kind: help, or the version; or no memory, which is reported; or
 -- status 16, and nothing is written.

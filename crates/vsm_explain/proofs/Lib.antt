@@ -1,3 +1,5 @@
 -- Lemmas on what clap reads of the words.
+mod CommandWords
 mod CommandLines
+mod Answered
 mod Whole

@@ -1,31 +1,36 @@
 -- The answers of questions, and their exit statuses.
-use Rattle.std.specs.Prelude.{◌≡◌, ℕ, Bool, List, min, if◌then◌else◌, Option, Result, Ok, Err}
+use Rattle.std.specs.Prelude.{◌≡◌, ◌⊎◌, ℕ, Bool, List, min, if◌then◌else◌, Option, Some, None, Result, Ok, Err}
 use Rattle.vsm_model.specs.declared.limits.Settings.{Settings}
 use Rattle.explain_areas.specs.Told.{TellsAreas}
 use Rattle.explain_areas.specs.declared.faults.AreasFault.{AreasFault}
 use Rattle.explain_areas.specs.declared.faults.AreasFault.TheVariants as no_areas
 use Rattle.explain_areas.specs.declared.orders.AreaOrder.{AreaOrder}
 use Rattle.explain_areas.specs.declared.orders.AreaOrder.TheVariants as order
-use Rattle.explain_list.specs.Listing.{Shows}
-use Rattle.explain_list.specs.declared.checking.Shown.{Shown}
-use Rattle.explain_list.specs.declared.checking.Shown.TheVariants as shown
+use Rattle.explain_check.specs.Checked.{Checked}
+use Rattle.explain_list.specs.Listing.{Listed}
+use Rattle.explain_list.specs.declared.layouts.Layout.{Layout}
 use Rattle.explain_list.specs.declared.faults.ListFault.{ListFault}
 use Rattle.explain_list.specs.declared.faults.ListFault.TheVariants as list
-use Rattle.explain_questions.specs.declared.questions.About.{About}
-use Rattle.explain_questions.specs.declared.questions.About.TheVariants as about
-use Rattle.explain_questions.specs.declared.questions.Question.{Question}
-use Rattle.explain_questions.specs.declared.questions.Question.TheVariants as question
+use Rattle.vsm_explain.specs.declared.questions.About.{About}
+use Rattle.vsm_explain.specs.declared.questions.About.TheVariants as about
+use Rattle.vsm_explain.specs.declared.questions.Place.{Place}
+use Rattle.vsm_explain.specs.declared.questions.Place.TheVariants as place
+use Rattle.vsm_explain.specs.declared.questions.Question.{Question}
+use Rattle.vsm_explain.specs.declared.questions.Question.TheVariants as question
 use Rattle.explain_report.specs.OverTime.{ReportsOverTime}
 use Rattle.explain_report.specs.Reports.{Reports}
 use Rattle.explain_report.specs.declared.faults.ReportFault.{ReportFault}
 use Rattle.explain_report.specs.declared.faults.ReportFault.TheVariants as report
-use Rattle.explain_who.specs.Told.{NamesChanges, NamesStatements}
-use Rattle.line_changes.specs.declared.faults.WhoFault.{WhoFault}
-use Rattle.line_changes.specs.declared.faults.WhoFault.TheVariants as who
-use Rattle.line_changes.specs.declared.readings.Subject.{Subject}
-use Rattle.line_changes.specs.declared.readings.Subject.TheVariants as subject
-use Rattle.listed_text.specs.declared.json.Form.{Form}
-use Rattle.explain_why.specs.Forms.{Explains}
+use Rattle.explain_who.specs.Told.{NamesChanges}
+use Rattle.explain_who.specs.Words.{TellsWord}
+use Rattle.explain_who.specs.declared.faults.WhoFault.{WhoFault}
+use Rattle.explain_who.specs.declared.faults.WhoFault.TheVariants as who
+use Rattle.explain_who.specs.declared.orders.ChangeOrder.{ChangeOrder}
+use Rattle.explain_who.specs.declared.orders.ChangeOrder.TheVariants as changes
+use Rattle.explain_who.specs.declared.readings.Subject.{Subject}
+use Rattle.explain_who.specs.declared.readings.Subject.TheVariants as subject
+use Rattle.explain_text.specs.declared.json.Form.{Form}
+use Rattle.explain_why.specs.Output.{Explains}
 use Rattle.explain_why.specs.declared.faults.WhyFault.{WhyFault}
 use Rattle.explain_why.specs.declared.faults.WhyFault.TheVariants as why
 use Rattle.vsm_explain.specs.Status.{IsWordless}
@@ -40,6 +45,7 @@ abbrev pub list_status : Result Bool ListFault → ℕ
 list_status (Ok refused) = of_refused refused
 list_status (Err list.TooLong) = 8
 list_status (Err list.Write) = 8
+list_status (Err list.Memory) = 16
 list_status (Err (list.New fault)) = 16
 
 abbrev pub why_status : Result Bool WhyFault → ℕ
@@ -67,56 +73,66 @@ areas_status (Err (no_areas.Areas fault)) = who_status (Err fault)
 
 -- ---- what is asked for
 
--- a listing in this form, only of refused statements if these are asked for; or the places of faults, in a file of
--- this name
-abbrev pub IsShown : Form → List ℕ → Question → Shown → Type 0
-IsShown form name (question.List only) (shown.Listing layout) = (layout.form ≡ form) × (layout.only_refused ≡ only)
-IsShown form name question.Check (shown.Check its) = its.now ≡ name
-IsShown _ _ _ _ = ⊥
-
 abbrev pub order_of : Bool → AreaOrder
 order_of longest = if longest then order.LongestFirst else order.ByAddress
 
-abbrev pub subject_of : About → Subject
-subject_of (about.Bytes address count) = subject.Bytes address (min count 256)
-subject_of (about.Register task register) = subject.Register task register
-subject_of (about.Name name) = subject.Name name
-subject_of (about.Subpool task number) = subject.Subpool task number
-subject_of (about.Holder address) = subject.Holder address
-subject_of (about.Taken address) = subject.Taken address
+-- the address of a place: of a name, its word at the end of the script
+abbrev pub IsAddress : Settings → List ℕ → Place → ℕ → Type 0
+IsAddress settings script (place.Number address) its = its ≡ address
+IsAddress settings script (place.Named name) its = TellsWord settings script name (Ok (Some its))
+
+-- it has none: no statement in effect defines the name, or the script can't be followed
+abbrev pub HasNoAddress : Settings → List ℕ → Place → ℕ → Type 0
+HasNoAddress settings script (place.Number address) code = ⊥
+HasNoAddress settings script (place.Named name) code =
+    (TellsWord settings script name (Ok None) × (code ≡ 16))
+    ⊎ ((fault : WhoFault) × TellsWord settings script name (Err fault) × (code ≡ who_status (Err fault)))
+
+abbrev pub IsSubject : Settings → List ℕ → About → Subject → Type 0
+IsSubject settings script (about.Bytes place count) its =
+    (address : ℕ) × IsAddress settings script place address × (its ≡ subject.Bytes address (min count 256))
+IsSubject settings script (about.Register task register) its = its ≡ subject.Register task register
+IsSubject settings script (about.Name name) its = its ≡ subject.Name name
+IsSubject settings script (about.Subpool task number) its = its ≡ subject.Subpool task number
+
+abbrev pub HasNoSubject : Settings → List ℕ → About → ℕ → Type 0
+HasNoSubject settings script (about.Bytes place count) code = HasNoAddress settings script place code
+HasNoSubject settings script _ code = ⊥
+
+abbrev pub change_order : Bool → ChangeOrder
+change_order oldest = if oldest then changes.OldestFirst else changes.NewestFirst
 
 -- ---- the answers
 
-abbrev pub IsListed : Settings → List ℕ → List ℕ → Form → Question → Option (List ℕ) → Option (List ℕ) → ℕ
-    → Type 0
-IsListed settings script name form question old new code =
-    (its : Shown) × IsShown form name question its × (outcome : Result Bool ListFault)
-    × Shows settings script its old new outcome × (code ≡ list_status outcome)
+-- the lines that changed what is asked for, in this order; nothing is written if it has no address
+abbrev pub IsNamed : Settings → List ℕ → Form → About → ChangeOrder → Option (List ℕ) → Option (List ℕ) → ℕ → Type 0
+IsNamed settings script form it order old new code =
+    ((its : Subject) × IsSubject settings script it its × (outcome : Result (Unit {0}) WhoFault)
+    × NamesChanges settings script form its order old new outcome × (code ≡ who_status outcome))
+    ⊎ (HasNoSubject settings script it code × (new ≡ old))
 
 -- A question about a script of this name that runs under these settings is answered: what is written, and the status.
 -- What is written about an answer's meaning (`why S878`) is open.
 abbrev pub IsAnswered : Settings → List ℕ → List ℕ → Form → Question → Option (List ℕ) → Option (List ℕ) → ℕ
     → Type 0
 IsAnswered settings script name form (question.List only) old new code =
-    IsListed settings script name form (question.List only) old new code
+    (outcome : Result Bool ListFault)
+    × Listed (record { form = form; only_refused = only }) settings script old new outcome
+    × (code ≡ list_status outcome)
 IsAnswered settings script name form question.Check old new code =
-    IsListed settings script name form question.Check old new code
+    (outcome : Result Bool ListFault) × Checked settings script name old new outcome × (code ≡ list_status outcome)
 IsAnswered settings script name form (question.Why line) old new code =
-    (outcome : Result Bool WhyFault) × Explains settings script form line old new outcome
+    (outcome : Result Bool WhyFault) × Explains settings script line old new outcome
     × (code ≡ why_status outcome)
 IsAnswered settings script name form (question.Report line) old new code =
     (outcome : Result (Unit {0}) ReportFault) × Reports settings script form line old new outcome
     × (code ≡ report_status outcome)
 IsAnswered settings script name form (question.OverTime seen) old new code =
-    (outcome : Result (Unit {0}) ReportFault) × ReportsOverTime settings script form seen old new outcome
+    (outcome : Result (Unit {0}) ReportFault) × ReportsOverTime settings script seen old new outcome
     × (code ≡ report_status outcome)
 IsAnswered settings script name form (question.Areas line longest) old new code =
     (outcome : Result (Unit {0}) AreasFault)
     × TellsAreas settings script form line (order_of longest) old new outcome × (code ≡ areas_status outcome)
-IsAnswered settings script name form (question.Who it) old new code =
-    (outcome : Result (Unit {0}) WhoFault) × NamesChanges settings script form (subject_of it) old new outcome
-    × (code ≡ who_status outcome)
-IsAnswered settings script name form question.Log old new code =
-    (outcome : Result (Unit {0}) WhoFault) × NamesStatements settings script form old new outcome
-    × (code ≡ who_status outcome)
+IsAnswered settings script name form (question.Who it oldest) old new code =
+    IsNamed settings script form it (change_order oldest) old new code
 IsAnswered settings script name form (question.Code first second) old new code = IsWordless code

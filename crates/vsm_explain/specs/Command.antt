@@ -1,18 +1,17 @@
 -- What the program does with its arguments, its script and its output.
-use Rattle.std.specs.Prelude.{◌≡◌, ◌⊎◌, ℕ, Bool, List, [], Option, Some, Result, Err}
-use Rattle.clap.specs.Words.{App, IsAmong, Row, Text, fault_of, subcommand_of}
-use Rattle.clap.specs.declared.error.ErrorKind.{ErrorKind}
-use Rattle.clap.specs.declared.error.ErrorKind.TheVariants as kind
-use Rattle.explain_questions.specs.Questions.{Asks, IsWrong}
-use Rattle.explain_questions.specs.declared.questions.Asking.{Asking}
-use Rattle.explain_questions.specs.declared.questions.Question.{Question}
-use Rattle.explain_questions.specs.declared.questions.Question.TheVariants as question
-use Rattle.explain_questions.specs.declared.refusals.WordRefusal.{WordRefusal}
+use Rattle.std.specs.Prelude.{◌≡◌, ◌⊎◌, ℕ, Bool, List, Option, Result, Err}
+use Rattle.vsm_model.specs.declared.limits.Settings.{Settings}
+use Rattle.vsm_bench.specs.Words.{Asked, given, help, run, settings_in, version, wrong}
+use Rattle.vsm_explain.specs.Questions.{Asks, IsWrong, Said}
+use Rattle.vsm_explain.specs.declared.questions.Asking.{Asking}
+use Rattle.vsm_explain.specs.declared.questions.Question.{Question}
+use Rattle.vsm_explain.specs.declared.questions.Question.TheVariants as question
+use Rattle.vsm_explain.specs.declared.refusals.WordRefusal.{WordRefusal}
 use Rattle.vsm_explain.specs.Answers.{IsAnswered}
 use Rattle.vsm_explain.specs.Messages.{EndsIn, Reports, fault_end}
-use Rattle.vsm_explain.specs.Options.{IsCommandLine}
 use Rattle.vsm_explain.specs.Scripts.{HasNoScript, IsScriptOf, file_in, is_listing, name_in, path_in}
 use Rattle.vsm_explain.specs.Status.{IsWordless, fault_status, status}
+use Rattle.vsm_explain.specs.Words.{asked_words}
 use Rattle.vsm_explain.specs.declared.faults.CommandFault.{CommandFault}
 use Rattle.vsm_explain.specs.declared.faults.CommandFault.TheVariants as fault
 
@@ -42,31 +41,25 @@ module _ {O E : Type 0} (said : E → E → List ℕ → Bool → Type 0) (outpu
   abbrev pub IsHelp : Type 0
   IsHelp = (code ≡ 0) ⊎ ((code ≡ 8) × EndsIn said told (fault_end fault.Write))
 
-  -- The answer to words that ask no question, by the kind of their error.
-  abbrev pub AnswersKind : ErrorKind → Type 0
-  AnswersKind kind.DisplayHelp = IsHelp
-  AnswersKind kind.DisplayVersion = IsHelp
-  AnswersKind kind.OutOfMemory = Refuses fault.Memory
-  AnswersKind _ = (later ≡ output) × (code ≡ 16)
-
 module _ {F I O E : Type 0} (opened : List ℕ → Option F → Type 0) (unread : F → Option (List ℕ))
     (remaining : I → Option (List ℕ)) (contents : O → Option (List ℕ)) (said : E → E → List ℕ → Bool → Type 0)
     (input : I) (at_terminal : Bool) (output later : O) (told : E) (code : ℕ) where
   -- The arguments of a command are wrong, and nothing is written; or what they ask is answered.
-  abbrev pub Obeys : Text → List Row → Type 0
-  Obeys command rows =
-      ((refusal : WordRefusal) × IsWrong command rows refusal
+  abbrev pub Obeys : List ℕ → Said → Option Settings → Type 0
+  Obeys command its settings =
+      ((refusal : WordRefusal) × IsWrong command its settings refusal
       × Refuses said output later told code (fault.Words refusal))
-      ⊎ ((asking : Asking) × Asks command rows asking × (outcome : Result Bool CommandFault)
+      ⊎ ((asking : Asking) × Asks command its settings asking × (outcome : Result Bool CommandFault)
       × Concludes opened unread remaining contents input at_terminal output later asking asking.question outcome
       × (code ≡ status outcome) × Reports said told outcome)
 
-  -- Words that have no fault name a command, which is obeyed; any others are answered by the kind of a fault that they
-  -- have; or memory runs out while they're read.
-  abbrev pub Does : List Text → Type 0
-  Does words =
-      Refuses said output later told code fault.Memory
-      ⊎ (((app : App) × IsCommandLine app × (error : ErrorKind) × IsAmong error (fault_of app words)
-      × AnswersKind said output later told code error)
-      ⊎ ((app : App) × IsCommandLine app × (fault_of app words ≡ []) × (command : Text) × (rows : List Row)
-      × (subcommand_of app words ≡ Some (command, rows)) × Obeys command rows))
+  -- help, the version, what a command does with what its words give, or status 16 if the words are wrong
+  abbrev pub Answers : List ℕ × Asked → Type 0
+  Answers (command, help) = IsHelp said output later told code
+  Answers (command, version) = IsHelp said output later told code
+  Answers (command, wrong) = (later ≡ output) × (code ≡ 16)
+  Answers (command, run uses) = Obeys command (λ name. given name uses) (settings_in uses)
+
+  -- or memory runs out while the words are read
+  abbrev pub Does : List (List ℕ) → Type 0
+  Does words = Refuses said output later told code fault.Memory ⊎ Answers (asked_words words)

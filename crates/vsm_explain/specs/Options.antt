@@ -1,17 +1,25 @@
 -- The command line as it is given to clap.
-use Rattle.std.specs.Prelude.{◌≡◌, ◌⊎◌, Result, Ok, Err, true, false, List, [], ◌∷◌, codes, fold, map, Some}
+use Rattle.std.specs.Prelude.{◌≡◌, ◌⊎◌, ℕ, Bool, IsSomeAnd, Result, Ok, Err, true, false, List, [], ◌∷◌, codes, fold}
+use Rattle.std.specs.Prelude.{map, Some}
 use Rattle.clap.specs.Simple.{new_shape}
-use Rattle.clap.specs.Words.{App, IsAmong, Rule, Shape, Text, fault_of, kind_of, new_app, new_rule, subcommand_of}
+use Rattle.clap.specs.Words.{App, Row, Rule, Shape, Text, first_of, found_of, kind_of, new_app, new_rule, rows_of}
 use Rattle.clap.specs.Words.{subcommand_rows_of, with_rule}
+use Rattle.clap.specs.declared.error.ErrorKind.{ErrorKind}
 use Rattle.clap.specs.declared.error.ErrorKind.TheVariants as error
 use Rattle.clap.specs.declared.parser.ArgMatches.{ArgMatches}
 use Rattle.clap.specs.declared.Error.{Error}
 use Rattle.clap.specs.declared.builder.ArgAction.TheVariants.{SetTrue}
+use Rattle.vsm_bench.specs.Options.{Gives, IsKindOf}
 use Rattle.vsm_bench.specs.Settings.{AreResidences, Residences, with_settings}
+use Rattle.vsm_bench.specs.Words.{Asked}
 use Rattle.vsm_explain.specs.declared.forms.WordRow.{WordRow}
 use Rattle.vsm_explain.specs.declared.forms.WordKind.{WordKind}
 use Rattle.vsm_explain.specs.declared.forms.WordKind.TheVariants as kind
 use Rattle.vsm_explain.specs.declared.forms.CommandForm.{CommandForm}
+use Rattle.vsm_explain.specs.declared.faults.CommandFault.TheVariants as fault
+use Rattle.vsm_explain.specs.Command.{IsHelp, Refuses}
+use Rattle.vsm_explain.specs.Questions.{Said}
+use Rattle.vsm_explain.specs.Words.{asked_words}
 
 -- ---- what a command takes
 
@@ -32,16 +40,22 @@ pub record CommandRules : Type 0 where
   pub name : Text
   pub rules : List Rule
 
+abbrev pub check_form : CommandRules
+check_form = record {
+  name = codes "check";
+  rules = operand (codes "FILE") ∷ [];
+}
+
 abbrev pub list_form : CommandRules
 list_form = record {
   name = codes "list";
-  rules = flag (codes "check") ∷ valued (codes "only") ∷ flag (codes "json") ∷ operand (codes "FILE") ∷ [];
+  rules = flag (codes "check") ∷ flag (codes "refused") ∷ flag (codes "json") ∷ operand (codes "FILE") ∷ [];
 }
 
 abbrev pub why_form : CommandRules
 why_form = record {
   name = codes "why";
-  rules = flag (codes "json") ∷ needed (codes "FILE") ∷ operand (codes "LINE") ∷ [];
+  rules = needed (codes "FILE") ∷ operand (codes "LINE") ∷ [];
 }
 
 abbrev pub report_form : CommandRules
@@ -56,13 +70,12 @@ abbrev pub who_form : CommandRules
 who_form = record {
   name = codes "who";
   rules =
-      valued (codes "register") ∷ valued (codes "name") ∷ valued (codes "subpool") ∷ valued (codes "holds")
-      ∷ valued (codes "taken") ∷ flag (codes "log") ∷ flag (codes "json") ∷ operand (codes "FILE")
-      ∷ operand (codes "ADDRESS") ∷ operand (codes "COUNT") ∷ [];
+      valued (codes "register") ∷ valued (codes "name") ∷ valued (codes "subpool") ∷ flag (codes "oldest-first")
+      ∷ flag (codes "json") ∷ operand (codes "FILE") ∷ operand (codes "ADDRESS") ∷ operand (codes "COUNT") ∷ [];
 }
 
 abbrev pub forms : List CommandRules
-forms = list_form ∷ why_form ∷ report_form ∷ who_form ∷ []
+forms = check_form ∷ list_form ∷ why_form ∷ report_form ∷ who_form ∷ []
 
 -- ---- the program
 
@@ -94,6 +107,7 @@ pub record IsCommandLine (app : App) : Type 0 where
 
 abbrev pub rule_by : WordKind → Text → Rule
 rule_by kind.Flag name = flag name
+rule_by kind.Former name = flag name
 rule_by (kind.Valued value) name = valued name
 rule_by (kind.Operand value) name = operand name
 rule_by kind.File name = needed name
@@ -106,11 +120,26 @@ form_in form = record { name = form.name.now; rules = map rule_in form.rows.now 
 
 -- ---- what is read
 
--- What was read is what the words give to the command that they name, and they have no fault; or the kind of the error
--- is one that they have, or memory ran out.
+-- the first value of an argument
+abbrev pub said_by : List Row → Said
+said_by rows name = first_of name rows
+
+abbrev pub said_of : ArgMatches → Said
+said_of m = said_by (rows_of (found_of m))
+
+-- The words name a command, and what was read is what they give to it; or the kind of the error is what they ask for,
+-- or memory ran out.
+abbrev pub GivesTo : Text × List Row → Text × Asked → Type 0
+GivesTo read asked = (read.0 ≡ asked.0) × Gives read.1 asked.1
+
 abbrev pub Reads : List Text → Result ArgMatches Error → Type 0
-Reads words (Ok m) =
-    (app : App) × IsCommandLine app × (fault_of app words ≡ []) × (subcommand_rows_of m ≡ subcommand_of app words)
-Reads words (Err e) =
-    (kind_of e ≡ error.OutOfMemory)
-    ⊎ ((app : App) × IsCommandLine app × IsAmong (kind_of e) (fault_of app words))
+Reads words (Ok m) = IsSomeAnd (subcommand_rows_of m) (λ read. GivesTo read (asked_words words))
+Reads words (Err e) = (kind_of e ≡ error.OutOfMemory) ⊎ IsKindOf (kind_of e) (asked_words words).1
+
+-- The answer to words that gave an error of this kind.
+module _ {O E : Type 0} (said : E → E → List ℕ → Bool → Type 0) (output later : O) (told : E) (code : ℕ) where
+  abbrev pub AnswersKind : ErrorKind → Type 0
+  AnswersKind error.DisplayHelp = IsHelp said output later told code
+  AnswersKind error.DisplayVersion = IsHelp said output later told code
+  AnswersKind error.OutOfMemory = Refuses said output later told code fault.Memory
+  AnswersKind _ = (later ≡ output) × (code ≡ 16)

@@ -4,9 +4,9 @@ use Rattle.std.specs.Prelude.{Option, Some, None, IfSome, option_map, ⊤}
 use Rattle.std.specs.List.{list_any}
 use Rattle.std.specs.Str.{bytes_eq}
 use Rattle.clap.specs.Words.{Text}
-use Rattle.explain_questions.specs.declared.questions.Asking.{Asking}
-use Rattle.explain_questions.specs.declared.questions.Question.{Question}
-use Rattle.explain_questions.specs.declared.questions.Question.TheVariants as question
+use Rattle.vsm_explain.specs.declared.questions.Asking.{Asking}
+use Rattle.vsm_explain.specs.declared.questions.Question.{Question}
+use Rattle.vsm_explain.specs.declared.questions.Question.TheVariants as question
 use Rattle.vsm_explain.specs.declared.faults.CommandFault.{CommandFault}
 use Rattle.vsm_explain.specs.declared.faults.CommandFault.TheVariants as fault
 use Rattle.vsm_explain.specs.declared.scripts.Unread.{Unread}

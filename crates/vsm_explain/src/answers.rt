@@ -1,21 +1,21 @@
 //! The answers of questions.
-ghost use Rattle.std.specs.Prelude.{◌≡◌, Bool, Err, List, Result, ℕ};
-ghost use Rattle.explain_list.specs.Listing.{Shows};
-ghost use Rattle.explain_list.specs.declared.faults.ListFault.{ListFault};
-ghost use Rattle.vsm_explain.specs.Answers.{IsAnswered, areas_status, list_status, order_of, report_status};
-ghost use Rattle.vsm_explain.specs.Answers.{subject_of, who_status, why_status};
+ghost use Rattle.std.specs.Prelude.{◌≡◌, Err, IfErr, IfOk};
+ghost use Rattle.vsm_explain.specs.Answers.{HasNoAddress, HasNoSubject, IsAddress, IsAnswered, IsNamed, IsSubject};
+ghost use Rattle.vsm_explain.specs.Answers.{areas_status, change_order, list_status, order_of, report_status};
+ghost use Rattle.vsm_explain.specs.Answers.{who_status, why_status};
 ghost use Rattle.vsm_explain.specs.Status.{IsWordless, fault_status, status};
 
 use crate::faults::CommandFault;
+use crate::questions::{About, Asking, Place, Question};
+use crate::refusals::WordRefusal;
 use crate::scripts::excess_of;
 use explain_areas::{AreaOrder, AreasFault, areas};
-use explain_list::{Layout, ListFault, Shown, list};
-use explain_questions::{About, Asking, Question, WordRefusal};
+use explain_check::check;
+use explain_list::{Layout, ListFault, list};
 use explain_report::{ReportFault, over_time, report};
-use explain_who::{log, who};
+use explain_text::Form;
+use explain_who::{ChangeOrder, Subject, WhoFault, who, word_after};
 use explain_why::{MeaningFault, WhyFault, code, why};
-use line_changes::{Subject, WhoFault};
-use listed_text::Form;
 use script_steps::{NewFault, Watch};
 use std::alloc::Global;
 use std::io::Write;
@@ -31,7 +31,7 @@ fn new_fault<'a>(fault: NewFault) -> CommandFault<'a>
     }
 }
 
-/// The fault if a script can't be listed.
+/// The fault if a script can't be listed or checked.
 fn list_fault<'a>(script: &[u8], fault: ListFault) -> CommandFault<'a>
     ensures { fault_status result ≡ list_status (Err fault) }
 {
@@ -39,6 +39,7 @@ fn list_fault<'a>(script: &[u8], fault: ListFault) -> CommandFault<'a>
         ListFault::New(fault) => new_fault(fault),
         ListFault::TooLong => CommandFault::TooLong(excess_of(script)),
         ListFault::Write => CommandFault::Write,
+        ListFault::Memory => CommandFault::Memory,
     }
 }
 
@@ -69,6 +70,7 @@ fn report_fault<'a>(script: &[u8], line: Option<u32>, fault: ReportFault) -> Com
         ReportFault::NoLine(lines) => CommandFault::NoLine { line, lines },
         ReportFault::Aside => CommandFault::Aside(line),
         ReportFault::Dropped => CommandFault::Dropped(line),
+        ReportFault::NoTask(task) => CommandFault::NoTask(task),
     }
 }
 
@@ -87,20 +89,11 @@ fn who_fault<'a>(script: &[u8], fault: WhoFault) -> CommandFault<'a>
     }
 }
 
-/// Lists a script, or only the places of its faults. `true` if a statement was refused.
-fn list_shown<'a, W: Write, P: Watch>(
-    alloc: Global,
-    script: &[u8],
-    settings: Settings,
-    shown: Shown<'_>,
-    out: &mut W,
-    watch: &mut P,
-) -> Result<bool, CommandFault<'a>>
-    ensures { (outcome : Result Bool ListFault)
-        × Shows settings script.now shown.entry (W.contents out.old) (W.contents out.new) outcome
-        × (status result ≡ list_status outcome) }
+/// The outcome of `list` or `check`. `true` if a statement was refused.
+fn gone_over<'a>(script: &[u8], outcome: Result<bool, ListFault>) -> Result<bool, CommandFault<'a>>
+    ensures { status result ≡ list_status outcome }
 {
-    match list(alloc, script, settings, shown, out, watch) {
+    match outcome {
         Ok(wrong) => Ok(wrong),
         Err(fault) => Err(list_fault(script, fault)),
     }
@@ -108,14 +101,13 @@ fn list_shown<'a, W: Write, P: Watch>(
 
 /// Prints what the answer of these words means.
 fn explain_words<'a, W: Write>(
-    form: Form,
     words: &str,
     first: &'a str,
     out: &mut W,
 ) -> Result<bool, CommandFault<'a>>
     ensures { IsWordless (status result) }
 {
-    match code(form, words.as_bytes(), out) {
+    match code(words.as_bytes(), out) {
         Ok(()) => Ok(false),
         Err(MeaningFault::NoAnswer) => Err(CommandFault::Words(WordRefusal::NoLine(first))),
         Err(MeaningFault::Write) => Err(CommandFault::Write),
@@ -125,7 +117,6 @@ fn explain_words<'a, W: Write>(
 /// Prints what an answer means that is written as one or two words.
 pub(crate) fn explain_code<'a, W: Write>(
     alloc: Global,
-    form: Form,
     first: &'a str,
     second: Option<&'a str>,
     out: &mut W,
@@ -133,28 +124,55 @@ pub(crate) fn explain_code<'a, W: Write>(
     ensures { IsWordless (status result) }
 {
     let Some(second) = second else {
-        return explain_words(form, first, first, out);
+        return explain_words(first, first, out);
     };
     match format!(in alloc; "{first} {second}") {
-        Ok(both) => explain_words(form, both.as_str(), first, out),
+        Ok(both) => explain_words(both.as_str(), first, out),
         Err(_) => Err(CommandFault::Memory),
     }
 }
 
+/// The address of a place: of a name, its word at the end of the script.
+fn address_of<'a, P: Watch>(
+    alloc: Global,
+    script: &[u8],
+    settings: Settings,
+    place: Place,
+    watch: &mut P,
+) -> Result<u32, CommandFault<'a>>
+    ensures address { IfOk result (IsAddress settings script.now place) }
+    ensures none { IfErr result (λ fault. HasNoAddress settings script.now place (fault_status fault)) }
+{
+    match place {
+        Place::Number(address) => Ok(address),
+        Place::Named(name) => match word_after(alloc, script, settings, name, watch) {
+            Ok(Some(address)) => Ok(address),
+            Ok(None) => Err(CommandFault::NoName),
+            Err(fault) => Err(who_fault(script, fault)),
+        },
+    }
+}
+
 /// What is asked for, as `who` takes it.
-fn asked(about: About) -> Subject
-    ensures { result ≡ subject_of about }
+fn subject_of<'a, P: Watch>(
+    alloc: Global,
+    script: &[u8],
+    settings: Settings,
+    about: About,
+    watch: &mut P,
+) -> Result<Subject, CommandFault<'a>>
+    ensures subject { IfOk result (IsSubject settings script.now about) }
+    ensures none { IfErr result (λ fault. HasNoSubject settings script.now about (fault_status fault)) }
 {
     match about {
-        About::Bytes { address, count } => Subject::Bytes {
-            address,
-            count: count.min(256) as u16,
-        },
-        About::Register { task, register } => Subject::Register { task, register },
-        About::Name(name) => Subject::Name(name),
-        About::Subpool { task, number } => Subject::Subpool { task, number },
-        About::Holder(address) => Subject::Holder(address),
-        About::Taken(address) => Subject::Taken(address),
+        About::Bytes { place, count } => {
+            let address = address_of(alloc, script, settings, place, watch)?;
+            let count = count.min(256) as u16;
+            Ok(Subject::Bytes { address, count })
+        }
+        About::Register { task, register } => Ok(Subject::Register { task, register }),
+        About::Name(name) => Ok(Subject::Name(name)),
+        About::Subpool { task, number } => Ok(Subject::Subpool { task, number }),
     }
 }
 
@@ -207,6 +225,39 @@ fn order_of(longest: bool) -> AreaOrder
     }
 }
 
+/// In which order changes are shown.
+fn change_order(oldest_first: bool) -> ChangeOrder
+    ensures { result ≡ change_order oldest_first }
+{
+    if oldest_first {
+        ChangeOrder::OldestFirst
+    } else {
+        ChangeOrder::NewestFirst
+    }
+}
+
+/// Names the lines that changed what is asked for.
+fn named<'a, W: Write, P: Watch>(
+    alloc: Global,
+    script: &[u8],
+    settings: Settings,
+    form: Form,
+    about: About,
+    order: ChangeOrder,
+    out: &mut W,
+    watch: &mut P,
+) -> Result<bool, CommandFault<'a>>
+    ensures { IsNamed settings script.now form about order (W.contents out.old) (W.contents out.new)
+        (status result) }
+{
+    let asked = match subject_of(alloc, script, settings, about, watch) {
+        Ok(asked) => asked,
+        Err(fault) => return Err(fault),
+    };
+    let outcome = who(alloc, script, settings, form, asked, order, out, watch);
+    followed(script, outcome)
+}
+
 /// The outcome of `report --areas`, after the statement of this line.
 fn listed<'a>(
     script: &[u8],
@@ -238,15 +289,16 @@ pub(crate) fn answer<'a, W: Write, P: Watch>(
     let form = asking.form;
     match asking.question {
         Question::List { only_refused } => {
-            let shown = Shown::Listing(Layout { form, only_refused });
-            list_shown(alloc, script, settings, shown, out, watch)
+            let layout = Layout { form, only_refused };
+            let outcome = list(alloc, script, settings, layout, out, watch);
+            gone_over(script, outcome)
         }
         Question::Check => {
-            let shown = Shown::Check(name.as_bytes());
-            list_shown(alloc, script, settings, shown, out, watch)
+            let outcome = check(alloc, script, settings, name.as_bytes(), out, watch);
+            gone_over(script, outcome)
         }
         Question::Why { line } => {
-            let outcome = why(alloc, script, settings, form, line, out, watch);
+            let outcome = why(alloc, script, settings, line, out, watch);
             explained(script, line, outcome)
         }
         Question::Report { line } => {
@@ -254,7 +306,7 @@ pub(crate) fn answer<'a, W: Write, P: Watch>(
             reported(script, line, outcome)
         }
         Question::OverTime { subpool } => {
-            let outcome = over_time(alloc, script, settings, form, subpool, out, watch);
+            let outcome = over_time(alloc, script, settings, subpool, out, watch);
             reported(script, None, outcome)
         }
         Question::Areas { line, longest } => {
@@ -262,14 +314,13 @@ pub(crate) fn answer<'a, W: Write, P: Watch>(
             let outcome = areas(alloc, script, settings, form, line, order, out, watch);
             listed(script, line, outcome)
         }
-        Question::Who(about) => {
-            let outcome = who(alloc, script, settings, form, asked(about), out, watch);
-            followed(script, outcome)
+        Question::Who {
+            about,
+            oldest_first,
+        } => {
+            let order = change_order(oldest_first);
+            named(alloc, script, settings, form, about, order, out, watch)
         }
-        Question::Log => {
-            let outcome = log(alloc, script, settings, form, out, watch);
-            followed(script, outcome)
-        }
-        Question::Code { first, second } => explain_code(alloc, form, first, second, out),
+        Question::Code { first, second } => explain_code(alloc, first, second, out),
     }
 }

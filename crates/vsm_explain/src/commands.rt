@@ -2,19 +2,21 @@
 ghost use Rattle.std.specs.Prelude.{◌≡◌, IfErr, IfOk, map, option_map};
 ghost use Rattle.std.specs.String.{string_bytes};
 ghost use Rattle.clap.specs.Words.{kind_of};
-ghost use Rattle.vsm_explain.specs.Command.{AnswersKind, Concludes, Does};
+ghost use Rattle.vsm_explain.specs.Command.{Concludes, Does};
 ghost use Rattle.vsm_explain.specs.Messages.{Reports};
+ghost use Rattle.vsm_explain.specs.Options.{AnswersKind};
 ghost use Rattle.vsm_explain.specs.Scripts.{HasNoScript, IsScriptOf, file_in, is_listing, name_in, path_in};
 ghost use Rattle.vsm_explain.specs.Status.{IsStatus, IsWordless, status};
 
 use crate::answers::{answer, explain_code};
 use crate::faults::{CommandFault, report};
 use crate::options::read_words;
-use crate::progress::{Progress, Stopwatch};
+use crate::progress::{ProgressReport, Stopwatch};
+use crate::questions::{Asking, Question, asking_of};
+use crate::refusals::PlainText;
 use crate::scripts::{read_file, read_whole};
 use clap::Error;
 use clap::error::ErrorKind;
-use explain_questions::{Asking, PlainText, Question, asking_of};
 use std::alloc::Global;
 use std::io::{Read, Write};
 use vsm_bench::{Messages, ScriptFiles};
@@ -29,6 +31,17 @@ pub struct Terminals {
 /// What a script from standard input is called.
 const NO_NAME: &str = "standard input";
 
+/// What is written after the message about an unknown option: what `who` asks in place of two that it no longer takes.
+fn instead_of(text: &str) -> &'static [u8] {
+    if text.starts_with("unexpected argument '--taken'")
+        || text.starts_with("unexpected argument '--holds'")
+    {
+        b"; who FILE ADDRESS asks that"
+    } else {
+        b""
+    }
+}
+
 /// Writes the first paragraph of a text in one line, without `error:` at its head.
 fn put_first_paragraph<E: Write>(errors: &mut E, text: &str) {
     let text = text.strip_prefix("error: ").unwrap_or(text);
@@ -40,6 +53,7 @@ fn put_first_paragraph<E: Write>(errors: &mut E, text: &str) {
         }
         let _ = write!(errors, " {}", PlainText(line));
     }
+    let _ = errors.write_all(instead_of(text));
     let _ = errors.write_all(b"\n");
 }
 
@@ -135,10 +149,10 @@ fn answer_asking<'a, R: ScriptFiles + Stopwatch + AllocGlobal, I: Read, O: Write
         output.old output.new asking.now asking.now.question result }
 {
     if let Question::Code { first, second } = asking.question {
-        return explain_code(rt.alloc(), asking.form, first, second, output);
+        return explain_code(rt.alloc(), first, second, output);
     }
     let script = script_of(rt, rt.alloc(), asking, terminals.input, input)?;
-    let mut progress = Progress::new(rt, errors, terminals.errors);
+    let mut progress = ProgressReport::new(rt, errors, terminals.errors);
     answer(
         rt.alloc(),
         asking,

@@ -3,8 +3,8 @@ ghost use Rattle.std.specs.Prelude.{◌≡◌};
 ghost use Rattle.vsm_explain.specs.Messages.{EndsIn, fault_end};
 ghost use Rattle.vsm_explain.specs.Status.{fault_status, IsFailure};
 
+use crate::refusals::{PlainText, WordRefusal};
 use crate::scripts::{Excess, MOST_COLUMNS, MOST_LINES, Unread};
-use explain_questions::{PlainText, WordRefusal};
 use std::fmt;
 use std::fmt::{Display, Formatter};
 use std::io::Write;
@@ -69,9 +69,9 @@ impl Display for CommandFault<'_> {
                 "line {line} isn't carried out: a line before it breaks a rule of continuation",
             ),
             CommandFault::NoTask(task) => write!(f, "no statement in effect makes a task {task}"),
-            CommandFault::NoName => f.write_str(
-                "no statement in effect defines the name that --name asks for",
-            ),
+            CommandFault::NoName => {
+                f.write_str("no statement in effect defines the name that is asked for")
+            }
             CommandFault::Terminal | CommandFault::Memory | CommandFault::Write => Ok(()),
         }
     }

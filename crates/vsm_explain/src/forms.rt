@@ -1,15 +1,18 @@
 //! The commands, with their options and operands.
 ghost use Rattle.std.specs.Prelude.{◌≡◌};
-ghost use Rattle.vsm_explain.specs.Options.{form_in, list_form, report_form, who_form, why_form};
+ghost use Rattle.vsm_explain.specs.Options.{check_form, form_in, list_form, report_form, who_form, why_form};
 
 use crate::help::{
-    LIST_ABOUT, LIST_AFTER, REPORT_ABOUT, REPORT_AFTER, WHO_ABOUT, WHO_AFTER, WHY_ABOUT, WHY_AFTER,
+    CHECK_ABOUT, CHECK_AFTER, LIST_ABOUT, LIST_AFTER, REPORT_ABOUT, REPORT_AFTER, WHO_ABOUT,
+    WHO_AFTER, WHY_ABOUT, WHY_AFTER,
 };
 
 /// What a command takes an argument for; a value has a name of its own in help.
 pub(crate) enum WordKind {
     /// An option without a value.
     Flag,
+    /// An option that a command no longer has: it's refused, and help leaves it out.
+    Former,
     /// An option with a value.
     Valued(&'static str),
     /// An argument that is known by its place.
@@ -40,6 +43,17 @@ pub(crate) struct CommandForm {
     pub(crate) rows: &'static [WordRow],
 }
 
+static CHECK: CommandForm = CommandForm {
+    name: "check",
+    about: CHECK_ABOUT,
+    after: CHECK_AFTER,
+    rows: &[WordRow {
+        name: "FILE",
+        kind: WordKind::Operand("FILE"),
+        help: "The script, or - [default: standard input]",
+    }],
+};
+
 static LIST: CommandForm = CommandForm {
     name: "list",
     about: LIST_ABOUT,
@@ -47,12 +61,12 @@ static LIST: CommandForm = CommandForm {
     rows: &[
         WordRow {
             name: "check",
-            kind: WordKind::Flag,
-            help: "Print only the places of faults, as FILE:LINE:COLUMN: text; COLUMN counts bytes",
+            kind: WordKind::Former,
+            help: "",
         },
         WordRow {
-            name: "only",
-            kind: WordKind::Valued("refused"),
+            name: "refused",
+            kind: WordKind::Flag,
             help: "List only statements that are FAULT, REFUSED or ABEND",
         },
         JSON,
@@ -69,7 +83,6 @@ static WHY: CommandForm = CommandForm {
     about: WHY_ABOUT,
     after: WHY_AFTER,
     rows: &[
-        JSON,
         WordRow {
             name: "FILE",
             kind: WordKind::File,
@@ -105,7 +118,7 @@ static REPORT: CommandForm = CommandForm {
         },
         WordRow {
             name: "subpool",
-            kind: WordKind::Valued("T,N"),
+            kind: WordKind::Valued("[T,]N"),
             help: "With --over-time: only of the subpool that task T sees at N; T is 1 if it's left out",
         },
         JSON,
@@ -129,8 +142,8 @@ static WHO: CommandForm = CommandForm {
     rows: &[
         WordRow {
             name: "register",
-            kind: WordKind::Valued("T,R"),
-            help: "Ask for register R of task T",
+            kind: WordKind::Valued("[T,]N"),
+            help: "Ask for register N of task T; T is 1 if it's left out",
         },
         WordRow {
             name: "name",
@@ -139,23 +152,13 @@ static WHO: CommandForm = CommandForm {
         },
         WordRow {
             name: "subpool",
-            kind: WordKind::Valued("T,N"),
+            kind: WordKind::Valued("[T,]N"),
             help: "Ask for pages and free storage of the subpool that task T sees at N; T is 1 if it's left out",
         },
         WordRow {
-            name: "holds",
-            kind: WordKind::Valued("ADDRESS"),
-            help: "Ask for the subpool that holds the page of ADDRESS",
-        },
-        WordRow {
-            name: "taken",
-            kind: WordKind::Valued("ADDRESS"),
-            help: "Ask how the storage at ADDRESS is taken: by an obtain, or in a cell, in use or free",
-        },
-        WordRow {
-            name: "log",
+            name: "oldest-first",
             kind: WordKind::Flag,
-            help: "List each change that is kept, and each that is undone, with its line",
+            help: "Print the oldest change first, and not the newest",
         },
         JSON,
         WordRow {
@@ -166,7 +169,7 @@ static WHO: CommandForm = CommandForm {
         WordRow {
             name: "ADDRESS",
             kind: WordKind::Operand("ADDRESS"),
-            help: "The address of the first byte",
+            help: "The address of the first byte, or a name that has it",
         },
         WordRow {
             name: "COUNT",
@@ -175,6 +178,13 @@ static WHO: CommandForm = CommandForm {
         },
     ],
 };
+
+/// The command that says what is wrong with a script.
+pub(crate) fn check_form() -> &'static CommandForm
+    ensures { form_in result.now ≡ check_form }
+{
+    &CHECK
+}
 
 /// The command that lists a script.
 pub(crate) fn list_form() -> &'static CommandForm

@@ -14,9 +14,20 @@ vsm-statements(5) the statements of a script, vsm-messages(7) the answers.
 
 Exit status:
    0  the question was answered
-   4  list: at least one line is FAULT, REFUSED or ABEND, or was not carried out; why: the line's answer is one of these
+   4  check, list: at least one line is FAULT, REFUSED or ABEND, or was not carried out; why: the line's answer is one
+      of these
    8  the script can't be read, is empty or too long, or the output can't be written
   16  a wrong argument; a missing line, task or name; settings out of their limits; or no memory
+";
+
+pub(crate) const CHECK_ABOUT: &str = "Says what is wrong with a script, a line for each place.";
+
+pub(crate) const CHECK_AFTER: &str =
+    "Prints FILE:LINE:COLUMN: WORD: text, as compilers do, so that an editor can go there; COLUMN counts bytes. WORD is
+that of a FAULT, ABEND or REFUSED with the reason, WARNING, or NOT CARRIED OUT. RC=4 isn't wrong.
+
+Example: if the file example.vsm has ' STORAGE OBTAIN,LENGHT=8', 'vsm-explain check example.vsm' prints
+'example.vsm:1:17: OPERAND: no operand of STORAGE OBTAIN; LENGTH?'.
 ";
 
 pub(crate) const LIST_ABOUT: &str =
@@ -27,8 +38,7 @@ pub(crate) const LIST_AFTER: &str =
 what was expected appears under the first wrong operand. 'x' marks a line that was not carried out. A point is shown for
 each byte that isn't a printing character.
 
-Example: if the file example.vsm has ' STORAGE OBTAIN,LENGHT=8', 'vsm-explain list --check example.vsm' prints only the
-place of the fault, as compilers do, so that an editor can go there.
+Example: 'vsm-explain list --refused example.vsm' lists only the statements that weren't accepted.
 ";
 
 pub(crate) const WHY_ABOUT: &str =
@@ -57,13 +67,13 @@ pub(crate) const WHO_ABOUT: &str =
         and after.";
 
 pub(crate) const WHO_AFTER: &str =
-    "ADDRESS and N are numbers as in a script: 24582 or X'6006'. ADDRESS is hexadecimal in eight digits that begin with
-0, as answers print it, and after 0x. Ask for one thing: N bytes at ADDRESS, or one option. The first line of the
-answer says what was asked for.
+    "ADDRESS and N are numbers as in a script: 24582 or X'6006'. ADDRESS is also hexadecimal in eight digits, as answers
+print it, and after 0x; or it's a name, whose word it is at the end of the script. Ask for one thing: N bytes at
+ADDRESS, or one option. The first line of the answer says what was asked for. Of ADDRESS, it's the lines that stored
+there, and those that obtained, released or handed out that storage.
 
 Examples, as a shell takes them:
-  vsm-explain who example.vsm 00006006 2       names the lines that changed the two bytes there,
-  vsm-explain who --register 1,3 example.vsm   those that changed register 3 of task 1,
-  vsm-explain who --holds 0x6000 example.vsm   those by which the page at X'6000' came to a subpool, or left it,
-  vsm-explain who --taken 0x6040 example.vsm   those that obtained, released or handed out what is at X'6040'.
+  vsm-explain who example.vsm 00006006 2     names the lines that changed the two bytes there, or their storage,
+  vsm-explain who example.vsm TABLE          those of the address that TABLE has,
+  vsm-explain who --register 3 example.vsm   those that changed register 3 of task 1.
 ";

@@ -8,6 +8,8 @@ mod forms;
 mod help;
 mod options;
 mod progress;
+mod questions;
+mod refusals;
 mod scripts;
 
 pub use commands::{Terminals, command};

@@ -4,7 +4,9 @@ ghost use Rattle.std.specs.String.{string_bytes};
 ghost use Rattle.clap.specs.Words.{App, Shape, app_of, rule_of, shape_of, with_rule, with_subcommand};
 ghost use Rattle.vsm_explain.specs.Options.{IsCommandLine, IsShapeOf, Reads, form_in, program, rule_in};
 
-use crate::forms::{CommandForm, WordKind, WordRow, list_form, report_form, who_form, why_form};
+use crate::forms::{
+    CommandForm, WordKind, WordRow, check_form, list_form, report_form, who_form, why_form,
+};
 use crate::help::{ABOUT, AFTER, VERSION};
 use clap::{Arg, ArgAction, ArgMatches, Command, Error};
 use std::alloc::{AllocError, Global};
@@ -18,6 +20,10 @@ fn argument_of<'a>(alloc: Global, row: &'static WordRow) -> Arg<'a>
     let argument = Arg::new(alloc, row.name).help(row.help);
     match row.kind {
         WordKind::Flag => argument.long(row.name).action(ArgAction::SetTrue),
+        WordKind::Former => argument
+            .long(row.name)
+            .action(ArgAction::SetTrue)
+            .hide(true),
         WordKind::Valued(value) => argument.long(row.name).value_name(value),
         WordKind::Operand(value) => argument.value_name(value),
         WordKind::File => argument.required(true),
@@ -80,10 +86,11 @@ fn command_line<'a>(alloc: Global) -> Result<Command<'a>, AllocError>
     ensures { IfOk result (λ c. IsCommandLine (app_of c)) }
 {
     let bare = program(alloc)?;
-    let first = with_command(alloc, bare, list_form())?;
-    let second = with_command(alloc, first, why_form())?;
-    let third = with_command(alloc, second, report_form())?;
-    with_command(alloc, third, who_form())
+    let first = with_command(alloc, bare, check_form())?;
+    let second = with_command(alloc, first, list_form())?;
+    let third = with_command(alloc, second, why_form())?;
+    let fourth = with_command(alloc, third, report_form())?;
+    with_command(alloc, fourth, who_form())
 }
 
 /// What the words say, of which the first is the program's name; or the text to show: help, the version, or what is

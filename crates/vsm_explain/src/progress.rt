@@ -25,7 +25,7 @@ impl<R: Clock> Stopwatch for R {
 
 /// Reports every two seconds how many lines have been taken.
 #[derive(Drop)]
-pub(crate) struct Progress<'a, R, E> {
+pub(crate) struct ProgressReport<'a, R, E> {
     clock: &'a R,
     errors: &'a mut E,
     // When the run began; `None` if nothing is to be reported.
@@ -34,12 +34,12 @@ pub(crate) struct Progress<'a, R, E> {
     next: u64,
 }
 
-impl<'a, R: Stopwatch, E: Write> Progress<'a, R, E> {
+impl<'a, R: Stopwatch, E: Write> ProgressReport<'a, R, E> {
     /// Nothing is reported if `is_shown` is false or no clock works.
-    pub(crate) fn new(clock: &'a R, errors: &'a mut E, is_shown: bool) -> Progress<'a, R, E> {
+    pub(crate) fn new(clock: &'a R, errors: &'a mut E, is_shown: bool) -> ProgressReport<'a, R, E> {
         let began = if is_shown { clock.milliseconds() } else { None };
         let next = began.unwrap_or(0).saturating_add(PATIENCE);
-        Progress {
+        ProgressReport {
             clock,
             errors,
             began,
@@ -64,7 +64,7 @@ impl<'a, R: Stopwatch, E: Write> Progress<'a, R, E> {
     }
 }
 
-impl<R: Stopwatch, E: Write> Watch for Progress<'_, R, E> {
+impl<R: Stopwatch, E: Write> Watch for ProgressReport<'_, R, E> {
     fn line(&mut self, lines: u32) {
         if lines % LINES_BETWEEN != 0 {
             return;

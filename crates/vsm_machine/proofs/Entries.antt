@@ -6,7 +6,7 @@ use Rattle.std.specs.Map.{keys_of, lookup, values_of}
 use Rattle.std.proofs.lemmas.Bool.Decides.{nat_tests}
 use Rattle.std.proofs.lemmas.List.{take_at, take-append-le, length-map, length-take, length-take-le, length_push, take-map, map-append}
 use Rattle.std.proofs.lemmas.List.{get_or-map, get_or-take}
-use Rattle.std.proofs.Math.Seq.{get_or-append_seam}
+use Rattle.std.proofs.Math.Seq.{get_or-append_seam, take-length}
 use Rattle.std.proofs.lemmas.List.Quantifiers.{position-Some}
 use Rattle.std.proofs.lemmas.Option.{slice_get-get_or}
 use Rattle.arrayvec.specs.ArrayString.{ArrayString}
@@ -188,6 +188,10 @@ next-named rows n name word a next =
           ∙ ap (λ k. get_or (take n rows ++ (name, word) ∷ []) k no_row) (sym front)
           ∙ get_or-append_seam (take n rows) (name, word) [] no_row),
     )
+
+-- all rows are defined if no other name is in the table
+pub all-defined : (t : NameTable) → length t.table.entries ≡ t.defined → all_rows t ≡ rows_of t
+all-defined t all = sym (ap (λ n. take n (all_rows t)) (sym (length-rows t.table.entries ∙ all)) ∙ take-length (all_rows t))
 
 -- as many rows are defined as the table says
 pub defined-length : (t : NameTable) → length (rows_of t) ≡ t.defined

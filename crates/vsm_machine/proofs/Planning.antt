@@ -1,13 +1,13 @@
 -- A plan of a service is a plan of the statement that asks for it.
 use mathlib.Core.Logic.{∥∥₁_map}
-use Rattle.std.proofs.Common.{◌≡◌, ℕ, ◌+◌, ◌*◌, ◌≤◌, Bool, true, ◌||◌, Option, Some, None, List, refl, sym, ap, ◌∙◌, subst}
+use Rattle.std.proofs.Common.{◌≡◌, ℕ, ◌+◌, ◌*◌, ◌≤◌, Option, Some, None, List, refl, sym, ap, ◌∙◌, subst}
 use Rattle.vsm_model.specs.declared.causes.Cause.{Cause}
 use Rattle.vsm_model.specs.declared.causes.Family.{Family}
 use Rattle.vsm_model.specs.declared.replies.Reply.{Reply}
 use Rattle.vsm_model.specs.declared.replies.Reply.TheVariants.{Obtained, Returned, Cell, Attached, Turn, Stored}
 use Rattle.vsm_model.specs.Codes.{completion_code}
 use Rattle.vsm_model.specs.Forms.{with_code}
-use Rattle.vsm_model.specs.Names.{named, names_after, is_one_too_many, same_name}
+use Rattle.vsm_model.specs.Names.{named, names_after, is_one_too_many}
 use Rattle.vsm_model.specs.Standing as outcome
 use Rattle.vsm_model.specs.Standing.{Outcome, Accepted, Refused}
 use Rattle.vsm_model.specs.State.{State}
@@ -20,7 +20,6 @@ use Rattle.storage_core.specs.Planned.{Assigns, IsAccepted, change_for, elements
 use Rattle.storage_core.specs.Planned as planned
 use Rattle.storage_core.proofs.FramesBrought.{assigns_frames}
 use Rattle.vsm_machine.specs.StepsBack.{step_to_gives, step_to_rows}
-use Rattle.vsm_machine.specs.SameName.{same_name-self}
 use Rattle.vsm_machine.specs.declared.plans.Planned.{Planned}
 use Rattle.vsm_machine.specs.declared.refusals.Refusal.{Refusal}
 use Rattle.vsm_machine.specs.declared.refusals.Refusal.TheVariants.{Abend}
@@ -113,7 +112,3 @@ module _ (m : MachineState) (x : Act) (service : Service) (is : Some service ≡
         ∙ ap (λ o. or_abend (with_code (family_asked x) service (named m.names (name_asked x) o))) refused,
     told,
   )
-
--- a name that is put into a table is in it
-pub now_known : (name : List ℕ) (b c : Bool) → b ≡ (same_name name name || c) → b ≡ true
-now_known name b c e = e ∙ ap (λ s. s || c) (same_name-self name)

@@ -1,10 +1,11 @@
 -- The first rows of a table, its front: what they say of a name, and how they change with the table.
-use Rattle.std.proofs.Common.{◌≡◌, ℕ, zero, suc, ◌<◌, ◌≤◌, Bool, true, false, not, ◌&&◌, ◌||◌, if◌then◌else◌, Some, None, is_some, IsSome, List, [], ◌∷◌, ◌++◌, length, map, take, get_or, refl, sym, ap, ◌∙◌, arith}
+use Rattle.std.proofs.Common.{inl, inr, ◌⊎◌, true≢false, Option, ◌≡◌, ℕ, zero, suc, ◌<◌, ◌≤◌, Bool, true, false, not, ◌&&◌, ◌||◌, if◌then◌else◌, Some, None, is_some, IsSome, List, [], ◌∷◌, ◌++◌, length, map, take, get_or, refl, sym, ap, ◌∙◌, arith}
 use Rattle.std.specs.Option.{option_map}
 use Rattle.std.proofs.lemmas.Bool.{cond-true, cond-false}
 use Rattle.std.proofs.lemmas.List.{length-take-le}
 use Rattle.vsm_model.specs.Names.{same_name, word_of}
-use Rattle.vsm_machine.specs.NameTable.{place_in, row_at, with_word_at}
+use Rattle.vsm_machine.specs.NameTable.{all_rows, knows, names_of, place_in, row_at, rows_of, with_word_at}
+use Rattle.vsm_machine.specs.declared.names.NameTable.{NameTable}
 use Rattle.vsm_machine.specs.SameName.{same_name-self, same_name-is}
 use Rattle.vsm_machine.specs.StepsBack.{first_is_other}
 
@@ -48,6 +49,44 @@ word_of-behind (row ∷ rows) (suc n) name d a none =
 or-true : (b : Bool) → (b || true) ≡ true
 or-true true = refl
 or-true false = refl
+
+-- a name that the front has, the rows have
+pub front-known : (rows : Rows) (n : ℕ) (name : List ℕ) → is_some (word_of (take n rows) name) ≡ true → is_some (word_of rows name) ≡ true
+front-known rows zero name h = absurd (true≢false (sym h))
+front-known [] (suc n) name h = h
+front-known (row ∷ rows) (suc n) name h =
+    (elim (same_name row.0 name) as (λ b. is_some (if b then Some row.1 else word_of (take n rows) name) ≡ true → is_some (if b then Some row.1 else word_of rows name) ≡ true) [
+      | true ↦ λ _. refl
+      | false ↦ front-known rows n name
+    ]) h
+
+-- which names rows have, by their names only
+abbrev has_name : List (List ℕ) → List ℕ → Bool
+has_name [] name = false
+has_name (own ∷ names) name = same_name own name || has_name names name
+
+known-by-names : (rows : Rows) (name : List ℕ) → is_some (word_of rows name) ≡ has_name (map (λ row. row.0) rows) name
+known-by-names [] name = refl
+known-by-names (row ∷ rows) name =
+    elim (same_name row.0 name) as (λ b. is_some (if b then Some row.1 else word_of rows name) ≡ (b || has_name (map (λ r. r.0) rows) name)) [
+      | true ↦ refl
+      | false ↦ known-by-names rows name
+    ]
+
+pub knows-same : (s t : NameTable) → names_of t ≡ names_of s → (name : List ℕ) → knows t name ≡ knows s name
+knows-same s t e name = known-by-names (all_rows t) name ∙ ap (λ l. has_name l name) e ∙ sym (known-by-names (all_rows s) name)
+
+-- a defined name it holds
+pub defined-known : (s : NameTable) (name : List ℕ) → is_some (word_of (rows_of s) name) ≡ true → knows s name ≡ true
+defined-known s name = front-known (all_rows s) s.defined name
+
+-- a name that it then holds it held, or it is the one that is next
+pub gets-next : (s : NameTable) (own name : List ℕ) (d : Option (List ℕ)) → d ≡ Some own → (same_name own name || is_some (word_of (rows_of s) name)) ≡ true → (knows s name ≡ true) ⊎ (d ≡ Some name)
+gets-next s own name d is h =
+    (elim (same_name own name) as (λ b. same_name own name ≡ b → (b || is_some (word_of (rows_of s) name)) ≡ true → (knows s name ≡ true) ⊎ (d ≡ Some name)) [
+      | true ↦ λ same _. inr (is ∙ ap Some (same_name-is own name same))
+      | false ↦ λ _ known. inl (defined-known s name known)
+    ]) refl h
 
 -- one more row, one more name
 pub knows-more : (rows : Rows) (name other : List ℕ) (word : ℕ) → is_some (word_of (rows ++ (name, word) ∷ []) other) ≡ (same_name name other || is_some (word_of rows other))

@@ -129,9 +129,10 @@ pub record Swaps (m : Machine) (c : MachineChange) (n : Machine) (d : MachineCha
   pub same : names_of n.names ≡ names_of m.names
   pub ready : is_ready n.names d.name ≡ true
 
--- no element and no frame was made, and the same numbers are spare
-abbrev pub HasSameMemory : Machine → Machine → Type 0
-HasSameMemory m n = SameMemory m.storage.parts n.storage.parts
+-- no element, no frame, no table and no name was made, and the same numbers of elements and frames are spare
+pub record HasSameMemory (m n : Machine) : Type 0 where
+  pub storage : SameMemory m.storage.parts n.storage.parts
+  pub names : names_of n.names ≡ names_of m.names
 
 -- What the change held of the storage is spare, and all else is as it was.
 pub record Discards (m : Machine) (c : MachineChange) (n : Machine) : Type 0 where

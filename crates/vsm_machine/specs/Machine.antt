@@ -143,36 +143,20 @@ service_asked m (run task) = option_map services.run (looked_up m task)
 service_asked m end_task = Some services.end_task
 service_asked m (poke address content) = with_bytes (looked_up m address) (bytes_in m content)
 
--- the name that is given the address of the area or of the cell that a statement obtains, if it names one
+-- the name that is given the address of the area or of the cell that a statement obtains, if it names one; no other
+-- statement has a place for an address
 abbrev pub name_asked : Act → Option (List ℕ)
 name_asked (obtain length subpool target boundary location form) = name_in target
-name_asked (release length address subpool form) = None
-name_asked (whole subpool form) = None
-name_asked (build pool header primary secondary size subpool location) = None
 name_asked (get pool target conditional) = name_in target
-name_asked (free pool cell) = None
-name_asked (delete pool) = None
-name_asked (attach given shared shares_zero) = None
-name_asked (detach task) = None
-name_asked (run task) = None
-name_asked end_task = None
-name_asked (poke address content) = None
+name_asked _ = None
 
--- The family of a statement's completion codes, by its form. Those of CPOOL are the codes of STORAGE. A statement on
--- tasks and one of the bench's own have no form: their codes are the same in each.
+-- The family of a statement's completion codes, by its form. Any other statement has no form: those of CPOOL are the
+-- codes of STORAGE, and those of a statement on tasks or of the bench's own are the same in each family.
 abbrev pub family_asked : Act → Family
 family_asked (obtain length subpool target boundary location form) = form.family
 family_asked (release length address subpool form) = form.family
 family_asked (whole subpool form) = form.family
-family_asked (build pool header primary secondary size subpool location) = S
-family_asked (get pool target conditional) = S
-family_asked (free pool cell) = S
-family_asked (delete pool) = S
-family_asked (attach given shared shares_zero) = S
-family_asked (detach task) = S
-family_asked (run task) = S
-family_asked end_task = S
-family_asked (poke address content) = S
+family_asked _ = S
 
 -- a completion code is one of the reasons for which a statement is refused
 abbrev pub or_abend : Outcome NamedState Reply Code → Outcome NamedState Reply Why

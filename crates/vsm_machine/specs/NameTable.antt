@@ -1,5 +1,5 @@
 -- What a table of names holds, and its rows by place.
-use Rattle.std.specs.Prelude.{◌≡◌, ℕ, zero, suc, ◌+◌, ◌<◌, ◌⊎◌, Bool, true, false, Option, Some, None, is_some}
+use Rattle.std.specs.Prelude.{◌≡◌, ℕ, zero, suc, ◌+◌, ◌<◌, ◌⊎◌, Bool, true, Option, Some, None, is_some}
 use Rattle.std.specs.Prelude.{List, [], ◌∷◌, ◌++◌}
 use Rattle.std.specs.Prelude.{slice_index_or, if◌then◌else◌, map, take}
 use Rattle.std.specs.Option.{option_map}
@@ -52,11 +52,10 @@ knows t name = is_some (word_of (all_rows t) name)
 abbrev pub HasRoom : NameTable → List ℕ → Type 0
 HasRoom t name = (knows t name ≡ true) ⊎ (0 < spare t.table)
 
+-- a name that the table didn't hold is this one, if it is one
+abbrev pub GetsOnly : NameTable → NameTable → Option (List ℕ) → Type 0
+GetsOnly old new own = (name : List ℕ) → knows new name ≡ true → (knows old name ≡ true) ⊎ (own ≡ Some name)
+
 -- the first row after the defined ones is that of the name
 abbrev pub IsNext : NameTable → List ℕ → Type 0
 IsNext t name = (word : ℕ) × (take (t.defined + 1) (all_rows t) ≡ rows_of t ++ (name, word) ∷ [])
-
--- it is this name, if there is one
-abbrev pub is_own : Option ArrayString → List ℕ → Bool
-is_own None other = false
-is_own (Some name) other = same_name name.bytes other

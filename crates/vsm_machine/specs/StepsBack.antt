@@ -32,7 +32,7 @@ length-with_word_at [] place word = refl
 length-with_word_at (row ∷ rows) zero word = refl
 length-with_word_at (row ∷ rows) (suc place) word = ap suc (length-with_word_at rows place word)
 
--- is there then,
+-- is the word at its place,
 word-there : (rows : List (List ℕ × ℕ)) (place word : ℕ) → place < length rows
     → word_at (with_word_at rows place word) place ≡ word
 word-there [] place word h = absurd (omega (arith, h))

@@ -4,7 +4,7 @@ use Rattle.vsm_model.specs.declared.replies.Reply.{Reply}
 use Rattle.vsm_model.specs.Names.{NamedState, word_of}
 use Rattle.vsm_model.specs.Standing.{Accepted}
 use Rattle.macro_statements.specs.Requests.{Act}
-use Rattle.vsm_machine.specs.NameTable.{HasRoom}
+use Rattle.vsm_machine.specs.NameTable.{GetsOnly, HasRoom}
 use Rattle.storage_core.specs.Fresh.{HasFramesFor}
 use Rattle.storage_core.specs.Memory.{Makes}
 use Rattle.storage_core.specs.Planned.{fresh_pages, IsSpareFor}
@@ -44,7 +44,8 @@ FindsMemory (Err NoMemory) = ⊥
 FindsMemory _ = ⊤
 
 -- For a statement with this plan at most a block of elements was made beyond the live ones and those that its weight
--- asks for, and no frame beyond those of the pages that become assigned and those that weren't spare.
-abbrev pub MakesFor : Machine → Act → Planned → Machine → Type 0
-MakesFor m x p n =
-    Makes m.storage.parts n.storage.parts (32 + 8 * weight_asked (shown m) x) (fresh_pages p.plan).len
+-- asks for, no frame beyond those of the pages that become assigned and those that weren't spare, and a table only for
+-- a segment of these pages. The table of names has no other new name than the one that it defines.
+pub record MakesFor (m : Machine) (x : Act) (p : Planned) (n : Machine) : Type 0 where
+  pub storage : Makes m.storage.parts n.storage.parts (32 + 8 * weight_asked (shown m) x) (fresh_pages p.plan)
+  pub names : GetsOnly m.names n.names (defined_by (step_planned p))

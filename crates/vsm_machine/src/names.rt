@@ -1,6 +1,6 @@
 //! The table of the names that are defined or undone.
 ghost use Rattle.std.specs.Prelude.{◌≤◌};
-ghost use Rattle.indexmap.specs.IndexMap.{index_map_len};
+ghost use Rattle.indexmap.specs.IndexMap.{index_map_len, spare};
 
 use crate::name_changes::NameChange;
 use indexmap::IndexMap;
@@ -24,12 +24,12 @@ pub struct NameTable {
 
 impl NameTable {
     ghost use Rattle.std.specs.Prelude.{◌≡◌, ℕ, ◌<◌, ◌^◌, ◌&&◌, ◌||◌, not, false, true, is_some, [], List, length};
-    ghost use Rattle.std.specs.Prelude.{nat_le, None, Some, IsOk, OnOk, OnErr, IfSome, IsTrue};
+    ghost use Rattle.std.specs.Prelude.{◌++◌, ◌∷◌, nat_le, None, Some, IsOk, OnOk, OnErr, IfSome, IsTrue};
     ghost use Rattle.std.specs.Prelude.{option_map, slice_get};
     ghost use Rattle.vsm_model.specs.Names.{same_name, word_of, with_name};
     ghost use Rattle.vsm_machine.specs.NameChanges.{step_by, step_in, step_to, stepped, turned};
     ghost use Rattle.vsm_machine.specs.NameSteps.{is_ready, FitsTable};
-    ghost use Rattle.vsm_machine.specs.NameTable.{all_rows, is_own, knows, names_of, row_of, rows_of, HasRoom, IsNext};
+    ghost use Rattle.vsm_machine.specs.NameTable.{all_rows, knows, names_of, row_of, rows_of, HasRoom, IsNext};
     ghost use Rattle.vsm_machine.specs.NameTable.{place_in, word_at, with_word_at};
 
     /// A table with no name. This takes no memory.
@@ -112,41 +112,80 @@ impl NameTable {
 
     /// Ensures that the table holds the name, not yet defined if it is new: after all others. On `AllocError` the table
     /// holds what it held. If it already holds the name, or has room for another, no memory is asked for.
-    pub fn reserve(&mut self, name: Name) -> Result<(), AllocError>
+    pub fn reserve(&mut self, name: &Name) -> Result<(), AllocError>
         ensures rows { rows_of self.new ≡ rows_of self.old }
         ensures ok { OnOk result ((other : List ℕ)
-            → knows self.new other ≡ (same_name name.bytes other || knows self.old other)) }
+            → knows self.new other ≡ (same_name name.now.bytes other || knows self.old other)) }
         ensures err { OnErr result (names_of self.new ≡ names_of self.old) }
-        ensures needless { HasRoom self.old name.bytes → IsOk result }
+        ensures needless { HasRoom self.old name.now.bytes → IsOk result }
     {
-        if self.table.contains_key(&name) {
+        if self.table.contains_key(name) {
             return Ok(());
         }
-        match self.table.insert(name, 0) {
+        self.append(name)?;
+        Ok(())
+    }
+
+    // Puts a name that the table doesn't hold after all others.
+    fn append(&mut self, name: &Name) -> Result<(), AllocError>
+        requires { knows self.old name.now.bytes ≡ false }
+        ensures rows { rows_of self.new ≡ rows_of self.old }
+        ensures ok { OnOk result (all_rows self.new ≡ all_rows self.old ++ (name.now.bytes, 0) ∷ []) }
+        ensures defined { self.new.defined ≡ self.old.defined }
+        ensures err { OnErr result (names_of self.new ≡ names_of self.old) }
+        ensures needless { 0 < spare self.old.table → IsOk result }
+    {
+        match self.table.insert(*name, 0) {
             Ok(_) => Ok(()),
             Err(_) => Err(AllocError),
         }
     }
 
-    /// Takes every undone name out of the table except `own`, so that the table holds the defined names and, if it held
-    /// it, `own`, which is then the next one after them if it isn't defined. Nothing is inserted.
-    pub fn forget_undone(&mut self, own: Option<Name>)
+    /// Ensures that the table holds a name that isn't defined, as the next one after the defined ones, and takes every
+    /// other undone name out of it. On `AllocError` the table holds what it held. If it already holds the name, or has
+    /// room for another, no memory is asked for.
+    pub fn make_next(&mut self, name: &Name) -> Result<(), AllocError>
+        requires { word_of (rows_of self.old) name.now.bytes ≡ None }
         ensures rows { rows_of self.new ≡ rows_of self.old }
-        ensures own { IfSome own (λ name. knows self.old name.bytes ≡ true → knows self.new name.bytes ≡ true) }
-        ensures others { (other : List ℕ) → knows self.new other
-            ≡ (is_some (word_of (rows_of self.old) other) || (is_own own other && knows self.old other)) }
-        ensures next { IfSome own (λ name. word_of (rows_of self.old) name.bytes ≡ None
-            → knows self.old name.bytes ≡ true → IsNext self.new name.bytes) }
+        ensures next { OnOk result (IsNext self.new name.now.bytes) }
+        ensures others { OnOk result ((other : List ℕ) → knows self.new other
+            ≡ (same_name name.now.bytes other || is_some (word_of (rows_of self.old) other))) }
+        ensures err { OnErr result (names_of self.new ≡ names_of self.old) }
+        ensures needless { HasRoom self.old name.now.bytes → IsOk result }
     {
-        match own {
-            None => self.table.truncate(self.defined),
-            Some(name) => {
-                if self.put_next(&name) {
-                    self.table.truncate(self.defined + 1);
-                } else {
-                    self.table.truncate(self.defined);
-                }
-            }
+        if self.table.len() == self.defined {
+            self.append(name)?;
+        } else {
+            self.reserve(name)?;
+            self.forget_others(name);
+        }
+        Ok(())
+    }
+
+    /// Takes every undone name out of the table. Nothing is inserted.
+    pub fn forget_undone(&mut self)
+        ensures rows { rows_of self.new ≡ rows_of self.old }
+        ensures others { (other : List ℕ) → knows self.new other ≡ is_some (word_of (rows_of self.old) other) }
+    {
+        if self.defined < self.table.len() {
+            self.table.truncate(self.defined);
+        }
+    }
+
+    /// Takes every undone name but this one out of the table, so that the table holds the defined names and, if it held
+    /// it, this one, which is then the next one after them if it isn't defined. Nothing is inserted.
+    pub fn forget_others(&mut self, own: &Name)
+        ensures rows { rows_of self.new ≡ rows_of self.old }
+        ensures own { knows self.old own.now.bytes ≡ true → knows self.new own.now.bytes ≡ true }
+        ensures others { (other : List ℕ) → knows self.new other
+            ≡ (is_some (word_of (rows_of self.old) other) || (same_name own.now.bytes other && knows self.old other)) }
+        ensures next { word_of (rows_of self.old) own.now.bytes ≡ None → knows self.old own.now.bytes ≡ true
+            → IsNext self.new own.now.bytes }
+    {
+        if self.put_next(own) {
+            self.table.truncate(self.defined + 1);
+        } else {
+            self.table.truncate(self.defined);
         }
     }
 

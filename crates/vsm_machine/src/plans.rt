@@ -3,11 +3,11 @@ ghost use Rattle.std.specs.Prelude.{◌≡◌, ◌≤◌, IfOk, IfSome, IsOk, On
 ghost use Rattle.std.specs.Option.{option_map};
 ghost use Rattle.vsm_model.specs.Names.{is_one_too_many};
 ghost use Rattle.storage_core.specs.Meaning.{state_in_place, settings_of};
-ghost use Rattle.storage_core.specs.Planned.{CanBeReserved, elements_needed, pages_assigned};
+ghost use Rattle.storage_core.specs.Planned.{CanBeReserved, elements_needed, fresh_pages};
 ghost use Rattle.storage_core.specs.Memory.{Makes};
 ghost use Rattle.storage_core.specs.Stays.{Stays};
 ghost use Rattle.macro_statements.specs.Requests.{act_in, IsValidAct};
-ghost use Rattle.vsm_machine.specs.NameTable.{names_of, rows_of, HasRoom};
+ghost use Rattle.vsm_machine.specs.NameTable.{names_of, rows_of, GetsOnly, HasRoom};
 ghost use Rattle.vsm_machine.specs.NameChanges.{step_in};
 ghost use Rattle.vsm_machine.specs.NameSteps.{FitsTable, GivesBy};
 ghost use Rattle.vsm_machine.specs.Changes.{shown};
@@ -108,18 +108,16 @@ fn make_ready(
     ensures step { IfOk result (λ change. option_map (step_in names.new) change ≡ plan_step plan.entry) }
     ensures fits { IfOk result (λ change. FitsTable names.new change) }
     ensures err { OnErr result (names_of names.new ≡ names_of names.old) }
+    ensures gets { GetsOnly names.old names.new (defined_by (plan_step plan.entry)) }
     ensures needless { IfSome (defined_by (plan_step plan.entry)) (λ name. HasRoom names.old name) → IsOk result }
 {
     let Some(planned) = plan else {
-        names.forget_undone(None);
+        names.forget_undone();
         return Ok(None);
     };
     match planned.change {
-        NameChange::Define { .. } => {
-            names.reserve(*planned.name)?;
-            names.forget_undone(Some(*planned.name));
-        }
-        NameChange::Undefine | NameChange::Reword { .. } => names.forget_undone(None),
+        NameChange::Define { .. } => names.make_next(planned.name)?,
+        NameChange::Undefine | NameChange::Reword { .. } => names.forget_undone(),
     }
     Ok(Some(planned.change))
 }
@@ -130,8 +128,9 @@ fn make_ready(
 ///
 /// Refused if there is no memory for it; the table then holds the names that it held. It takes no memory if as many
 /// elements are spare as the change takes, and a frame and a table for each page that becomes assigned, and there is
-/// room for the name that is defined, if one is. At most a block of elements is made beyond those that the change
-/// takes, and no frame beyond those of its pages, whatever the answer: they stay as spare ones.
+/// room for the name that is defined, if one is. Whatever the answer, at most a block of elements is made beyond those
+/// that the change takes, no frame beyond those of its pages, and a table only for a segment of these, and they stay;
+/// and the table of names gets no other name.
 pub fn reserve(machine: &mut Machine, planned: &Planned<'_>) -> Result<MachineChange, AllocError>
     requires fits { CanBeReserved (state_in_place machine.old.storage) planned.now.plan }
     requires gives { GivesBy (rows_of machine.old.names) (step_planned planned.now) }
@@ -144,7 +143,8 @@ pub fn reserve(machine: &mut Machine, planned: &Planned<'_>) -> Result<MachineCh
     ensures needless { elements_needed (state_in_place machine.old.storage) planned.now.plan
         ≤ machine.old.storage.parts.elements.spare → NeedsNoMore machine.old planned.now → IsOk result }
     ensures made { Makes machine.old.storage.parts machine.new.storage.parts
-        (elements_needed (state_in_place machine.old.storage) planned.now.plan) (pages_assigned planned.now.plan) }
+        (elements_needed (state_in_place machine.old.storage) planned.now.plan) (fresh_pages planned.now.plan) }
+    ensures gets { GetsOnly machine.old.names machine.new.names (defined_by (step_planned planned.now)) }
 {
     let Planned { plan, name } = planned;
     let storage = match machine.storage.reserve(plan) {

@@ -1,5 +1,5 @@
 -- Causes in their order, completion codes, texts and limits.
-use Rattle.std.specs.Prelude.{◌≡◌, ℕ, Bool, true, false, Some, None, List, [], ◌∷◌, map, codes}
+use Rattle.std.specs.Prelude.{◌≡◌, ℕ, Bool, true, false, Some, None, List, [], ◌∷◌, map, codes, replicate}
 use Rattle.vsm_model.specs.declared.causes.Cause.{Cause}
 use Rattle.vsm_model.specs.declared.causes.Cause.TheVariants.{UnsupportedSubpool, SubpoolNotAllowed, BadLength}
 use Rattle.vsm_model.specs.declared.causes.Cause.TheVariants.{TooManyNames, NoStorage, Misaligned, NotInSubpool}
@@ -26,6 +26,8 @@ use Rattle.vsm_model.specs.Standing.{Answer, Replied, RefusedFor, outcome_answer
 use Rattle.vsm_model.specs.Names.{NamedState, is_one_too_many}
 use Rattle.vsm_model.specs.Forms.{formed_step}
 use Rattle.vsm_model.specs.Map.{numbers}
+use Rattle.vsm_model.specs.Regions.{settings_valid}
+use Rattle.worked_examples.specs.Calls.{standard, with_history}
 use Rattle.worked_examples.specs.Calls.{pages, answers, after, address, asks, area, storage_obtain, given_back}
 use Rattle.worked_examples.specs.Calls.{release_whole, pool_name, build_cells, cells, get_operands, get_cell, granted}
 use Rattle.worked_examples.specs.Calls.{returned, system_abend, user_abend}
@@ -107,7 +109,7 @@ CausesComeInOrder =
     ≡ RefusedFor NoStorage ∷ RefusedFor NotAssigned ∷ RefusedFor BadList ∷ [])
 
 -- The same release is refused with another code in each family of forms, and returns 4 if it is conditional. Cells are
--- not released as an area.
+-- not released as an area; free storage after them is found first, and the area before them is released.
 abbrev pub FormsAndTheirCodes : Type 0
 FormsAndTheirCodes =
     answers (pages 2 1)
@@ -119,6 +121,8 @@ FormsAndTheirCodes =
     ∷ build_cells (cells 1 8 1)
     ∷ asks E (release (given_back 8 (address 6 24) 1))
     ∷ asks E (release (record (given_back 8 (address 6 24) 1) { conditional = true }))
+    ∷ asks E (release (given_back 16 (address 6 24) 1))
+    ∷ asks E (release (given_back 24 (address 6 0) 1))
     ∷ asks R (whole 200)
     ∷ asks R (whole 131)
     ∷ release_whole 9
@@ -131,6 +135,8 @@ FormsAndTheirCodes =
     ∷ granted (address 6 24) 8
     ∷ user_abend 3006
     ∷ returned 4
+    ∷ system_abend 0xa05
+    ∷ returned 0
     ∷ system_abend 0xb0a
     ∷ user_abend 3007
     ∷ user_abend 3003
@@ -233,13 +239,25 @@ RepliesAsTexts =
 abbrev pub many_names : List (List ℕ × ℕ)
 many_names = map (λ n. (n ∷ n ∷ [], 0)) (numbers 0 1024)
 
--- There are at most 256 cell pools and 1,024 names; a name that is defined can be given another word.
+-- There are at most 256 cell pools and 1,024 names; a name that is defined can be given another word. The regions have
+-- whole pages, at most 16,360K below the line and 1,572,864K above it, and a history has 1 to 65,536 changes.
 abbrev pub Limits : Type 0
 Limits =
     (first_answers full_of_pools false (build pool_name None (cells 1 4 0) ∷ []) ≡ RefusedFor TooManyCellPools ∷ [])
     × (is_one_too_many many_names (Some (codes "P")) ≡ true)
     × (is_one_too_many many_names (Some (codes "PP")) ≡ false)
     × (is_one_too_many many_names None ≡ false)
+    × (map settings_valid
+    (pages 4090 393216
+    ∷ with_history 65536
+    ∷ pages 4091 1
+    ∷ pages 1 393217
+    ∷ pages 0 1
+    ∷ record standard { low_k = 66 }
+    ∷ with_history 65537
+    ∷ with_history 0
+    ∷ [])
+    ≡ true ∷ true ∷ replicate 6 false)
 
 -- a cell pool whose one cell is in use, and 1,024 names without P
 abbrev pub full_of_names : NamedState

@@ -1,13 +1,15 @@
 -- Maps of small machines, line by line, and the answers to the calls before them.
-use Rattle.std.specs.Prelude.{◌≡◌, false, Some, None, List, [], ◌∷◌, ◌++◌, codes}
+use Rattle.std.specs.Prelude.{◌≡◌, ◌&&◌, ◌==◌, false, if◌then◌else◌, Some, None, List, [], ◌∷◌, ◌++◌, codes}
 use Rattle.vsm_model.specs.declared.causes.Family.TheVariants.{S}
 use Rattle.vsm_model.specs.declared.services.Location.TheVariants.{Either}
 use Rattle.vsm_model.specs.declared.services.Passed.{Passed}
 use Rattle.vsm_model.specs.declared.services.Passed.TheVariants.{Nothing, Number}
 use Rattle.vsm_model.specs.declared.services.Build.{Build}
+use Rattle.vsm_model.specs.State.{State, first_state}
 use Rattle.vsm_model.specs.Services.{obtain, attach, build, get}
 use Rattle.vsm_model.specs.Standing.{Call, Back, Moved}
 use Rattle.vsm_model.specs.Forms.{FormedService}
+use Rattle.vsm_model.specs.Map.{storage_map}
 use Rattle.worked_examples.specs.Calls.{pages, standard, answers, address, high, asks, asks_with_name, area}
 use Rattle.worked_examples.specs.Calls.{storage_obtain, storage_release, conditional_release, release_whole}
 use Rattle.worked_examples.specs.Calls.{attach_task, detach_task, run_task, pool_name, get_operands, conditional_get}
@@ -35,6 +37,27 @@ AMap =
     ∷ codes " PAGES LOW 1 OF 16 HIGH 0 OF 16"
     ∷ codes " BYTES TAKEN 16 FREE 4080"
     ∷ codes " HISTORY KEPT 5 OF 1024"
+    ∷ [])
+
+-- the greatest number of a task, which owns the greatest number of a subpool
+abbrev pub the_last : State
+the_last =
+    record first_state {
+      parents = λ task. if task == 64 then Some 1 else None;
+      subpools = λ number owner. (number == 127) && (owner == 64);
+    }
+
+-- A map goes up to the last task and the last subpool.
+abbrev pub AMapOfTheLastNumbers : Type 0
+AMapOfTheLastNumbers =
+    storage_map (pages 1 1) the_last
+    ≡ lines
+    (codes " TASK 64 PARENT 1"
+    ∷ codes "  R0 00000000 00000000 00000000 00000000 00000000 00000000 00000000 00000000"
+    ∷ codes "  R8 00000000 00000000 00000000 00000000 00000000 00000000 00000000 00000000"
+    ∷ codes " SUBPOOL 127 OWNER 64 SHARERS NONE"
+    ∷ codes " PAGES LOW 0 OF 1 HIGH 0 OF 1"
+    ∷ codes " BYTES TAKEN 0 FREE 0"
     ∷ [])
 
 -- a cell pool of subpool 5 above the line

@@ -117,7 +117,7 @@ AHistoryOfOneChange =
 abbrev pub calls_that_fill_the_region : List (Call FormedService)
 calls_that_fill_the_region = storage_obtain 65536 0 ∷ conditional_obtain 8 0 ∷ []
 
--- An answer 4 is kept, and sets only register 15; a step back undoes that.
+-- An answer 4 is kept, and sets only register 15; a step back undoes that, and the next area sets it to 0.
 abbrev pub AnAnswerOf4IsKept : Type 0
 AnAnswerOf4IsKept =
     (counted_answers standard (calls_that_fill_the_region ++ Back 1 ∷ [])
@@ -125,6 +125,7 @@ AnAnswerOf4IsKept =
     × (register_after standard calls_that_fill_the_region 15 ≡ 4)
     × (register_after standard calls_that_fill_the_region 1 ≡ address 6 0)
     × (register_after standard (calls_that_fill_the_region ++ Back 1 ∷ []) 15 ≡ 0)
+    × (register_after (pages 1 1) (conditional_obtain 8192 0 ∷ storage_obtain 8 0 ∷ []) 15 ≡ 0)
 
 abbrev pub calls_around_a_page : List (Call FormedService)
 calls_around_a_page = storage_obtain 8 1 ∷ Back 1 ∷ storage_release 8 (address 6 0) 1 ∷ []

@@ -2,6 +2,7 @@
 use Rattle.std.specs.Prelude.{◌≡◌, ℕ, true, Some, None, List, [], ◌∷◌, ◌++◌, codes, replicate}
 use Rattle.vsm_model.specs.declared.causes.Family.TheVariants.{E, R, S}
 use Rattle.vsm_model.specs.declared.replies.Reply.TheVariants.{Stored}
+use Rattle.vsm_model.specs.declared.limits.Residence.TheVariants.{Above}
 use Rattle.vsm_model.specs.declared.services.Boundary.TheVariants.{Page}
 use Rattle.vsm_model.specs.declared.services.Location.TheVariants.{Low, Either, Caller}
 use Rattle.vsm_model.specs.declared.services.Passed.TheVariants.{Nothing, Number}
@@ -26,7 +27,7 @@ TwoSubpoolsNeverShareAPage =
     answers standard (storage_obtain 8 1 ∷ storage_obtain 8 2 ∷ [])
     ≡ granted (address 6 0) 8 ∷ granted (address 7 0) 8 ∷ []
 
--- An area is released in parts; what is free can't be released.
+-- An area is released in parts, also all but the last doubleword of a page; what is free can't be released.
 abbrev pub AnAreaReleasedInParts : Type 0
 AnAreaReleasedInParts =
     answers standard
@@ -35,8 +36,19 @@ AnAreaReleasedInParts =
     ∷ storage_release 16 (address 6 0) 1
     ∷ storage_release 32 (address 6 32) 1
     ∷ storage_release 8 (address 6 0) 1
+    ∷ storage_obtain 4096 1
+    ∷ storage_release 4088 (address 6 0) 1
+    ∷ storage_release 8 (address 6 4088) 1
     ∷ [])
-    ≡ granted (address 6 0) 64 ∷ returned 0 ∷ returned 0 ∷ returned 0 ∷ system_abend 0xa78 ∷ []
+    ≡ granted (address 6 0) 64
+    ∷ returned 0
+    ∷ returned 0
+    ∷ returned 0
+    ∷ system_abend 0xa78
+    ∷ granted (address 6 0) 4096
+    ∷ returned 0
+    ∷ returned 0
+    ∷ []
 
 -- more bytes than a region has
 abbrev pub large : Obtain
@@ -173,10 +185,10 @@ ConditionalReleases =
     × (peeked standard calls_answered_4 (address 6 0) 1 ≡ Some (0 ∷ []))
     × (owner_after standard calls_answered_4 1 3 ≡ None)
 
--- Storage on either side of the line is above it if there is room.
+-- Storage on either side of the line is above it if there is room, and so is that of a caller above it.
 abbrev pub BothSidesOfTheLine : Type 0
 BothSidesOfTheLine =
-    answers (pages 3 3)
+    (answers (pages 3 3)
     (getmain 12288 Either
     ∷ getmain 8 Either
     ∷ getmain 8 Caller
@@ -190,7 +202,8 @@ BothSidesOfTheLine =
     ∷ returned 0
     ∷ granted (address 6 16) 8
     ∷ granted (address high 0) 8
-    ∷ []
+    ∷ [])
+    × (answers (record (pages 1 1) { residence = Above }) (getmain 8 Caller ∷ []) ≡ granted (address high 0) 8 ∷ [])
 
 -- An area doesn't go from one region to the other, nor past the end of one, nor does a length wrap.
 abbrev pub EndsOfTheRegions : Type 0
@@ -217,8 +230,8 @@ EndsOfTheRegions =
     ∷ user_abend 3003
     ∷ []
 
--- Whole releases, which only their owner can make, and never of subpool 0; and numbers that aren't those of private
--- storage.
+-- Whole releases, which only their owner can make, and never of subpool 0, and which leave another owner's subpool of
+-- the number; and numbers that aren't those of private storage.
 abbrev pub WholeReleasesAndNumbers : Type 0
 WholeReleasesAndNumbers =
     answers standard
@@ -234,6 +247,15 @@ WholeReleasesAndNumbers =
     ∷ attach_task Nothing (Number 7)
     ∷ run_task 2
     ∷ asks R (whole 7)
+    ∷ attach_task (Number 7) (Number 7)
+    ∷ attach_task Nothing Nothing
+    ∷ run_task 3
+    ∷ storage_obtain 8 7
+    ∷ run_task 1
+    ∷ storage_obtain 8 7
+    ∷ release_whole 7
+    ∷ run_task 3
+    ∷ storage_release 8 (address 7 0) 7
     ∷ [])
     ≡ granted (address 6 0) 8
     ∷ returned 0
@@ -247,6 +269,15 @@ WholeReleasesAndNumbers =
     ∷ new_task 2
     ∷ turn 2
     ∷ user_abend 3005
+    ∷ user_abend 3014
+    ∷ new_task 3
+    ∷ turn 3
+    ∷ granted (address 7 0) 8
+    ∷ turn 1
+    ∷ granted (address 8 0) 8
+    ∷ returned 0
+    ∷ turn 3
+    ∷ returned 0
     ∷ []
 
 abbrev pub calls_on_a_page : List (Call FormedService)

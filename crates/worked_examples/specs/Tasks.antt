@@ -12,7 +12,7 @@ use Rattle.vsm_model.specs.Map.{numbers}
 use Rattle.worked_examples.specs.Calls.{pages, standard, answers, after, address, high, asks, asks_with_name, area}
 use Rattle.worked_examples.specs.Calls.{storage_obtain, storage_release, poke, attach_task, detach_task, end_of_task}
 use Rattle.worked_examples.specs.Calls.{run_task, granted, returned, new_task, turn, system_abend, user_abend, peeked}
-use Rattle.worked_examples.specs.Calls.{owner_after}
+use Rattle.worked_examples.specs.Calls.{owner_after, register_after}
 
 abbrev pub calls_up_to_the_end : List (Call FormedService)
 calls_up_to_the_end =
@@ -29,7 +29,8 @@ calls_up_to_the_end =
 abbrev pub calls_with_the_end : List (Call FormedService)
 calls_with_the_end = calls_up_to_the_end ++ end_of_task ∷ []
 
--- A subpool that is given goes with its pages, and is gone when its new owner ends; one that is shared stays.
+-- A subpool that is given goes with its pages, and is gone when its new owner ends; one that is shared stays. The next
+-- task of the number has zero registers.
 abbrev pub GiftsAndShares : Type 0
 GiftsAndShares =
     (answers standard calls_with_the_end
@@ -46,6 +47,7 @@ GiftsAndShares =
     × (peeked standard calls_with_the_end (address 6 0) 1 ≡ None)
     × (peeked standard calls_with_the_end (address 7 8) 1 ≡ Some (0 ∷ []))
     × (peeked standard (calls_with_the_end ++ Back 1 ∷ []) (address 6 0) 1 ≡ Some (0x55 ∷ []))
+    × (register_after standard (calls_with_the_end ++ attach_task Nothing Nothing ∷ run_task 2 ∷ []) 1 ≡ 0)
 
 -- The sharers of a subpool that is given see it as before.
 abbrev pub ASharerSeesAGift : Type 0
@@ -241,22 +243,28 @@ AtMost64Tasks =
     answers (pages 1 1) (replicate 64 (attach_task Nothing Nothing))
     ≡ map new_task (numbers 2 65) ++ user_abend 3013 ∷ []
 
--- Each of 63 new tasks is the subtask of the one before it. The last one can't attach another; the end of task 2 ends
--- them all, and the next new task has its number.
+-- Each of 63 new tasks is the subtask of the one before it. The last one can't attach another, and the one before it
+-- can't end; the end of task 2 ends them all, and the next new task has its number.
 abbrev pub SixtyFourTasksInARow : Type 0
 SixtyFourTasksInARow =
     answers (pages 1 1)
     (flat_map (λ task. attach_task Nothing Nothing ∷ run_task task ∷ []) (numbers 2 65)
     ++ attach_task Nothing Nothing
+    ∷ run_task 63
+    ∷ end_of_task
+    ∷ run_task 64
     ∷ end_of_task
     ∷ run_task 1
     ∷ detach_task 3
     ∷ detach_task 2
-    ∷ run_task 64
+    ∷ run_task 63
     ∷ attach_task Nothing Nothing
     ∷ [])
     ≡ flat_map (λ task. new_task task ∷ turn task ∷ []) (numbers 2 65)
     ++ user_abend 3013
+    ∷ turn 63
+    ∷ system_abend 0xa03
+    ∷ turn 64
     ∷ turn 63
     ∷ turn 1
     ∷ user_abend 3008

@@ -9,7 +9,7 @@ pub fn causes_come_in_order()
 {}
 
 /// The same release is refused with another code in each family of forms, and returns 4 if it is conditional. Cells are
-/// not released as an area.
+/// not released as an area; free storage after them is found first, and the area before them is released.
 pub fn forms_and_their_codes()
     ensures { FormsAndTheirCodes }
 {}
@@ -25,7 +25,8 @@ pub fn replies_as_texts()
     ensures { RepliesAsTexts }
 {}
 
-/// There are at most 256 cell pools and 1,024 names; a name that is defined can be given another word.
+/// There are at most 256 cell pools and 1,024 names; a name that is defined can be given another word. The regions have
+/// whole pages, at most 16,360K below the line and 1,572,864K above it, and a history has 1 to 65,536 changes.
 pub fn limits()
     ensures { Limits }
 {}

@@ -1,10 +1,15 @@
 //! Maps of small machines, line by line, and the answers to the calls before them.
 ghost use Rattle.worked_examples.specs.Maps.{AMap, AMapFromBeforeAnEnd, AMapOfAllKindsOfLines, AnEndTakesACellPool};
-ghost use Rattle.worked_examples.specs.Maps.{OnlyTheOwnerGivesASubpool};
+ghost use Rattle.worked_examples.specs.Maps.{AMapOfTheLastNumbers, OnlyTheOwnerGivesASubpool};
 
 /// The map of three areas, of which two are released.
 pub fn a_map()
     ensures { AMap }
+{}
+
+/// A map goes up to the last task and the last subpool.
+pub fn a_map_of_the_last_numbers()
+    ensures { AMapOfTheLastNumbers }
 {}
 
 /// A task that doesn't own a subpool can't give it to another, nor release it whole; but it can obtain from it, and get

@@ -38,7 +38,7 @@ pub fn a_history_of_one_change()
     ensures { AHistoryOfOneChange }
 {}
 
-/// An answer 4 is kept, and sets only register 15; a step back undoes that.
+/// An answer 4 is kept, and sets only register 15; a step back undoes that, and the next area sets it to 0.
 pub fn an_answer_of_4_is_kept()
     ensures { AnAnswerOf4IsKept }
 {}

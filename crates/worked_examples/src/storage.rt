@@ -16,7 +16,7 @@ pub fn two_subpools_never_share_a_page()
     ensures { TwoSubpoolsNeverShareAPage }
 {}
 
-/// An area is released in parts; what is free can't be released.
+/// An area is released in parts, also all but the last doubleword of a page; what is free can't be released.
 pub fn an_area_released_in_parts()
     ensures { AnAreaReleasedInParts }
 {}
@@ -59,7 +59,7 @@ pub fn conditional_releases()
     ensures { ConditionalReleases }
 {}
 
-/// Storage on either side of the line is above it if there is room.
+/// Storage on either side of the line is above it if there is room, and so is that of a caller above it.
 pub fn both_sides_of_the_line()
     ensures { BothSidesOfTheLine }
 {}
@@ -69,8 +69,8 @@ pub fn ends_of_the_regions()
     ensures { EndsOfTheRegions }
 {}
 
-/// Whole releases, which only their owner can make, and never of subpool 0; and numbers that aren't those of private
-/// storage.
+/// Whole releases, which only their owner can make, and never of subpool 0, and which leave another owner's subpool of
+/// the number; and numbers that aren't those of private storage.
 pub fn whole_releases_and_numbers()
     ensures { WholeReleasesAndNumbers }
 {}

@@ -3,7 +3,8 @@ ghost use Rattle.worked_examples.specs.Tasks.{AGiftIsHandedOn, AListInStorage, A
 ghost use Rattle.worked_examples.specs.Tasks.{GiftsAndShares, ListsAtTheLastBytes, SixtyFourTasksInARow};
 ghost use Rattle.worked_examples.specs.Tasks.{TasksBeginAndEnd, WhoCanNotEndATask};
 
-/// A subpool that is given goes with its pages, and is gone when its new owner ends; one that is shared stays.
+/// A subpool that is given goes with its pages, and is gone when its new owner ends; one that is shared stays. The next
+/// task of the number has zero registers.
 pub fn gifts_and_shares()
     ensures { GiftsAndShares }
 {}
@@ -45,8 +46,8 @@ pub fn at_most_64_tasks()
     ensures { AtMost64Tasks }
 {}
 
-/// Each of 63 new tasks is the subtask of the one before it. The last one can't attach another; the end of task 2 ends
-/// them all, and the next new task has its number.
+/// Each of 63 new tasks is the subtask of the one before it. The last one can't attach another, and the one before it
+/// can't end; the end of task 2 ends them all, and the next new task has its number.
 pub fn sixty_four_tasks_in_a_row()
     ensures { SixtyFourTasksInARow }
 {}

@@ -69,7 +69,7 @@ end
 check('hover on a name', hover(11, 6):match('P = 00006000 by line 5') ~= nil)
 local text = hover(5, 3)
 check('hover on an operation', text:match('RC=0 A=00006000') ~= nil and text:match('STORAGE OBTAIN,LENGTH=value') ~= nil)
-check('hover on an operand', hover(5, 17):match('LENGTH: how many bytes') ~= nil)
+check('hover on an operand', hover(5, 17):match('LENGTH: the number of bytes') ~= nil)
 
 cursor(11, 6)
 vim.lsp.buf.definition()

@@ -4,7 +4,7 @@ use Rattle.std.proofs.lemmas.Result.{err_from_is_err_and}
 use Rattle.vsm_model.specs.Subpools.{seen_or_own, sees_one}
 use Rattle.vsm_model.specs.Causes.{first_cause}
 use Rattle.vsm_model.specs.Cells.{build_causes}
-use Rattle.cell_extents.specs.declared.settings.CellSettings.{CellSettings}
+use Rattle.cell_pool.specs.declared.settings.CellSettings.{CellSettings}
 use Rattle.storage_changes.specs.Meaning.{model_of}
 use Rattle.storage_swap.specs.Storage.{state_of}
 use Rattle.storage_plans.specs.Places.{place_of}

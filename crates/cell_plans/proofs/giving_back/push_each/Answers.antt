@@ -79,7 +79,7 @@ returns-in_err-note-clause-builds c =
     let P : Parts → Type 0 = λ t. BuildsBeside c.args.storage.now c.args.builder.now t c.push_area.new.builder c.note.new.noted in
     subst P (sym c.note.ensures.same)
     (noted_so _ _ _ _ _ _ _ _ c.loop-area.invariant c.in-Some.area (sym c.in-Some.ensures.area) c.push_area.new.storage c.push_area.new.builder c.push_area.ensures.builds
-    c.in_ok-push_area.ensures.ok c.note.new.storage.elements c.note.new.noted c.note.ensures.queue c.note.ensures.moves)
+    c.in_ok-push_area.ensures.ok c.note.new.storage.elements c.note.new.noted c.note.ensures.queue c.note.ensures.moves c.note.ensures.aside)
 
 pub returns-in_err-note-clause-needless : goal.returns-in_err-note-clause-needless
 returns-in_err-note-clause-needless c = λ room.
@@ -101,7 +101,7 @@ loop-area-preserved c =
     let P : Parts → Type 0 = λ t. AreasLead c.settings.result.subpool c.args.pool c.args.storage.now c.args.builder.now t c.push_area.new.builder (c.loop-area.count + 1) c.note.new.noted in
     subst P (sym c.note.ensures.same)
     (area_more _ _ _ _ _ _ _ _ c.loop-area.invariant c.in-Some.area (sym c.in-Some.ensures.area) c.push_area.new.storage c.push_area.new.builder c.push_area.ensures.builds
-    c.in_ok-push_area.ensures.ok c.note.new.storage.elements c.note.new.noted c.note.ensures.queue c.note.ensures.moves
+    c.in_ok-push_area.ensures.ok c.note.new.storage.elements c.note.new.noted c.note.ensures.queue c.note.ensures.moves c.note.ensures.aside
     (omega (arith, c.loop-area.invariant.few, c.if-count-eq-EXTENTS_MOST.false)) c.in_ok-note.ensures.set c.in_ok-note.ensures.one)
 
 pub returns-clause-ok : goal.returns-clause-ok

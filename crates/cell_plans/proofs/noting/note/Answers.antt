@@ -3,6 +3,7 @@ use Rattle.run_set.specs.Runs.{inside}
 use Rattle.free_queue.specs.FreeQueue.{owned}
 use Rattle.free_queue.proofs.QueueLemmas.{queues_stand}
 use Rattle.storage_swap.specs.Growth.{MakesElements}
+use Rattle.storage_swap.proofs.AsideLemmas.{aside-same}
 use Rattle.storage_swap.proofs.BuilderLemmas.{if-refused}
 use Rattle.cell_plans.proofs.NotedLemmas.{owned-live, notes-one, grown-stands, grown-free, grown-owned, grown-moves, then-moves}
 use Rattle.cell_plans.proofs.noting.note.Goals as goal
@@ -40,3 +41,6 @@ returns-clause-one c =
     (owned-live e (owned e q) (queues_stand e q stand).1 c.live_are_counted.ensures) s (length (owned s q))
     (sym (ap length (grown-owned s e q c.requires.queue c.reserve.ensures.kept)))
     c.reserve.ensures.grows (omega (arith, c.reserve.ensures.made)) c.reserve.ensures.live done.ensures.spares
+
+pub returns-clause-aside : goal.returns-clause-aside
+returns-clause-aside c = aside-same c.reserve.new.self c.note_area.new.elements c.note_area.ensures.owned.as_many ∙ c.reserve.ensures.aside

@@ -2,7 +2,7 @@ use Rattle.std.proofs.Common.{[], List, ℕ, sym, ap, ◌∙◌}
 use Rattle.std.proofs.lemmas.Option.{get_or_from_slice_get}
 use Rattle.list_table.specs.Entries.{word}
 use Rattle.list_table.specs.ListTable.{entry_of}
-use Rattle.cell_extents.proofs.EntryLemmas.{pool_size}
+use Rattle.cell_pool.proofs.EntryLemmas.{pool_size}
 use Rattle.cell_pool.proofs.cells.cell_size.Goals as goal
 
 pub returns : goal.returns

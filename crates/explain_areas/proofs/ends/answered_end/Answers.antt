@@ -1,5 +1,5 @@
 use Rattle.std.proofs.Common.{◌≡◌, ◌++◌, Some, inr, refl, sym, ◌∙◌}
-use Rattle.explain_report.proofs.Following.{answered_end, quiet_end}
+use Rattle.explain_report.proofs.Following.{answered_end, quiet_end, read_by}
 use Rattle.explain_report.proofs.Told.{no_answer, some_answer}
 use Rattle.explain_areas.proofs.Stops.{silent_there}
 use Rattle.explain_areas.proofs.ends.answered_end.Goals as goal
@@ -12,7 +12,7 @@ returns-then-lacks-clause-end c = λ settings answers took has.
     let none = no_answer (Some c.args.line) ending.last ending.open_statement (sym c.lacks_answer-lacks.ensures ∙ c.if-lacks.true) in
     let why = c.unanswered.ensures c.args.session.reader.mode c.stand-before.ensures in
     silent_there settings script c.args.line c.args.session.reader.mode c.unanswered.result why
-    (inr (has, record { answers = answers; before = c.args.session; took = took; ended = quiet_end settings script answers ending e none.1 none.2; why = why }))
+    (inr (has, record { answers = answers; before = c.args.session.reader; read = read_by settings script answers c.args.session took; ended = quiet_end settings script answers ending e none.1 none.2; why = why }))
 
 pub returns-else-lacks-clause-end : goal.returns-else-lacks-clause-end
 returns-else-lacks-clause-end c = λ settings answers took has.

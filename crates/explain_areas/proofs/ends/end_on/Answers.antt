@@ -13,7 +13,7 @@ returns-in-Ok-LastFeed-clause-end g c = λ settings new.
 pub returns-in-Ok-Statement-clause-end : goal.returns-in-Ok-Statement-clause-end
 returns-in-Ok-Statement-clause-end g c = λ settings new.
     let e = (rw c.in-Ok-Statement.field-0-is at c.in-Ok-Statement.ensures.reaches) settings ([], record { took = c.new-session.ensures settings new; said = c.new-last.ensures }) in
-    inl (c.take_to.new.session, e.0, e.1, e.2)
+    inl (e.0, e.2)
 
 pub returns-in-Ok-Statement-clause-within : goal.returns-in-Ok-Statement-clause-within
 returns-in-Ok-Statement-clause-within g c = rw c.in-Ok-Statement.field-0-is at c.in-Ok-Statement.ensures.rest

@@ -1,10 +1,10 @@
 use Rattle.std.proofs.Common.{◌*◌, ◌++◌, codes, ap, subst, ◌∙◌}
 use Rattle.text_output.specs.Writing.{Puts}
 use Rattle.text_output.proofs.Gathering.{puts_both}
-use Rattle.listed_text.specs.Json.{object_end, object_start}
+use Rattle.explain_text.specs.Json.{object_end, object_start}
 use Rattle.storage_core.specs.Meaning.{state_of}
-use Rattle.taken_places.specs.Taken.{taken_by}
-use Rattle.line_changes.specs.Texts.{line_fields}
+use Rattle.explain_who.specs.Taken.{taken_by}
+use Rattle.explain_who.specs.LineTexts.{line_fields}
 use Rattle.explain_areas.specs.Objects.{cells_field, place_fields}
 use Rattle.explain_areas.specs.Texts.{shown_address}
 use Rattle.explain_areas.proofs.objects.put_area_object.Goals as goal

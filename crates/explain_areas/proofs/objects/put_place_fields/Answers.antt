@@ -1,7 +1,7 @@
 use Rattle.std.proofs.Common.{ℕ, List, ◌++◌, codes, subst}
 use Rattle.text_output.specs.Writing.{Puts}
 use Rattle.text_output.proofs.Gathering.{puts_both}
-use Rattle.listed_text.specs.Json.{number_field}
+use Rattle.explain_text.specs.Json.{number_field}
 use Rattle.explain_areas.proofs.objects.put_place_fields.Goals as goal
 
 pub returns : goal.returns

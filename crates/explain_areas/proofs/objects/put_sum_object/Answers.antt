@@ -1,6 +1,6 @@
 use Rattle.std.proofs.Common.{ℕ, List, ◌++◌, codes}
 use Rattle.text_output.proofs.Gathering.{puts_both}
-use Rattle.listed_text.specs.Json.{number_field, object_end, object_start}
+use Rattle.explain_text.specs.Json.{number_field, object_end, object_start}
 use Rattle.explain_areas.proofs.objects.put_sum_object.Goals as goal
 
 pub returns : goal.returns

@@ -1,6 +1,6 @@
 use Rattle.std.proofs.Common.{Ok, Err}
 use Rattle.storage_core.specs.Meaning.{settings_of, state_of}
-use Rattle.line_changes.proofs.Written.{all_written}
+use Rattle.explain_who.proofs.Written.{all_written}
 use Rattle.explain_areas.specs.Forms.{areas_in}
 use Rattle.explain_areas.proofs.Told.{areas_untold, text_is}
 use Rattle.explain_areas.proofs.output.write_areas.Goals as goal

@@ -3,8 +3,8 @@ use Rattle.std.proofs.Math.Seq.{drop-cons}
 use Rattle.std.proofs.lemmas.Grind.{reverse_onto, flat_map-append}
 use Rattle.std.proofs.lemmas.List.{append-nil, drop_all}
 use Rattle.arrayvec.specs.ArrayVec.{ArrayVec}
-use Rattle.line_changes.specs.declared.trail.TrailEntry.{TrailEntry}
-use Rattle.line_areas.specs.declared.taken.Taking.{Taking}
+use Rattle.explain_who.specs.declared.trail.TrailEntry.{TrailEntry}
+use Rattle.explain_areas.specs.declared.lines_at.Taking.{Taking}
 use Rattle.explain_areas.specs.Takings.{taking, takings_of}
 use Rattle.explain_areas.proofs.takings.takings.Goals as goal
 

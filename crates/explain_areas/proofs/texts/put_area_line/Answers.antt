@@ -2,8 +2,8 @@ use Rattle.std.proofs.Common.{◌*◌, ◌++◌, ◌∷◌, [], ap, subst, ◌�
 use Rattle.text_output.specs.Writing.{Puts}
 use Rattle.text_output.proofs.Gathering.{puts_both}
 use Rattle.storage_core.specs.Meaning.{state_of}
-use Rattle.taken_places.specs.Taken.{taken_by}
-use Rattle.line_changes.specs.Texts.{line_text}
+use Rattle.explain_who.specs.Taken.{taken_by}
+use Rattle.explain_who.specs.LineTexts.{line_text}
 use Rattle.explain_areas.specs.Texts.{cells_text, place_text, shown_address}
 use Rattle.explain_areas.proofs.texts.put_area_line.Goals as goal
 

@@ -1,8 +1,8 @@
 use Rattle.std.proofs.Common.{sym, subst, Ok, Err}
 use Rattle.script_steps.specs.Script.{NoFeed}
 use Rattle.explain_areas.specs.Followed.{FollowsEnd}
-use Rattle.line_changes.proofs.Places.{next_begins, all_begin}
-use Rattle.line_changes.proofs.Whole.{no_feed}
+use Rattle.explain_who.proofs.Places.{next_begins, all_begin}
+use Rattle.explain_who.proofs.Whole.{no_feed}
 use Rattle.explain_areas.proofs.Whole.{next_followed, passed_up, script_followed}
 use Rattle.explain_areas.proofs.tracing.follow.Goals as goal
 

@@ -1,7 +1,7 @@
 use Rattle.std.proofs.Common.{◌-◌, ◌≤◌, List, length, take, drop}
 use Rattle.script_steps.specs.Output.{Marked}
 use Rattle.script_steps.specs.Taken.{Took}
-use Rattle.line_changes.specs.ScriptLines.{LinesBegin}
+use Rattle.explain_who.specs.ScriptLines.{LinesBegin}
 use Rattle.explain_areas.specs.Followed.{Follows}
 use Rattle.explain_areas.proofs.tracing.follow.Given as goal
 

@@ -1,7 +1,7 @@
 use Rattle.std.proofs.Common.{◌≡◌, Ok, subst, take, rules}
 use Rattle.script_steps.specs.Steps.{BringsStep}
-use Rattle.line_changes.specs.Notes.{with_told}
-use Rattle.line_changes.specs.Trails.{marks_of}
+use Rattle.explain_who.specs.Notes.{with_told}
+use Rattle.explain_who.specs.Trails.{marks_of}
 use Rattle.explain_areas.specs.Followed.{IsKnown, noted, taken_in}
 use Rattle.explain_areas.proofs.Following.{line_followed}
 use Rattle.explain_areas.proofs.tracing.follow_at.Goals as goal

@@ -1,6 +1,6 @@
 use Rattle.std.proofs.Common.{subst, ◌∙◌, ◌++◌, []}
 use Rattle.std.proofs.lemmas.List.{append-nil}
-use Rattle.line_changes.specs.Trails.{marks_of}
+use Rattle.explain_who.specs.Trails.{marks_of}
 use Rattle.script_steps.specs.Taken.{PassesBound}
 use Rattle.explain_areas.specs.Followed.{IsKnown}
 use Rattle.explain_areas.proofs.Following.{end_followed}

@@ -44,4 +44,5 @@ returns-in-Err g c = λ settings first h.
     (c.put_ending-2.ensures (c.show_open.ensures.page shown.lines) h.last) in
     let held = holds_page settings layout script first _ _ _ _ (h.answers ++ e.more) e.also b bytes ending.open_statement asked (h.listed ++ shown_of c.take_last.new.self) (shown_of c.show_open.new.self) e.unended e.shows_on asks.unended e.led_on two
     (holds_page settings layout script first _ _ _ _ h.answers e.more b bytes ending.last asked h.listed (shown_of c.take_last.new.self) e.last e.shows asks.last e.led one h.held) in
+    c.write_fault.ensures layout settings script first _
     ((h.answers ++ e.more) ++ e.also, (h.listed ++ shown_of c.take_last.new.self) ++ shown_of c.show_open.new.self, inl e.ended, inl all, (held.0, held.1, c.in-Err.ensures.writes first _ held.2))

@@ -3,7 +3,7 @@ use Rattle.macro_statements.specs.Requests.{asked_in}
 use Rattle.bench_core.specs.Stands.{bench_of, settings_in}
 use Rattle.explain_list.specs.Pages.{open_of, shown_of}
 use Rattle.explain_list.specs.Pages.{Follow}
-use Rattle.list_rows.specs.Rows.{IsLineAt}
+use Rattle.explain_list.specs.Rows.{IsLineAt}
 use Rattle.explain_list.specs.declared.pages.ListingPage.{ListingPage}
 use Rattle.explain_list.proofs.Answered.{holds_page, page_of}
 use Rattle.explain_list.proofs.Lines.{first_lines, step_follow, step_line}

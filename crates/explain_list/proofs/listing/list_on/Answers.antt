@@ -1,13 +1,14 @@
 use Rattle.std.proofs.Common.{◌≤◌, List, [], length, refl, inl, sym, subst, arith}
 use Rattle.std.proofs.KnownBytes.{Appends-nil}
 use Rattle.text_output.proofs.Gathering.{empty_holds}
-use Rattle.statement_faults.specs.declared.lines.SourceLine.{SourceLine}
+use Rattle.explain_faults.specs.declared.lines.SourceLine.{SourceLine}
 use Rattle.explain_list.specs.Pages.{Follow}
 use Rattle.explain_list.proofs.Items.{holds_file, holds_head}
 use Rattle.explain_list.proofs.listing.list_on.Goals as goal
 
 pub returns-in-Ok : goal.returns-in-Ok
-returns-in-Ok g c = λ settings new.
+returns-in-Ok g c = λ new.
+    let settings = c.args.settings in
     let layout = c.args.layout in
     let script = c.args.script.now in
     let first = g.W.Write.contents c.args.out.now in
@@ -26,7 +27,8 @@ returns-in-Ok g c = λ settings new.
     }))
 
 pub returns-in-Err : goal.returns-in-Err
-returns-in-Err g c = λ settings new.
+returns-in-Err g c = λ new.
+    let settings = c.args.settings in
     let layout = c.args.layout in
     let script = c.args.script.now in
     let first = g.W.Write.contents c.args.out.now in

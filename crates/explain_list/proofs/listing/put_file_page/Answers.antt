@@ -2,8 +2,8 @@ use Rattle.std.proofs.Common.{◌≡◌, ◌∙◌, [], None, if◌then◌else�
 use Rattle.std.specs.List.{flat_map}
 use Rattle.text_output.specs.Writing.{Puts}
 use Rattle.text_output.proofs.Gathering.{puts_none}
-use Rattle.list_rows.specs.Rows.{row_in}
-use Rattle.list_rows.proofs.Each.{rows_marks}
+use Rattle.explain_list.specs.Rows.{row_in}
+use Rattle.explain_list.proofs.Each.{rows_marks}
 use Rattle.explain_list.proofs.listing.put_file_page.Goals as goal
 
 pub returns-then-is_written : goal.returns-then-is_written

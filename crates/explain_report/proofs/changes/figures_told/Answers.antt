@@ -1,6 +1,6 @@
 use Rattle.std.proofs.Common.{subst, sym}
 use Rattle.bench_core.specs.Stands.{bench_of, settings_in}
-use Rattle.explain_report.specs.OverTime.{AreFiguresAfter}
+use Rattle.explain_report.specs.Changes.{AreFiguresAfter}
 use Rattle.explain_report.proofs.Told.{changed_at}
 use Rattle.explain_report.proofs.changes.figures_told.Goals as goal
 

@@ -1,6 +1,6 @@
 use Rattle.std.proofs.Common.{◌++◌, subst}
 use Rattle.bench_core.specs.Stands.{bench_of, settings_in}
-use Rattle.explain_report.specs.OverTime.{AreFiguresAfter}
+use Rattle.explain_report.specs.Changes.{AreFiguresAfter}
 use Rattle.explain_report.proofs.Following.{put_more, led_state}
 use Rattle.explain_report.proofs.changes.put_line.Goals as goal
 
@@ -19,7 +19,7 @@ returns-in-Ok-Some g c =
             answers = h.answers ++ e.0;
             took = e.2;
             put =
-                put_more settings c.args.form seen first _ _ _ _ h.answers e.0 step.told (bench_of s.bench).present.storage c.args.figures.now c.put_answer.result h.put e.1
+                put_more settings seen first _ _ _ _ h.answers e.0 step.told (bench_of s.bench).present.storage c.args.figures.now c.put_answer.result h.put e.1
                 (led_state settings (h.answers ++ e.0) (bench_of s.bench) e.2.led) c.put_answer.ensures.row under;
           };
       next = (place.1.some, place.1.within);

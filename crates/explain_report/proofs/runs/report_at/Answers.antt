@@ -24,8 +24,8 @@ returns-in-Ok-Statement g c = λ settings new.
     let said = said_by c.take_to.new.last in
     let e = (rw c.in-Ok-Statement.field-0-is at c.in-Ok-Statement.ensures.reaches) settings ([], record { took = c.new-session.ensures settings new; said = c.new-last.ensures }) in
     let wrote = subst (λ b. WritesReport (settings_in b) c.args.form (bench_of b).present.storage said first now r) c.bench.ensures c.write_report-outcome.ensures in
-    reported settings c.args.script.now c.args.form (Some c.args.line) e.0 (bench_of s.bench).present.storage said first now r (inr (s, e.1))
-    (led_state settings e.0 (bench_of s.bench) e.1.took_on.led) e.3 (subst (λ k. WritesReport k c.args.form (bench_of s.bench).present.storage said first now r) e.1.took_on.under wrote)
+    reported settings c.args.script.now c.args.form (Some c.args.line) e.0 (bench_of s.bench).present.storage said first now r (inr (_, e.2))
+    (led_state settings e.0 (bench_of s.bench) e.1.took.led) e.1.said (subst (λ k. WritesReport k c.args.form (bench_of s.bench).present.storage said first now r) e.1.took.under wrote)
 
 pub returns-in-Err : goal.returns-in-Err
 returns-in-Err g c = λ settings new.

@@ -2,7 +2,7 @@ use Rattle.std.proofs.Common.{◌++◌, ap, sym, ◌∙◌, subst}
 use Rattle.bench_core.specs.Stands.{bench_of}
 use Rattle.explain_report.specs.Reports.{WritesReport}
 use Rattle.explain_report.specs.Said.{said_by, said_with}
-use Rattle.explain_report.proofs.Following.{answered_end, said_more, led_state, quiet_end}
+use Rattle.explain_report.proofs.Following.{answered_end, said_more, led_state, quiet_end, read_by}
 use Rattle.explain_report.proofs.Told.{ended_reported, no_answer, reported, silent_end, some_answer}
 use Rattle.explain_report.proofs.runs.report_end.Goals as goal
 
@@ -31,8 +31,8 @@ returns-then-lacks_answer g c = λ settings script h has.
     let none = no_answer c.args.line ending.last ending.open_statement (sym c.lacks_answer.ensures ∙ c.if-lacks_answer.true) in
     silent_end settings script c.args.form c.args.line (g.W.Write.contents c.args.out.now) c.unanswered.result none.0 has (record {
       answers = h.0;
-      before = c.args.session;
-      took = h.1.took;
+      before = c.args.session.reader;
+      read = read_by settings script h.0 c.args.session h.1.took;
       ended = quiet_end settings script h.0 ending e none.1 none.2;
       why = c.unanswered.ensures c.args.session.reader.mode c.stand-before.ensures;
     })

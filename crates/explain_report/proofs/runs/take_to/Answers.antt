@@ -53,7 +53,7 @@ returns-then-is_some-clause-reaches g c =
     let e = reaches settings stays.reaches.0 stays.reaches.1 in
     let end = statement_ends settings c.args.script.now c.args.line c.loop-at.at c.in-Ok-Some.step.next c.loop-at.session c.take_step.new.session c.loop-at.last c.take_step.new.last place.1
     stays e.0 c.in-Ok-Some.step.told e.1 e.2 (sym c.is_some.ensures ∙ c.if-is_some.true) (sym c.ends_by.ensures ∙ c.if-ends_by.true) in
-    (stays.reaches.0 ++ e.0, end.0, end.1, e.2.said)
+    (stays.reaches.0 ++ e.0, e.2, end)
 
 pub returns-then-is_some-clause-rest : goal.returns-then-is_some-clause-rest
 returns-then-is_some-clause-rest g c = let place = rw c.in-Ok-Some.field-0-is at c.in-Ok-Some.ensures.place in place.1.within

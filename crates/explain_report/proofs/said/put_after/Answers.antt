@@ -1,9 +1,9 @@
 use Rattle.std.proofs.Common.{ℕ, List, ◌++◌, codes, subst}
 use Rattle.text_output.specs.Writing.{Puts}
 use Rattle.text_output.proofs.Gathering.{puts_both}
-use Rattle.listed_text.specs.Json.{number_field, object_end, object_start}
+use Rattle.explain_text.specs.Json.{number_field, object_end, object_start}
 use Rattle.script_steps.specs.Responses.{response_text}
-use Rattle.explain_report.specs.Texts.{answer_field}
+use Rattle.explain_report.specs.SaidTexts.{answer_field}
 use Rattle.explain_report.proofs.said.put_after.Goals as goal
 
 pub returns : goal.returns

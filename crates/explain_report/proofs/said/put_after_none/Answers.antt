@@ -1,6 +1,6 @@
-use Rattle.std.proofs.Common.{ℕ, List, ◌++◌, codes}
+use Rattle.std.proofs.Common.{ℕ, List, codes}
 use Rattle.text_output.proofs.Gathering.{puts_both}
-use Rattle.listed_text.specs.Json.{object_end, object_start}
+use Rattle.explain_text.specs.Json.{object_end, object_start}
 use Rattle.explain_report.proofs.said.put_after_none.Goals as goal
 
 pub returns : goal.returns

@@ -1,6 +1,6 @@
 use Rattle.std.proofs.Common.{◌++◌, codes}
 use Rattle.text_output.proofs.Gathering.{puts_both}
-use Rattle.listed_text.specs.Json.{number_field, object_end, object_start}
+use Rattle.explain_text.specs.Json.{number_field, object_end, object_start}
 use Rattle.explain_who.proofs.objects.put_looked_object.Goals as goal
 
 pub returns : goal.returns

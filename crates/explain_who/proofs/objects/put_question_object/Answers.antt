@@ -1,6 +1,6 @@
 use Rattle.std.proofs.Common.{◌++◌, codes}
 use Rattle.text_output.proofs.Gathering.{puts_both}
-use Rattle.listed_text.specs.Json.{object_end, object_start}
+use Rattle.explain_text.specs.Json.{object_end, object_start}
 use Rattle.explain_who.specs.Objects.{text_field}
 use Rattle.explain_who.specs.Texts.{asked_text, outside_text}
 use Rattle.explain_who.proofs.objects.put_question_object.Goals as goal

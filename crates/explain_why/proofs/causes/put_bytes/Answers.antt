@@ -1,6 +1,6 @@
 use Rattle.std.proofs.Common.{◌≡◌, refl}
 use Rattle.storage_core.specs.Meaning.{state_of}
-use Rattle.area_reasons.specs.Pages.{pages_text}
+use Rattle.explain_reasons.specs.Pages.{pages_text}
 use Rattle.explain_why.proofs.FirstCause.{among}
 use Rattle.explain_why.proofs.causes.put_bytes.Goals as goal
 

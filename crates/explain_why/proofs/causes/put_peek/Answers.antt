@@ -2,7 +2,7 @@ use Rattle.std.proofs.Common.{◌≡◌, sym}
 use Rattle.macro_statements.specs.Requests.{written_in}
 use Rattle.bench_core.specs.Stands.{bench_of}
 use Rattle.storage_core.specs.Meaning.{state_of}
-use Rattle.area_reasons.specs.Pages.{pages_text}
+use Rattle.explain_reasons.specs.Pages.{pages_text}
 use Rattle.explain_why.proofs.FirstCause.{reading_told, some_among, unknown_reading}
 use Rattle.explain_why.proofs.causes.put_peek.Goals as goal
 

@@ -1,7 +1,7 @@
 use Rattle.std.proofs.Common.{◌≡◌, ap, length, subst, sym}
 use Rattle.macro_statements.specs.Requests.{asked_in, written_in}
 use Rattle.bench_core.specs.Stands.{bench_of, settings_in}
-use Rattle.place_reasons.proofs.Endings.{some_both, some_of}
+use Rattle.explain_reasons.proofs.Endings.{some_both, some_of}
 use Rattle.explain_why.specs.Told.{TellsReading, TellsRequest, kept_text, undone_text}
 use Rattle.explain_why.proofs.FirstCause.{among_last}
 use Rattle.explain_why.proofs.causes.put_reasons.Goals as goal

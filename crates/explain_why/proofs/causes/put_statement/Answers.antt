@@ -2,7 +2,7 @@ use Rattle.std.proofs.Common.{sym}
 use Rattle.vsm_model.specs.Meaning.{service_in}
 use Rattle.macro_statements.specs.Requests.{act_in}
 use Rattle.bench_core.specs.Stands.{bench_of, settings_in}
-use Rattle.place_reasons.proofs.Endings.{some_both}
+use Rattle.explain_reasons.proofs.Endings.{some_both}
 use Rattle.explain_why.proofs.FirstCause.{found_told, unknown_act}
 use Rattle.explain_why.proofs.causes.put_statement.Goals as goal
 

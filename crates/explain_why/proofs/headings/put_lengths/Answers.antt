@@ -1,5 +1,5 @@
 use Rattle.std.specs.Prelude.{codes}
-use Rattle.place_reasons.proofs.Endings.{some_both}
+use Rattle.explain_reasons.proofs.Endings.{some_both}
 use Rattle.explain_why.proofs.headings.put_lengths.Goals as goal
 
 pub returns-in-Variable : goal.returns-in-Variable

@@ -1,4 +1,4 @@
-use Rattle.place_reasons.proofs.Endings.{some_both}
+use Rattle.explain_reasons.proofs.Endings.{some_both}
 use Rattle.explain_why.proofs.headings.put_obtain.Goals as goal
 
 pub returns : goal.returns

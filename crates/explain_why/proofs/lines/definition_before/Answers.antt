@@ -1,6 +1,6 @@
 use Rattle.std.proofs.Common.{◌≡◌, ◌∙◌, ℕ, List, Option, Some, subst, sym}
 use Rattle.bench_core.specs.Stands.{bench_of}
-use Rattle.statement_details.specs.Defined.{IsDefinitionIn, IsItsDefinition}
+use Rattle.explain_why.specs.Defined.{IsDefinitionIn, IsItsDefinition}
 use Rattle.explain_why.proofs.lines.definition_before.Goals as goal
 
 pub returns-in-Ok-clause-its : goal.returns-in-Ok-clause-its

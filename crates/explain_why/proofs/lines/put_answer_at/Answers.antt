@@ -1,7 +1,7 @@
 use Rattle.std.proofs.Common.{◌≡◌, ◌++◌, [], IfOk, ap, false, is_some, rules, subst, sym, take, true, ◌∙◌}
 use Rattle.std.specs.Prelude.{OnOk}
 use Rattle.std.proofs.lemmas.List.{append-nil, take-append-drop, take_all}
-use Rattle.place_reasons.specs.Told.{PutsSome}
+use Rattle.explain_text.specs.Pieces.{PutsSome}
 use Rattle.text_output.specs.Writing.{Puts}
 use Rattle.explain_why.specs.Answers.{IsNextAnswer, PutsAnswer, answer_text}
 use Rattle.explain_why.proofs.Answered.{answer_put, next_answer, none_more}

@@ -1,5 +1,5 @@
 use Rattle.std.proofs.Common.{arith, refl, subst}
-use Rattle.statement_details.specs.Ahead.{IsAhead}
+use Rattle.explain_why.specs.Ahead.{IsAhead}
 use Rattle.explain_why.proofs.Faulted.{aside_first}
 use Rattle.explain_why.proofs.lines.statement_at.Goals as goal
 

@@ -1,13 +1,13 @@
 use Rattle.std.proofs.Common.{◌≡◌, ℕ, List, length, map, sym, subst}
 use Rattle.macro_reader.specs.Columns.{used}
-use Rattle.statement_faults.specs.Places.{card_in}
+use Rattle.explain_faults.specs.Places.{card_in}
 use Rattle.bench_core.specs.Stands.{bench_of, settings_in}
-use Rattle.place_reasons.proofs.Endings.{some_both}
+use Rattle.explain_reasons.proofs.Endings.{some_both}
 use Rattle.explain_why.specs.Answers.{first_text}
-use Rattle.statement_details.specs.Details.{PutsDetail}
+use Rattle.explain_why.specs.Details.{PutsDetail}
 use Rattle.explain_why.specs.Told.{TellsAhead}
 use Rattle.explain_why.proofs.Answered.{answer_written, begins_more, some_begun}
-use Rattle.statement_details.proofs.Detailed.{detail_written}
+use Rattle.explain_why.proofs.Detailed.{detail_written}
 use Rattle.explain_why.proofs.Found.{ahead_written}
 use Rattle.explain_why.proofs.lines.tell.Goals as goal
 

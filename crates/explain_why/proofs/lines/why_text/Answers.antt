@@ -1,7 +1,7 @@
 use Rattle.std.proofs.Common.{length, subst, take}
 use Rattle.bench_core.specs.Stands.{bench_of, settings_in}
-use Rattle.statement_details.specs.Defined.{IsItsDefinition}
-use Rattle.statement_details.specs.Details.{WritesDetail}
+use Rattle.explain_why.specs.Defined.{IsItsDefinition}
+use Rattle.explain_why.specs.Details.{WritesDetail}
 use Rattle.explain_why.specs.Answers.{WritesAnswer}
 use Rattle.explain_why.specs.Explained.{IsExplained, WritesAhead}
 use Rattle.explain_why.proofs.Faulted.{other_says_nothing}

@@ -1,9 +1,8 @@
-use Rattle.std.proofs.Common.{refl, sym, subst}
+use Rattle.std.proofs.Common.{sym, subst}
 use Rattle.subpool_storage.specs.Subpools.{Subpools}
 use Rattle.storage_swap.specs.Storage.{state_of}
 use Rattle.storage_changes.specs.Ending.{ended_below}
 use Rattle.storage_swap.proofs.BuilderLemmas.{builds-follow, if-refused}
-use Rattle.task_plans.specs.Sights.{row_of}
 use Rattle.task_plans.specs.TaskPlans.{parks_all, CanPark}
 use Rattle.task_plans.proofs.EndRecords.{never}
 use Rattle.task_plans.proofs.OwnedNames.{owned_are_names}
@@ -19,41 +18,29 @@ loop-seen-init c =
     let top = c.args.ending.now.tree.top in
     let range = (c.subpools_are_there.ensures p.elements p.subpools c.requires.building.ready.stands.storage.subpools).0 in
     let P : Subpools → Type 0 = λ z. CanPark z (parks_all m top) in
-    parks_none top p c.args.builder.now c.first_seen-place.result c.requires.building (c.first_seen-place.ensures m top)
+    parks_none top c.first_seen-place.result c.requires.building (c.first_seen-place.ensures m top)
     (subst P (sym c.requires.none) (names_can (parks_all m top) (owned_are_names m.subpools range (ended_below m.tasks.parents top))))
 
 pub park_one-requires-clause-can : goal.park_one-requires-clause-can
-park_one-requires-clause-can c = parks_can c.args.ending.now.tree.top c.args.storage.now c.args.builder.now c.loop-seen.storage c.loop-seen.builder c.loop-seen.place c.loop-seen.invariant c.in-Some.next (row_of c.in-Some.seen) c.in-Some.ensures.next
+park_one-requires-clause-can c = parks_can c.loop-seen.invariant c.in-Some.next c.in-Some.ensures.next
 
 pub loop-seen-smaller : goal.loop-seen-smaller
-loop-seen-smaller c =
-    walk_less c.args.ending.now.tree.top c.loop-seen.storage c.park_one.new.storage c.loop-seen.builder c.park_one.new.builder c.loop-seen.place c.in-Some.next (row_of c.in-Some.seen) c.in-Some.ensures.next c.park_one.ensures.builds
+loop-seen-smaller c = walk_less c.args.ending.now.tree.top c.loop-seen.place c.in-Some.next c.in-Some.ensures.next c.park_one.ensures.builds
 
 pub loop-seen-preserved : goal.loop-seen-preserved
-loop-seen-preserved c =
-    parks_more c.args.ending.now.tree.top c.args.storage.now c.args.builder.now c.loop-seen.storage c.loop-seen.builder c.loop-seen.place c.loop-seen.invariant c.in-Some.next (row_of c.in-Some.seen) c.in-Some.ensures.next c.park_one.new.storage c.park_one.new.builder c.park_one.ensures.builds c.in_ok-park_one.ensures.ok
+loop-seen-preserved c = parks_more c.loop-seen.invariant c.in-Some.next c.in-Some.ensures.next c.park_one.ensures.builds c.in_ok-park_one.ensures.ok
 
 pub next_seen-requires-clause-ending : goal.next_seen-requires-clause-ending
-next_seen-requires-clause-ending c = still_ends c.args.ending.now _ _ (c.loop-seen.invariant.builds.keeps.shows) c.requires.ending
+next_seen-requires-clause-ending c = still_ends c.args.ending.now _ _ c.loop-seen.invariant.builds.keeps.shows c.requires.ending
 
 pub returns-in_err-park_one-clause-builds : goal.returns-in_err-park_one-clause-builds
 returns-in_err-park_one-clause-builds c = builds-follow _ _ _ _ _ _ c.loop-seen.invariant.builds c.park_one.ensures.builds
 
 pub returns-in_err-park_one-clause-needless : goal.returns-in_err-park_one-clause-needless
-returns-in_err-park_one-clause-needless c = λ room.
-    never (c.in_err-park_one.ensures.needless (parks_room c.args.ending.now.tree.top c.args.storage.now c.args.builder.now c.loop-seen.storage c.loop-seen.builder c.loop-seen.place c.loop-seen.invariant c.in-Some.next (row_of c.in-Some.seen) c.in-Some.ensures.next room))
-
-pub returns-clause-builds : goal.returns-clause-builds
-returns-clause-builds c = c.loop-seen.invariant.builds
-
-pub returns-clause-ok : goal.returns-clause-ok
-returns-clause-ok c = parks_done c.args.ending.now.tree.top c.args.storage.now c.args.builder.now c.loop-seen.storage c.loop-seen.builder c.loop-seen.place c.loop-seen.invariant c.in_default.ensures.none
-
-pub returns-clause-needless : goal.returns-clause-needless
-returns-clause-needless c = λ room. refl
+returns-in_err-park_one-clause-needless c = λ room. never (c.in_err-park_one.ensures.needless (parks_room c.loop-seen.invariant c.in-Some.next c.in-Some.ensures.next room))
 
 pub returns-in_err-park_one-clause-made : goal.returns-in_err-park_one-clause-made
-returns-in_err-park_one-clause-made c =
-    if-refused _ c.from_residual.result
-    (parks_refused c.args.ending.now.tree.top c.args.storage.now c.args.builder.now c.loop-seen.storage c.loop-seen.builder c.loop-seen.place c.loop-seen.invariant c.in-Some.next (row_of c.in-Some.seen) c.in-Some.ensures.next
-    c.park_one.new.storage.elements c.in_err-park_one.ensures.made)
+returns-in_err-park_one-clause-made c = if-refused _ c.from_residual.result (parks_refused c.loop-seen.invariant c.in-Some.next c.in-Some.ensures.next c.park_one.new.storage.elements c.in_err-park_one.ensures.made)
+
+pub returns-clause-ok : goal.returns-clause-ok
+returns-clause-ok c = parks_done c.loop-seen.invariant c.in_default.ensures.none

@@ -1,4 +1,4 @@
-use Rattle.std.proofs.Common.{◌≤◌, ℕ, List, get_or, length, refl, sym, subst, arith}
+use Rattle.std.proofs.Common.{◌≤◌, ℕ, List, get_or, length, sym, subst, arith}
 use Rattle.storage_changes.specs.declared.record.Record.{Record}
 use Rattle.storage_changes.specs.State.{StorageState}
 use Rattle.storage_swap.specs.Storage.{state_of}
@@ -6,7 +6,8 @@ use Rattle.storage_swap.specs.Builder.{Pushes}
 use Rattle.storage_swap.proofs.BuilderLemmas.{builds-follow, leads-none, if-refused}
 use Rattle.storage_changes.specs.Attaching.{share_records}
 use Rattle.task_plans.proofs.EndRecords.{never}
-use Rattle.task_plans.proofs.ShareRecords.{each_done, each_room, each_more, each_refused}
+use Rattle.task_plans.proofs.ShareRecords.{each_done, each_next}
+use Rattle.task_plans.proofs.Steps.{next_room, next_refused, next_more}
 use Rattle.storage_swap.specs.Growth.{MakesElements}
 use Rattle.task_plans.proofs.passing.push_shares.Goals as goal
 
@@ -18,38 +19,24 @@ returns-in_err-push_share-clause-builds c = builds-follow _ _ _ _ _ _ c.loop-k.i
 
 pub returns-in_err-push_share-clause-needless : goal.returns-in_err-push_share-clause-needless
 returns-in_err-push_share-clause-needless c = λ room.
-    let xs = c.args.shared.now.items in
-    let k = c.loop-k.k in
     let each : StorageState → ℕ → List Record = λ m. share_records m c.args.task in
-    let P : List ℕ → Type 0 = λ ys. length (each (state_of c.loop-k.storage) (get_or ys k 0)) ≤ c.loop-k.storage.elements.spare in
+    let P : List ℕ → Type 0 = λ ys. length (each (state_of c.loop-k.storage) (get_or ys c.loop-k.k 0)) ≤ c.loop-k.storage.elements.spare in
     never (c.in_err-push_share.ensures.needless (subst P (sym c.deref.ensures.0)
-    (each_room each c.args.storage.now c.loop-k.storage c.args.builder.now c.loop-k.builder xs k c.loop-k.invariant (omega (arith, c.loop-k-test.true, c.len-k-end.ensures.value)) room)))
+    (next_room (each_next each c.args.shared.now.items c.loop-k.k c.loop-k.invariant (omega (arith, c.loop-k-test.true, c.len-k-end.ensures.value))) room)))
 
 pub loop-k-preserved : goal.loop-k-preserved
 loop-k-preserved c =
-    let xs = c.args.shared.now.items in
-    let k = c.loop-k.k in
     let each : StorageState → ℕ → List Record = λ m. share_records m c.args.task in
-    let P : List ℕ → Type 0 = λ ys. Pushes c.loop-k.storage c.loop-k.builder (each (state_of c.loop-k.storage) (get_or ys k 0)) c.push_share.new.storage c.push_share.new.builder in
-    each_more each c.args.storage.now c.loop-k.storage c.args.builder.now c.loop-k.builder xs k c.loop-k.invariant (omega (arith, c.loop-k-test.true, c.len-k-end.ensures.value))
-    c.push_share.new.storage c.push_share.new.builder c.push_share.ensures.builds (subst P c.deref.ensures.0 c.in_ok-push_share.ensures.ok)
-
-pub returns-clause-builds : goal.returns-clause-builds
-returns-clause-builds c = c.loop-k.invariant.builds
+    let P : List ℕ → Type 0 = λ ys. Pushes c.loop-k.storage c.loop-k.builder (each (state_of c.loop-k.storage) (get_or ys c.loop-k.k 0)) c.push_share.new.storage c.push_share.new.builder in
+    next_more (each_next each c.args.shared.now.items c.loop-k.k c.loop-k.invariant (omega (arith, c.loop-k-test.true, c.len-k-end.ensures.value)))
+    c.push_share.ensures.builds (subst P c.deref.ensures.0 c.in_ok-push_share.ensures.ok)
 
 pub returns-clause-ok : goal.returns-clause-ok
-returns-clause-ok c =
-    let each : StorageState → ℕ → List Record = λ m. share_records m c.args.task in
-    each_done each c.args.storage.now c.loop-k.storage c.args.builder.now c.loop-k.builder c.args.shared.now.items c.loop-k.k c.loop-k.invariant (omega (arith, c.loop-k-test.false, c.len-k-end.ensures.value))
-
-pub returns-clause-needless : goal.returns-clause-needless
-returns-clause-needless c = λ room. refl
+returns-clause-ok c = each_done (λ m. share_records m c.args.task) c.args.shared.now.items c.loop-k.k c.loop-k.invariant (omega (arith, c.loop-k-test.false, c.len-k-end.ensures.value))
 
 pub returns-in_err-push_share-clause-made : goal.returns-in_err-push_share-clause-made
 returns-in_err-push_share-clause-made c =
-    let k = c.loop-k.k in
     let each : StorageState → ℕ → List Record = λ m. share_records m c.args.task in
-    let P : List ℕ → Type 0 = λ ys. MakesElements c.loop-k.storage.elements c.push_share.new.storage.elements (length (each (state_of c.loop-k.storage) (get_or ys k 0))) in
+    let P : List ℕ → Type 0 = λ ys. MakesElements c.loop-k.storage.elements c.push_share.new.storage.elements (length (each (state_of c.loop-k.storage) (get_or ys c.loop-k.k 0))) in
     if-refused _ c.from_residual.result
-    (each_refused each c.args.storage.now c.loop-k.storage c.args.builder.now c.loop-k.builder c.args.shared.now.items k c.loop-k.invariant (omega (arith, c.loop-k-test.true, c.len-k-end.ensures.value))
-    c.push_share.new.storage (subst P c.deref.ensures.0 c.in_err-push_share.ensures.made))
+    (next_refused (each_next each c.args.shared.now.items c.loop-k.k c.loop-k.invariant (omega (arith, c.loop-k-test.true, c.len-k-end.ensures.value))) c.push_share.new.storage (subst P c.deref.ensures.0 c.in_err-push_share.ensures.made))

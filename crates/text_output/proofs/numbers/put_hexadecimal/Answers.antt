@@ -1,6 +1,6 @@
 use Rattle.std.proofs.Common.{◌≡◌, ◌-◌, ◌++◌, ◌∷◌, [], take, drop, ap, sym, ◌∙◌, subst, arith}
 use Rattle.std.proofs.lemmas.Grind.{replicate_next}
-use Rattle.std.proofs.lemmas.List.{take_rest}
+use Rattle.std.proofs.lemmas.List.{append-nil, take_rest}
 use Rattle.vsm_model.specs.Texts.{hexadecimal}
 use Rattle.text_output.specs.Writing.{Puts}
 use Rattle.text_output.proofs.Gathering.{puts_both, puts_none}
@@ -23,7 +23,7 @@ pub returns-then-width-eq8 : goal.returns-then-width-eq8
 returns-then-width-eq8 g c =
     let old = g.W.Write.contents c.args.writer.now in
     let new = g.W.Write.contents c.put.new.writer in
-    subst (Puts old new c.args.gathered.now c.put.new.self) (c.eight_digits.ensures ∙ ap (λ w. hexadecimal w c.args.n) (sym c.if-width-eq8.true)) c.put.ensures.puts
+    subst (Puts old new c.args.gathered.now c.put.new.self) (c.write_word.ensures ∙ append-nil (hexadecimal 8 c.args.n) ∙ ap (λ w. hexadecimal w c.args.n) (sym c.if-width-eq8.true)) c.put.ensures.puts
 
 pub returns : goal.returns
 returns g c =

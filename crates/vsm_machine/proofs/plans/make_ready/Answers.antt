@@ -1,37 +1,43 @@
--- A new name is the next one, once it's in the table and the other undone ones are taken out.
-use Rattle.std.proofs.Common.{◌∙◌, Some, ap, subst, sym}
-use Rattle.vsm_model.specs.Names.{word_of}
+-- A name that the table then holds it held, or it is the one that the plan defines.
+use Rattle.std.proofs.Common.{inl, ◌∙◌, Some, ap, rules, subst, sym}
 use Rattle.vsm_machine.specs.NameChanges.{step_by, Gives}
 use Rattle.vsm_machine.specs.NameSteps.{GivesBy}
 use Rattle.vsm_machine.specs.NameTable.{rows_of}
-use Rattle.vsm_machine.specs.Planned.{plan_step}
-use Rattle.vsm_machine.proofs.Planning.{now_known}
-use Rattle.vsm_machine.proofs.TableSteps.{given-says, given-fits}
+use Rattle.vsm_machine.specs.Planned.{defined_by, plan_step}
+use Rattle.vsm_machine.proofs.TableRows.{defined-known, gets-next, knows-same}
+use Rattle.vsm_machine.proofs.TableSteps.{given-says}
 use Rattle.vsm_machine.proofs.plans.make_ready.Goals as goal
 
-pub returns-in_ok-reserve-in-Define-clause-step : goal.returns-in_ok-reserve-in-Define-clause-step
-returns-in_ok-reserve-in-Define-clause-step c =
-    let t = c.args.names.now in
-    let u = c.forget_undone-in-Define.new.self in
+pub returns-in_default-clause-gets : goal.returns-in_default-clause-gets
+returns-in_default-clause-gets c = λ name h. inl (defined-known c.args.names.now name (sym (c.forget_undone.ensures.others name) ∙ h))
+
+pub returns-in_err-make_next-in-Define-clause-gets : goal.returns-in_err-make_next-in-Define-clause-gets
+returns-in_err-make_next-in-Define-clause-gets c = λ name h.
+    inl (sym (knows-same c.args.names.now c.make_next.new.self c.in_err-make_next-in-Define.ensures.err name) ∙ h)
+
+pub returns-in_ok-make_next-in-Define-clause-step : goal.returns-in_ok-make_next-in-Define-clause-step
+returns-in_ok-make_next-in-Define-clause-step c =
     let p = c.in-Some.planned in
     let name = p.name.now.bytes in
-    let done = c.forget_undone-in-Define.ensures in
-    let gives = subst (GivesBy (rows_of t)) (ap plan_step c.in-Some.is) c.requires in
-    let known = now_known name _ _ (c.in_ok-reserve-in-Define.ensures.ok name) in
-    ap Some (given-says u name p.change
-    (subst (λ l. Gives l (step_by (λ place. name) p.change)) (sym (done.rows ∙ c.in_ok-reserve-in-Define.ensures.rows)) gives)
-    (λ none. done.next (ap (λ l. word_of l name) (sym done.rows) ∙ none) known))
+    let gives = subst (GivesBy (rows_of c.args.names.now)) (ap plan_step c.in-Some.is) c.requires in
+    ap Some (given-says c.make_next.new.self name p.change
+    (subst (λ l. Gives l (step_by (λ place. name) p.change)) (sym c.in_ok-make_next-in-Define.ensures.rows) gives)
+    (λ none. c.in_ok-make_next-in-Define.ensures.next))
     ∙ ap plan_step (sym c.in-Some.is)
 
-pub returns-in_ok-reserve-in-Define-clause-fits : goal.returns-in_ok-reserve-in-Define-clause-fits
-returns-in_ok-reserve-in-Define-clause-fits c =
-    let t = c.args.names.now in
-    let u = c.forget_undone-in-Define.new.self in
+pub returns-in_ok-make_next-in-Define-clause-gets : goal.returns-in_ok-make_next-in-Define-clause-gets
+returns-in_ok-make_next-in-Define-clause-gets c = λ name h.
     let p = c.in-Some.planned in
-    let name = p.name.now.bytes in
-    let done = c.forget_undone-in-Define.ensures in
-    let gives = subst (GivesBy (rows_of t)) (ap plan_step c.in-Some.is) c.requires in
-    let known = now_known name _ _ (c.in_ok-reserve-in-Define.ensures.ok name) in
-    given-fits u name p.change
-    (subst (λ l. Gives l (step_by (λ place. name) p.change)) (sym (done.rows ∙ c.in_ok-reserve-in-Define.ensures.rows)) gives)
-    (λ none. done.next (ap (λ l. word_of l name) (sym done.rows) ∙ none) known)
+    let own = p.name.now.bytes in
+    let is = ap (λ x. defined_by (plan_step x)) c.in-Some.is ∙ ap (λ change. defined_by (Some (step_by (λ place. own) change))) c.in-Define.is in
+    gets-next c.args.names.now own name (defined_by (plan_step c.args.plan)) is (sym (c.in_ok-make_next-in-Define.ensures.others name) ∙ h)
+
+pub returns-in-Undefine : goal.returns-in-Undefine
+returns-in-Undefine c = record {
+  rows = c.forget_undone-in-Undefine.ensures.rows;
+  step = search rules;
+  fits = search rules;
+  err = tt;
+  gets = λ name h. inl (defined-known c.args.names.now name (sym (c.forget_undone-in-Undefine.ensures.others name) ∙ h));
+  needless = search rules;
+}

@@ -11,12 +11,12 @@ pub returns-in-Err-clause-same : goal.returns-in-Err-clause-same
 returns-in-Err-clause-same c = search rules
 
 pub returns-in-Err-clause-made : goal.returns-in-Err-clause-made
-returns-in-Err-clause-made c = record { elements = c.in-Err.ensures.made; frames = c.in-Err.ensures.made_frames }
+returns-in-Err-clause-made c = record { elements = c.in-Err.ensures.made; pages = c.in-Err.ensures.made_for_pages }
 
 pub returns-in-Ok-make_ready-clause-made : goal.returns-in-Ok-make_ready-clause-made
-returns-in-Ok-make_ready-clause-made c = record { elements = c.in-Ok.ensures.made; frames = c.in-Ok.ensures.made_frames }
+returns-in-Ok-make_ready-clause-made c = record { elements = c.in-Ok.ensures.made; pages = c.in-Ok.ensures.made_for_pages }
 
 pub returns-in-Err-make_ready-clause-made : goal.returns-in-Err-make_ready-clause-made
 returns-in-Err-make_ready-clause-made c =
-    makes_still c.args.machine.now.storage.parts c.reserve.new.self.parts c.discard.new.self.parts _ _ (record { elements = c.in-Ok.ensures.made; frames = c.in-Ok.ensures.made_frames })
+    makes_still c.args.machine.now.storage.parts c.reserve.new.self.parts c.discard.new.self.parts _ _ (record { elements = c.in-Ok.ensures.made; pages = c.in-Ok.ensures.made_for_pages })
     (none_discarded c.reserve.new.self.parts c.discard.new.self.parts c.in-Ok.storage c.discard.ensures.discards)

@@ -4,4 +4,4 @@ use Rattle.worked_examples.proofs.codes.limits.Goals as goal
 
 pub returns : goal.returns
 unfolding is_idle
-returns c = (refl, refl, refl, refl)
+returns c = (refl, refl, refl, refl, refl)

@@ -4,4 +4,4 @@ use Rattle.worked_examples.proofs.storage.both_sides_of_the_line.Goals as goal
 
 pub returns : goal.returns
 unfolding is_idle
-returns c = refl
+returns c = (refl, refl)

@@ -172,10 +172,10 @@ returns-in-Err-clause-needless c = λ x planned supplied.
 pub returns-clause-made : goal.returns-clause-made
 returns-clause-made c = λ x planned.
     makes_in_all c.args.self.now.machine c.reserve.new.machine c.swap.new.self c.push_reserved.new.s x c.args.planned.now c.in-Ok.change c.swap.new.c _
-    planned c.reserve.ensures.made c.swap.ensures c.push_reserved.ensures.discarded
+    planned c.reserve.ensures.made c.reserve.ensures.gets c.swap.ensures c.push_reserved.ensures.discarded
 
 pub returns-in_err-reserve_place-clause-made : goal.returns-in_err-reserve_place-clause-made
 returns-in_err-reserve_place-clause-made c = λ x planned. made_none c.args.self.now.machine x c.args.planned.now
 
 pub returns-in-Err-clause-made : goal.returns-in-Err-clause-made
-returns-in-Err-clause-made c = λ x planned. makes_wanting c.args.self.now.machine c.reserve.new.machine x c.args.planned.now planned c.reserve.ensures.made
+returns-in-Err-clause-made c = λ x planned. makes_wanting c.args.self.now.machine c.reserve.new.machine x c.args.planned.now planned c.reserve.ensures.made c.reserve.ensures.gets

@@ -1,8 +1,8 @@
 use Rattle.std.proofs.Common.{◌≡◌, ◌∙◌, Option, List, sym, subst, ap}
 use Rattle.std.specs.Prelude.{IfSome, slice_get}
 use Rattle.list_table.specs.ListTable.{entry_of}
-use Rattle.cell_extents.specs.declared.settings.Extent.{Extent}
-use Rattle.cell_extents.proofs.ShapeLemmas.{own_extents}
+use Rattle.cell_pool.specs.declared.settings.Extent.{Extent}
+use Rattle.cell_pool.proofs.ShapeLemmas.{own_extents}
 use Rattle.cell_pool.specs.Pools.{Pool}
 use Rattle.cell_pool.proofs.pools.CellPools.extent_at.Goals as goal
 

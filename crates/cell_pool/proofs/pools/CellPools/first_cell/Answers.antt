@@ -3,7 +3,7 @@ use Rattle.std.specs.Prelude.{IfSome, map}
 use Rattle.vsm_elements.specs.Chain.{links}
 use Rattle.list_table.specs.Entries.{Entry}
 use Rattle.list_table.specs.ListTable.{entry_of}
-use Rattle.cell_extents.specs.Items.{cell_of}
+use Rattle.cell_pool.specs.Items.{cell_of}
 use Rattle.list_table.proofs.ItemLemmas.{length-items}
 use Rattle.cell_pool.specs.Pools.{Pool}
 use Rattle.cell_pool.specs.Walks.{cells_left}

@@ -3,8 +3,8 @@ use Rattle.std.specs.Prelude.{IfSome, map}
 use Rattle.row_table.specs.RowTable.{rows, place_index}
 use Rattle.list_table.specs.Stocks.{rows_of}
 use Rattle.list_table.specs.ListTable.{entry_of}
-use Rattle.cell_extents.specs.Items.{extent_of}
-use Rattle.cell_extents.proofs.ShapeLemmas.{own_extents}
+use Rattle.cell_pool.specs.Items.{extent_of}
+use Rattle.cell_pool.proofs.ShapeLemmas.{own_extents}
 use Rattle.cell_pool.specs.Pools.{Pool}
 use Rattle.cell_pool.specs.Walks.{IsExtentPlace, extents_left}
 use Rattle.cell_pool.proofs.pools.CellPools.first_extent.Goals as goal

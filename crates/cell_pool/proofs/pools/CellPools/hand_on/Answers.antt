@@ -1,13 +1,11 @@
-use Rattle.std.proofs.Common.{rules, ◌≡◌, ◌+◌, ◌≤◌, take, drop, ◌++◌, ◌∷◌, ◌∙◌, ℕ, List, ap, sym, subst, arith, length, refl}
-use Rattle.vsm_elements.specs.Ownership.{Leaves}
+use Rattle.std.proofs.Common.{rules, ◌≡◌, ◌+◌, ◌≤◌, take, drop, ◌++◌, ◌∷◌, ◌∙◌, ℕ, List, ap, sym, arith, length, refl}
 use Rattle.vsm_elements.proofs.ChainFrame.{Leaves-trans}
 use Rattle.list_table.specs.Entries.{Entry}
 use Rattle.list_table.specs.ListTable.{entries, entry_of, index_of}
 use Rattle.list_table.specs.ListTable
-use Rattle.list_table.specs.Stocks.{holdings}
 use Rattle.cell_pool.specs.CellPools.{owned, IsCellPools}
 use Rattle.cell_pool.proofs.ParkLemmas.{leaves_same}
-use Rattle.cell_pool.proofs.HandLemmas.{hand, given, hand_id, is_given, not_given, written_is, same_place, next_rest, next_long, next_ids, stays_rest, rest_done, handed_kept, handed_names, handed_ids}
+use Rattle.cell_pool.proofs.HandLemmas.{hand, hand_id, is_given, not_given, written_is, same_place, next_rest, next_long, next_ids, stays_rest, rest_done, handed_kept, handed_names, handed_ids}
 use Rattle.cell_pool.proofs.pools.CellPools.hand_on.Goals as goal
 
 pub count-count-requires : goal.count-count-requires
@@ -35,8 +33,9 @@ loop-place-preserved-then-says_subpool c =
     let was : List Entry = entries c.args.elements.now c.args.self.now.table in
     let now : List Entry = entries c.loop-place.elements c.args.self.now.table in
     let next : List Entry = entries c.write.new.elements c.args.self.now.table in
-    let one : given c.from.result e ≡ f e = ap (λ (z : ℕ). given z e) c.from.ensures ∙ sym (is_given c.args.subpool c.args.to e (sym c.says_subpool.ensures ∙ c.if-says_subpool.true)) in
-    let is : next ≡ take c.loop-place.place.index now ++ f e ∷ drop (c.loop-place.place.index + 1) now = written_is c.loop-place.elements c.write.new.elements c.args.self.now.table c.loop-place.place.index (index_of c.loop-place.elements c.args.self.now.table c.row-row.result.id) (given c.from.result e) (f e) c.row-row.ensures.index c.write.ensures.entries one in
+    let given_words : List ℕ → Entry = λ words. record { id = e.id; words = words; items = e.items; used = e.used; extents = e.extents; places = e.places } in
+    let one : given_words c.with_owner-given.result ≡ f e = ap given_words c.with_owner-given.ensures ∙ sym (is_given c.args.subpool c.args.to e (sym c.says_subpool.ensures ∙ c.if-says_subpool.true)) in
+    let is : next ≡ take c.loop-place.place.index now ++ f e ∷ drop (c.loop-place.place.index + 1) now = written_is c.loop-place.elements c.write.new.elements c.args.self.now.table c.loop-place.place.index (index_of c.loop-place.elements c.args.self.now.table c.row-row.result.id) (given_words c.with_owner-given.result) (f e) c.row-row.ensures.index c.write.ensures.entries one in
     record {
       table = c.write.ensures.table;
       place = same_place c.loop-place.elements c.write.new.elements c.args.self.now.table (c.loop-place.place.index + 1) c.row-row.result.id (next_ids f was now c.loop-place.place.index c.loop-place.invariant.rest e c.row-row.ensures.entry next is (hand_id c.args.subpool c.args.to e)) c.row-row.ensures.next;

@@ -3,10 +3,10 @@ use Rattle.std.specs.Prelude.{IfSome, option_map}
 use Rattle.std.proofs.lemmas.Option.{get_or_from_slice_get}
 use Rattle.list_table.specs.Entries.{Entry}
 use Rattle.list_table.specs.ListTable.{entry_of}
-use Rattle.cell_extents.specs.Names.{header_in, AreBytes}
+use Rattle.cell_pool.specs.Names.{header_in, AreBytes}
 use Rattle.cell_pool.specs.Pools.{Pool}
-use Rattle.cell_extents.specs.Items.{item, pool_of}
-use Rattle.cell_extents.proofs.TextLemmas.{pool_header}
+use Rattle.cell_pool.specs.Items.{item, pool_of}
+use Rattle.cell_pool.proofs.TextLemmas.{pool_header}
 use Rattle.cell_pool.proofs.pools.CellPools.header.Goals as goal
 
 both_are : (e : Entry) (front form : List ℕ) → item e.items 3 ≡ front → item e.items 4 ≡ form → (pool_of e).header ≡ header_in front form

@@ -1,9 +1,9 @@
 use Rattle.std.proofs.Common.{◌≡◌, ◌∙◌, Option, List, ℕ, ap, sym, subst}
 use Rattle.std.specs.Prelude.{IfSome, IsUtf8}
 use Rattle.list_table.specs.ListTable.{entry_of}
-use Rattle.cell_extents.specs.Names.{spelled, AreBytes}
+use Rattle.cell_pool.specs.Names.{spelled, AreBytes}
 use Rattle.cell_pool.specs.Pools.{Pool}
-use Rattle.cell_extents.proofs.EntryLemmas.{pool_name}
+use Rattle.cell_pool.proofs.EntryLemmas.{pool_name}
 use Rattle.cell_pool.proofs.pools.CellPools.name.Goals as goal
 
 pub name_of-requires-clause-text : goal.name_of-requires-clause-text

@@ -2,8 +2,8 @@ use Rattle.std.proofs.Common.{◌∙◌, ◌+◌, ◌∷◌, ap, sym, ℕ, drop}
 use Rattle.std.specs.Prelude.{map}
 use Rattle.row_table.specs.RowTable.{rows, place_index}
 use Rattle.list_table.specs.Stocks.{rows_of}
-use Rattle.cell_extents.specs.declared.settings.Extent.{Extent}
-use Rattle.cell_extents.specs.Items.{extent_of}
+use Rattle.cell_pool.specs.declared.settings.Extent.{Extent}
+use Rattle.cell_pool.specs.Items.{extent_of}
 use Rattle.cell_pool.specs.Walks.{IsExtentPlace, extents_left}
 use Rattle.cell_pool.proofs.PlaceLemmas.{rows_step, rows_end, where_none}
 use Rattle.cell_pool.proofs.pools.CellPools.next_extent.Goals as goal

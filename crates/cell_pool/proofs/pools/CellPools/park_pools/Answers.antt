@@ -7,9 +7,9 @@ use Rattle.list_table.specs.Entries.{Entry}
 use Rattle.list_table.specs.ListTable.{entries, entry_of}
 use Rattle.list_table.specs.ListTable
 use Rattle.cell_pool.specs.Pools.{lies_in}
-use Rattle.cell_extents.specs.Items.{pool_of}
+use Rattle.cell_pool.specs.Items.{pool_of}
 use Rattle.cell_pool.specs.CellPools.{owned, IsCellPools}
-use Rattle.cell_extents.proofs.EntryLemmas.{pool_subpool}
+use Rattle.cell_pool.proofs.EntryLemmas.{pool_subpool}
 use Rattle.vsm_model.specs.declared.Subpool.{Subpool}
 use Rattle.vsm_model.specs.Subpools.{same_subpool}
 use Rattle.cell_pool.proofs.ParkLemmas.{moved, append_none, left_is, fewer, gone_rest, gone_went, kept_rest, kept_went, all_rest, all_went, leaves_same, takes_out}

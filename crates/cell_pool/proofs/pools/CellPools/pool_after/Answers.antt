@@ -3,14 +3,14 @@ use Rattle.std.specs.Prelude.{IfSome, option_map}
 use Rattle.list_table.specs.Entries.{Entry}
 use Rattle.list_table.specs.ListTable.{entries, entry_of}
 use Rattle.cell_pool.specs.declared.order.Candidate.{Candidate}
-use Rattle.cell_extents.specs.Names.{spelled}
+use Rattle.cell_pool.specs.Names.{spelled}
 use Rattle.cell_pool.specs.Pools.{Pool, first_with, is_named, is_of, id_in}
-use Rattle.cell_extents.specs.Items.{pool_of}
+use Rattle.cell_pool.specs.Items.{pool_of}
 use Rattle.cell_pool.specs.Kept.{pools_of}
 use Rattle.cell_pool.specs.CellPools.{pool, by_id, IsCellPools}
 use Rattle.cell_pool.specs.Order.{is_after, is_between, IsNext}
 use Rattle.cell_pool.proofs.PoolLemmas.{none_more, none_all, found_other, one_named, name_refl}
-use Rattle.cell_extents.proofs.EntryLemmas.{pool_name}
+use Rattle.cell_pool.proofs.EntryLemmas.{pool_name}
 use Rattle.cell_pool.proofs.OrderLemmas.{lies_between, nearer, none_lies, low_passes, between_low}
 use Rattle.cell_pool.proofs.RowLemmas.{stands, has_texts, is_text, has_bytes, own_id}
 use Rattle.cell_pool.proofs.pools.CellPools.pool_after.Goals.{then-is_between, else-is_between}

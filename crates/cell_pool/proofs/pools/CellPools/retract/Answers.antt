@@ -5,14 +5,14 @@ use Rattle.row_table.specs.declared.row.Row.{Row}
 use Rattle.row_table.specs.RowTable.{rows}
 use Rattle.list_table.specs.Stocks.{items_of, rows_of}
 use Rattle.list_table.proofs.ItemLemmas.{length-items}
-use Rattle.cell_extents.proofs.ShapeLemmas.{count_extents, own_extents}
-use Rattle.cell_extents.specs.Places.{placed_at}
-use Rattle.cell_extents.specs.Items.{extent_of}
+use Rattle.cell_pool.proofs.ShapeLemmas.{count_extents, own_extents}
+use Rattle.cell_pool.specs.Places.{placed_at}
+use Rattle.cell_pool.specs.Items.{extent_of}
 use Rattle.cell_pool.specs.Pools.{Pool, IsExtended, retracted}
 use Rattle.cell_pool.proofs.LawLemmas.{some_extent, end_is}
 use Rattle.cell_pool.proofs.PartLemmas.{length-rows, shrinks, shrunk, grown_leaves, grown_stands, has_place, places_still, items_still}
 use Rattle.list_table.specs.ListTable.{entry_of}
-use Rattle.cell_extents.specs.Items.{pool_of}
+use Rattle.cell_pool.specs.Items.{pool_of}
 use Rattle.cell_pool.specs.CellPools.{IsCellPools}
 use Rattle.cell_pool.proofs.CallLemmas.{ready, done_kept, done_names, done_ids, done_owned}
 use Rattle.cell_pool.proofs.pools.CellPools.retract.Goals as goal

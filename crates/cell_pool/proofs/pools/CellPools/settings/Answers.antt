@@ -3,12 +3,12 @@ use Rattle.std.specs.Prelude.{IfSome}
 use Rattle.std.proofs.lemmas.Option.{get_or_from_slice_get}
 use Rattle.list_table.specs.Entries.{word}
 use Rattle.list_table.specs.ListTable.{entry_of}
-use Rattle.cell_extents.specs.declared.settings.CellSettings.{CellSettings}
+use Rattle.cell_pool.specs.declared.settings.CellSettings.{CellSettings}
 use Rattle.vsm_model.specs.declared.limits.Residence.{Residence}
 use Rattle.vsm_model.specs.declared.Subpool.{Subpool}
 use Rattle.cell_pool.specs.Pools.{Pool}
-use Rattle.cell_extents.specs.Items.{settings_in, subpool_in}
-use Rattle.cell_extents.proofs.EntryLemmas.{pool_settings}
+use Rattle.cell_pool.specs.Items.{settings_in, subpool_in}
+use Rattle.cell_pool.proofs.EntryLemmas.{pool_settings}
 use Rattle.cell_pool.proofs.pools.CellPools.settings.Goals as goal
 
 pub item-form-requires-clause-within : goal.item-form-requires-clause-within

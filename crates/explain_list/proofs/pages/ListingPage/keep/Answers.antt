@@ -1,5 +1,5 @@
 use Rattle.std.proofs.Common.{◌≡◌, ◌≤◌, ◌∙◌, ◌++◌, ◌∷◌, [], List, length, ap, sym, subst}
-use Rattle.statement_faults.specs.declared.lines.SourceLine.{SourceLine}
+use Rattle.explain_faults.specs.declared.lines.SourceLine.{SourceLine}
 use Rattle.explain_list.specs.Pages.{open_of}
 use Rattle.explain_list.proofs.Marked.{one_more, open_none}
 use Rattle.explain_list.proofs.pages.ListingPage.keep.Goals as goal

@@ -1,5 +1,5 @@
 use Rattle.std.proofs.Common.{◌∙◌, ap, sym, subst}
-use Rattle.statement_faults.specs.declared.lines.OpenLines.{OpenLines}
+use Rattle.explain_faults.specs.declared.lines.OpenLines.{OpenLines}
 use Rattle.explain_list.specs.Pages.{IsPage}
 use Rattle.explain_list.proofs.Marked.{open_none, shown_some}
 use Rattle.explain_list.proofs.pages.ListingPage.show_open.Goals as goal

@@ -1,6 +1,6 @@
 use Rattle.std.proofs.Common.{◌≤◌, ◌∙◌, List, length, ap, sym, subst, arith}
-use Rattle.statement_faults.specs.declared.lines.OpenLines.{OpenLines}
-use Rattle.statement_faults.specs.declared.lines.SourceLine.{SourceLine}
+use Rattle.explain_faults.specs.declared.lines.OpenLines.{OpenLines}
+use Rattle.explain_faults.specs.declared.lines.SourceLine.{SourceLine}
 use Rattle.explain_list.proofs.Marked.{open_none, open_some, plain_page, whole_of}
 use Rattle.explain_list.proofs.pages.ListingPage.take.Goals as goal
 
@@ -13,7 +13,7 @@ returns-then-shows c = record {
 
 pub returns-else-shows : goal.returns-else-shows
 returns-else-shows c = record {
-  page = λ at lines. plain_page c.args.script.now _ c.keep.new.self (c.keep.ensures.lines c.args.script.now at lines) c.keep.ensures.fault;
+  page = λ at lines. plain_page c.args.script.now _ c.keep.new.self (c.keep.ensures.lines c.args.script.now at lines) c.keep.ensures.fault c.keep.ensures.last;
   whole = λ room. whole_of c.keep.new.self ∙ c.keep.ensures.whole room;
   room = subst (λ (ls : List SourceLine). length ls ≤ 9) (sym (open_none c.keep.new.self c.keep.ensures.last)) (c.shows.ensures c.if-shows.false);
 }

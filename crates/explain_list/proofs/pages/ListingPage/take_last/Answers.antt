@@ -5,7 +5,7 @@ use Rattle.explain_list.proofs.pages.ListingPage.take_last.Goals as goal
 
 pub returns-then-line-script : goal.returns-then-line-script
 returns-then-line-script c = record {
-  page = λ at lines. plain_page c.args.script.now _ c.hide.new.self (c.hide.ensures.lines c.args.script.now lines) c.hide.ensures.fault;
+  page = λ at lines. plain_page c.args.script.now _ c.hide.new.self (c.hide.ensures.lines c.args.script.now lines) c.hide.ensures.fault c.hide.ensures.last;
   whole = λ room. inl (c.if-line-script.true, whole_of c.hide.new.self ∙ sym (open_none c.hide.new.self c.hide.ensures.last) ∙ c.hide.ensures.open);
 }
 

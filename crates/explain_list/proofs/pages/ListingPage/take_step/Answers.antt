@@ -1,6 +1,6 @@
 use Rattle.std.proofs.Common.{subst, sym}
 use Rattle.explain_list.specs.Pages.{IsPage}
-use Rattle.list_rows.specs.Rows.{IsLineAt}
+use Rattle.explain_list.specs.Rows.{IsLineAt}
 use Rattle.explain_list.proofs.pages.ListingPage.take_step.Goals as goal
 
 pub returns-clause-page : goal.returns-clause-page

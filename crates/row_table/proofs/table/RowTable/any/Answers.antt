@@ -1,9 +1,9 @@
 use Rattle.std.proofs.Common.{List, ap, sym, ◌∙◌}
 use Rattle.std.specs.Prelude.{map}
-use Rattle.item_tree.specs.declared.item.Item.{Item}
-use Rattle.item_tree.specs.Trees.{items}
-use Rattle.item_tree.proofs.ShapeLemmas.{id_of}
-use Rattle.item_tree.proofs.TreeLemmas.{owned_ids}
+use Rattle.row_table.specs.declared.item.Item.{Item}
+use Rattle.row_table.specs.Trees.{items}
+use Rattle.row_table.proofs.ShapeLemmas.{id_of}
+use Rattle.row_table.proofs.TreeLemmas.{owned_ids}
 use Rattle.row_table.specs.RowTable.{row, owned}
 use Rattle.row_table.specs.Rows.{row_in}
 use Rattle.row_table.specs.Keys.{link_in}

@@ -1,6 +1,6 @@
 use Rattle.std.proofs.Common.{sym, ap, ◌∙◌}
 use Rattle.std.specs.Prelude.{Some, option_map}
-use Rattle.item_tree.specs.Trees.{items}
+use Rattle.row_table.specs.Trees.{items}
 use Rattle.row_table.specs.Keys.{row_in_item}
 use Rattle.row_table.specs.RowTable.{rows, IsTable}
 use Rattle.row_table.proofs.HalfLemmas.{last_rows, few_rows}

@@ -1,6 +1,6 @@
 use Rattle.std.proofs.Common.{◌+◌, ◌≤◌, Some, ap, sym, refl, ◌∙◌, arith}
 use Rattle.std.specs.Prelude.{option_map}
-use Rattle.item_tree.specs.Trees.{items}
+use Rattle.row_table.specs.Trees.{items}
 use Rattle.row_table.specs.Keys.{row_in_item}
 use Rattle.row_table.specs.RowTable.{rows, place_index, IsTable, IsPlace}
 use Rattle.row_table.proofs.WalkLemmas.{rows_item, next_stands, next_fits}

@@ -1,5 +1,5 @@
 use Rattle.std.proofs.Common.{sym, ap, ◌∙◌, ◌++◌, ◌∷◌}
-use Rattle.item_tree.specs.Trees.{items}
+use Rattle.row_table.specs.Trees.{items}
 use Rattle.row_table.specs.declared.row.Row.{Row}
 use Rattle.row_table.specs.RowTable.{rows, IsTable}
 use Rattle.row_table.proofs.HalfLemmas.{half_kept, rows-append, rows_in}

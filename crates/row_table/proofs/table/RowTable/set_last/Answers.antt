@@ -1,5 +1,5 @@
 use Rattle.std.proofs.Common.{take, ◌++◌}
-use Rattle.item_tree.specs.Trees.{words_at}
+use Rattle.row_table.specs.Trees.{words_at}
 use Rattle.row_table.specs.RowTable.{row, owned, words_of, IsTable}
 use Rattle.row_table.proofs.CallLemmas.{set_leaves}
 use Rattle.row_table.proofs.RowIdLemmas.{row_ids_are}

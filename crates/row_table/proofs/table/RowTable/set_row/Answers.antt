@@ -1,6 +1,6 @@
 use Rattle.std.proofs.Common.{◌∷◌, refl}
-use Rattle.item_tree.specs.declared.item.Item.{Item}
-use Rattle.item_tree.specs.Trees.{key_at}
+use Rattle.row_table.specs.declared.item.Item.{Item}
+use Rattle.row_table.specs.Trees.{key_at}
 use Rattle.row_table.specs.RowTable.{row, owned, IsTable}
 use Rattle.row_table.proofs.CallLemmas.{set_leaves}
 use Rattle.row_table.proofs.SetLemmas.{named_owned, item_at, own_parts, named_kept, named_rows}

@@ -1,4 +1,4 @@
-use Rattle.item_tree.specs.Trees.{words_at}
+use Rattle.row_table.specs.Trees.{words_at}
 use Rattle.std.specs.Prelude.{slice_set, ◌-◌}
 use Rattle.row_table.specs.RowTable.{row, owned, words_of, IsTable}
 use Rattle.row_table.proofs.CallLemmas.{set_leaves}

@@ -1,6 +1,6 @@
 use Rattle.std.proofs.Common.{ap, ℕ, IsSome, Some, ◌∙◌, sym, subst}
-use Rattle.item_tree.specs.Items.{item_in}
-use Rattle.item_tree.specs.Trees.{items}
+use Rattle.row_table.specs.Items.{item_in}
+use Rattle.row_table.specs.Trees.{items}
 use Rattle.row_table.specs.RowTable.{row, IsTable}
 use Rattle.row_table.proofs.KeyLemmas.{some_low, some_item}
 use Rattle.row_table.proofs.CallLemmas.{takes_key, took_row, took_rows}

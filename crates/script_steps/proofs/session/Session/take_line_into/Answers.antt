@@ -1,4 +1,4 @@
-use Rattle.std.proofs.Common.{◌+◌, ◌<◌, ◌∷◌, [], ◌++◌, length, take, drop, arith, subst, ◌∙◌, refl}
+use Rattle.std.proofs.Common.{◌+◌, ◌<◌, [], ◌++◌, length, take, drop, arith, subst, ◌∙◌, refl}
 use Rattle.std.proofs.lemmas.List.{append-nil, length-drop}
 use Rattle.macro_statements.specs.Requests.{asked_in}
 use Rattle.script_steps.specs.Taken.{PassesBound, Took}

@@ -21,7 +21,7 @@ returns-in-End-clause-ok c =
 pub returns-in-End-clause-few : goal.returns-in-End-clause-few
 returns-in-End-clause-few c =
     let m = state_in_place c.args.self.now in
-    let P : Plan → Type 0 = λ x. IfOk c.reserve_end.result (λ change. change.records.count + change.blanks.count ≤ elements_needed m x) in
+    let P : Plan → Type 0 = λ x. IfOk c.reserve_end.result (λ change. change.records.count + change.blanks ≤ elements_needed m x) in
     subst P (sym c.in-End.is) c.reserve_end.ensures.few
 
 pub returns-in-End-clause-uses : goal.returns-in-End-clause-uses

@@ -1,9 +1,11 @@
 use Rattle.std.proofs.Common.{arith, rules}
 use Rattle.vsm_elements.specs.Store.{live_count}
+use Rattle.storage_changes.specs.Changes.{no_pages}
+use Rattle.storage_swap.proofs.GrowthLemmas.{pages-stay}
 use Rattle.storage_core.specs.Meaning.{state_in_place}
 use Rattle.storage_core.proofs.Holding.{reserved_is_held}
 use Rattle.storage_core.proofs.Staying.{failed_stays}
-use Rattle.storage_core.proofs.Counted.{uses_within, makes_within, no_frame_made}
+use Rattle.storage_core.proofs.Counted.{uses_within, makes_within}
 use Rattle.storage_core.proofs.TaskCounts.{attach-fits, attach_few}
 use Rattle.storage_core.proofs.storage.Storage.reserve_attach.Goals as goal
 
@@ -27,7 +29,7 @@ returns c = record {
       uses_within (live_count c.reserve.new.storage.elements) (live_count s.parts.elements) _ _ (attach-fits (state_in_place s) c.args.plan) c.reserve.result c.reserve.ensures.live);
   made = (let s = c.args.self.now in
       makes_within s.parts.elements c.reserve.new.storage.elements _ _ (attach-fits (state_in_place s) c.args.plan) c.reserve.ensures.made);
-  made_frames = no_frame_made c.args.self.now.parts.region c.reserve.new.storage.region c.reserve.ensures.same_frames;
+  made_for_pages = pages-stay c.args.self.now.parts.region c.reserve.new.storage.region no_pages c.reserve.ensures.same_frames;
   err = (let s = c.args.self.now in
       failed_stays s.parts c.reserve.new.storage s.held.stands c.reserve.result c.reserve.ensures.grown);
   needless = (λ spare. c.reserve.ensures.needless (omega (arith, spare, attach-fits (state_in_place c.args.self.now) c.args.plan)));

@@ -1,10 +1,12 @@
 use Rattle.std.proofs.Common.{arith, rules}
 use Rattle.vsm_elements.specs.Store.{live_count}
 use Rattle.cell_plans.proofs.DeleteCounts.{delete-short}
+use Rattle.storage_changes.specs.Changes.{no_pages}
+use Rattle.storage_swap.proofs.GrowthLemmas.{pages-stay}
 use Rattle.storage_core.specs.Meaning.{state_in_place}
 use Rattle.storage_core.proofs.Holding.{reserved_is_held}
 use Rattle.storage_core.proofs.Staying.{failed_stays}
-use Rattle.storage_core.proofs.Counted.{uses_within, makes_within, no_frame_made}
+use Rattle.storage_core.proofs.Counted.{uses_within, makes_within}
 use Rattle.storage_core.proofs.CellPoolCounts.{delete_few}
 use Rattle.storage_core.proofs.storage.Storage.reserve_delete.Goals as goal
 
@@ -30,7 +32,7 @@ returns c = record {
       uses_within (live_count c.reserve.new.storage.elements) (live_count s.parts.elements) _ _ (omega (arith, delete-short m (m.subpools.cells c.args.plan.pool))) c.reserve.result c.reserve.ensures.live);
   made = (let s = c.args.self.now in
       makes_within s.parts.elements c.reserve.new.storage.elements _ _ (omega (arith, delete-short (state_in_place s) ((state_in_place s).subpools.cells c.args.plan.pool))) c.reserve.ensures.made);
-  made_frames = no_frame_made c.args.self.now.parts.region c.reserve.new.storage.region c.reserve.ensures.same_frames;
+  made_for_pages = pages-stay c.args.self.now.parts.region c.reserve.new.storage.region no_pages c.reserve.ensures.same_frames;
   err = (let s = c.args.self.now in
       failed_stays s.parts c.reserve.new.storage s.held.stands c.reserve.result c.reserve.ensures.grown);
   needless = (λ spare.

@@ -38,7 +38,7 @@ returns c = record {
   made = (let s = c.args.self.now in
       let plan = c.args.plan in
       makes_within s.parts.elements c.reserve.new.storage.elements _ _ (needed_for (state_in_place s).subpools plan.emptied _ plan.blanks c.as_slice.ensures.fits) c.reserve.ensures.made);
-  made_frames = c.reserve.ensures.made_frames;
+  made_for_pages = c.reserve.ensures.made_for_pages;
   err = (let s = c.args.self.now in
       failed_stays s.parts c.reserve.new.storage s.held.stands c.reserve.result c.reserve.ensures.grown);
   needless = (λ spare.

@@ -25,7 +25,7 @@ returns c = record {
       uses_within (live_count c.reserve.new.storage.elements) (live_count s.parts.elements) _ 17 (omega (arith, c.as_slice.ensures.fits)) c.reserve.result c.reserve.ensures.live);
   made = (let s = c.args.self.now in
       makes_within s.parts.elements c.reserve.new.storage.elements _ 17 (omega (arith, c.as_slice.ensures.fits)) c.reserve.ensures.made);
-  made_frames = c.reserve.ensures.made_frames;
+  made_for_pages = c.reserve.ensures.made_for_pages;
   err = (let s = c.args.self.now in
       failed_stays s.parts c.reserve.new.storage s.held.stands c.reserve.result c.reserve.ensures.grown);
   needless = search rules;

@@ -4,6 +4,7 @@ use Rattle.subpool_storage.specs.Subpools.{Subpools, is_there}
 use Rattle.subpool_storage.specs.SubpoolStorage.{subpools_of}
 use Rattle.storage_changes.specs.Changes.{change_from}
 use Rattle.storage_swap.specs.Reserve.{Reserves, elements_for, emptied_extents}
+use Rattle.storage_swap.proofs.GrowthLemmas.{pages-still}
 use Rattle.storage_swap.proofs.ReserveLemmas.{grown-stands, grown-once, grown-frameless, grown-unassigned, grown-subpools, grown-extents, grown-reserves}
 use Rattle.storage_swap.proofs.change.Change.reserve.Goals as goal
 
@@ -65,3 +66,7 @@ returns-clause-live c =
     let same = ap (λ (m : Subpools). elements_for m c.args.emptied (length c.args.records.now) c.args.blanks)
     (grown-subpools c.args.storage.now c.grow.new.storage c.requires.stands c.requires.once c.grow.ensures.grown) in
     omega (arith, same, c.grow.ensures.live, c.make.ensures.spare, c.make.ensures.as_many)
+
+pub returns-clause-made_for_pages : goal.returns-clause-made_for_pages
+returns-clause-made_for_pages c =
+    pages-still c.args.storage.now.region c.grow.new.storage.region c.make.new.storage.region c.args.fresh c.grow.ensures.made_for_pages c.make.ensures.as_many_frames c.make.ensures.tables.tables

@@ -2,6 +2,7 @@ use Rattle.std.proofs.Common.{ap, sym, ◌∙◌}
 use Rattle.subpool_storage.specs.Subpools.{Subpools}
 use Rattle.storage_changes.specs.Changes.{change_of, change_building}
 use Rattle.storage_swap.specs.Building.{pool_as}
+use Rattle.storage_swap.proofs.GrowthLemmas.{pages-still}
 use Rattle.storage_swap.proofs.ReserveLemmas.{grown-stands, grown-once, grown-frameless, grown-unassigned, grown-subpools, grown-reserves}
 use Rattle.storage_swap.proofs.change.Change.reserve_building.Goals as goal
 
@@ -24,3 +25,7 @@ returns-clause-ok c = grown-reserves c.args.storage.now c.grow.new.storage c.req
 pub returns-clause-absent : goal.returns-clause-absent
 returns-clause-absent c =
     ap (λ (m : Subpools). m.cells c.make_building.result.1) (sym (grown-subpools c.args.storage.now c.grow.new.storage c.requires.stands c.requires.once c.grow.ensures.grown)) ∙ c.make_building.ensures.absent
+
+pub returns-clause-made_for_pages : goal.returns-clause-made_for_pages
+returns-clause-made_for_pages c =
+    pages-still c.args.storage.now.region c.grow.new.storage.region c.make_building.new.storage.region c.args.fresh c.grow.ensures.made_for_pages c.make_building.ensures.as_many_frames c.make_building.ensures.tables.tables

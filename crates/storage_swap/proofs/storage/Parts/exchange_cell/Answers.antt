@@ -1,4 +1,4 @@
-use Rattle.std.proofs.Common.{true, false, arith}
+use Rattle.std.proofs.Common.{true, false}
 use Rattle.storage_changes.specs.declared.record.Record.TheVariants.{Cell}
 use Rattle.storage_swap.specs.Storage.{walk_of}
 use Rattle.storage_swap.proofs.SubpoolLemmas.{exchanges-by}

@@ -61,3 +61,7 @@ returns-in-CellExtent-clause-exchanges c = exchanges-as c.args.self.now _ c.args
 pub returns-in-Cell-clause-exchanges : goal.returns-in-Cell-clause-exchanges
 returns-in-Cell-clause-exchanges c = exchanges-as c.args.self.now _ c.args.given.now c.args.given.now c.args.parked.now c.args.parked.now _ c.args.change (sym c.in-Cell.is)
     (c.exchange_cell.ensures.exchanges c.args.given.now c.args.parked.now c.requires.stands)
+
+pub returns-in-Obtain-clause-exchanges : goal.returns-in-Obtain-clause-exchanges
+returns-in-Obtain-clause-exchanges c = exchanges-as c.args.self.now _ c.args.given.now c.args.given.now c.args.parked.now c.args.parked.now _ c.args.change (sym c.in-Obtain.is)
+    (c.exchange_obtain.ensures.exchanges c.args.given.now c.args.parked.now c.requires.stands)

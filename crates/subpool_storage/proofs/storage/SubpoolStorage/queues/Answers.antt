@@ -1,6 +1,5 @@
-use Rattle.std.proofs.Common.{Some, sym, ap, ◌∙◌}
+use Rattle.std.proofs.Common.{sym, ap, ◌∙◌}
 use Rattle.run_set.specs.Runs.{contains}
-use Rattle.subpool_set.specs.SubpoolSet.{pool}
 use Rattle.subpool_storage.specs.SubpoolStorage.{subpools_of, page_in, free_in}
 use Rattle.descriptor_queue.specs.Extents.{owned}
 use Rattle.subpool_storage.proofs.PutLemmas.{both_stand, pages_there, free_there}

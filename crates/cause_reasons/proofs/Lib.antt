@@ -1,5 +1,0 @@
--- Lemmas on tasks and lists, and on what is said of causes.
-mod AreaLemmas
-mod ListLemmas
-mod Refused
-mod TaskLemmas

@@ -1,5 +1,0 @@
-use Rattle.std.proofs.Common.{refl}
-use Rattle.cell_extents.proofs.label.form_of.Goals as goal
-
-pub returns-in-Some-clause-secondary : goal.returns-in-Some-clause-secondary
-returns-in-Some-clause-secondary c = refl

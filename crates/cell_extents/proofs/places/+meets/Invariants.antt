@@ -1,6 +1,0 @@
-use Rattle.std.proofs.Common.{length}
-use Rattle.row_table.specs.RowTable.{rows}
-use Rattle.cell_extents.proofs.places.+meets.Given as goal
-
-abbrev pub decreases-meets : goal.decreases-meets
-decreases-meets l = length (rows l.elements.now l.places.now)

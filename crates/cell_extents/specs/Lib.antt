@@ -1,5 +1,0 @@
-pub mod Names
-pub mod Pool
-pub mod Notes
-pub mod Places
-pub mod Items

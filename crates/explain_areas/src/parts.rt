@@ -1,0 +1,96 @@
+//! Areas, one after the other.
+ghost use Rattle.std.specs.Prelude.{◌≡◌, ◌+◌, ◌^◌, ◌<◌, ◌≤◌, ℕ, List, Option, OnOk, reverse};
+ghost use Rattle.explain_areas.specs.Areas.{areas_to, goes_on, joined};
+ghost use Rattle.explain_areas.specs.Rising.{Rises};
+ghost use Rattle.explain_areas.specs.LinesAt.{line_at};
+ghost use Rattle.explain_areas.specs.declared.parts.LineArea.{LineArea as AreaIn};
+
+use crate::lines_at::{Taking, first_with};
+use std::alloc::AllocError;
+use vsm_model::Subpool;
+
+/// Doublewords of a subpool, one after the other, that the statement of one line took.
+#[derive(Clone, Copy)]
+pub(crate) struct LineArea {
+    pub subpool: Subpool,
+    pub start: u32,
+    pub count: u32,
+    pub line: u32,
+}
+
+/// Whether an area begins at the end of another one of its subpool and line.
+fn goes_on(last: &LineArea, next: &LineArea) -> bool
+    ensures { result ≡ goes_on last.now next.now }
+{
+    last.subpool.number == next.subpool.number
+        && last.subpool.owner == next.subpool.owner
+        && last.line == next.line
+        && u64::from(last.start) + u64::from(last.count) == u64::from(next.start)
+}
+
+/// Adds an area after the last, or to the last if it goes on there.
+fn add(areas: &mut Vec<LineArea>, next: LineArea) -> Result<(), AllocError>
+    requires { next.start + next.count < 2 ^ 32 }
+    ensures { OnOk result (reverse areas.new.items ≡ joined next (reverse areas.old.items)) }
+{
+    if let Some(last) = areas.last_mut() {
+        if goes_on(last, &next) {
+            last.count += next.count;
+            return Ok(());
+        }
+    }
+    areas.push(next)?;
+    Ok(())
+}
+
+/// Adds a part of a subpool, from the first doubleword up to an end, that the statement of this line took, if one did.
+fn add_part(
+    areas: &mut Vec<LineArea>,
+    subpool: Subpool,
+    line: Option<u32>,
+    first: u32,
+    end: u32,
+) -> Result<(), AllocError>
+    requires { first < end }
+    ensures { OnOk result ((f : ℕ → Option ℕ) (others : List AreaIn)
+        → ((d : ℕ) → first ≤ d → d < end → f d ≡ line)
+        → reverse areas.old.items ≡ areas_to subpool f first others
+        → reverse areas.new.items ≡ areas_to subpool f end others) }
+{
+    match line {
+        Some(line) => add(
+            areas,
+            LineArea {
+                subpool,
+                start: first,
+                count: end - first,
+                line,
+            },
+        ),
+        None => Ok(()),
+    }
+}
+
+/// Adds doublewords of a subpool from the first up to an end, each with the line of the taking that has it.
+pub(crate) fn add_taken(
+    areas: &mut Vec<LineArea>,
+    takings: &[Taking],
+    subpool: Subpool,
+    first: u32,
+    end: u32,
+) -> Result<(), AllocError>
+    requires rise { Rises 0 takings.now }
+    requires order { first ≤ end }
+    ensures { OnOk result ((f : ℕ → Option ℕ) (others : List AreaIn)
+        → ((d : ℕ) → first ≤ d → d < end → f d ≡ line_at takings.now d)
+        → reverse areas.old.items ≡ areas_to subpool f first others
+        → reverse areas.new.items ≡ areas_to subpool f end others) }
+{
+    let mut at = first;
+    while at < end {
+        let (line, next) = first_with(takings, at, end);
+        add_part(areas, subpool, line, at, next)?;
+        at = next;
+    }
+    Ok(())
+}

@@ -1,0 +1,4 @@
+-- Lemmas on the lines of checks.
+mod Checks
+mod Reasons
+mod Said

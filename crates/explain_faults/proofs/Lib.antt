@@ -1,0 +1,7 @@
+mod Ends
+mod FieldBytes
+pub mod FieldOver
+mod FieldPlaces
+mod NoBreaks
+mod RoleCases
+mod HeadPlaces

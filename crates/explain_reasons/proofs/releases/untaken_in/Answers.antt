@@ -1,0 +1,15 @@
+use Rattle.std.proofs.Common.{ℕ, Option, ap, ◌∙◌}
+use Rattle.std.specs.Prelude.{unwrap_or}
+use Rattle.vsm_model.specs.Releasing.{is_not_taken}
+use Rattle.vsm_model.specs.Search.{least}
+use Rattle.vsm_model.proofs.Least.{least_by}
+use Rattle.storage_core.specs.Meaning.{state_of}
+use Rattle.explain_reasons.proofs.releases.untaken_in.Goals as goal
+
+pub returns : goal.returns
+returns c =
+    let f = is_not_taken (state_of c.args.storage.now) c.args.subpool in
+    let area = c.area_of-area in
+    c.unwrap_or.ensures
+    ∙ ap (λ (o : Option ℕ). unwrap_or o area.result.start) (least_by f area.result.start area.result.len c.first_not_taken.result c.first_not_taken.ensures)
+    ∙ (λ i. unwrap_or (least f (area.ensures.start i) (area.ensures.len i)) (area.ensures.start i))

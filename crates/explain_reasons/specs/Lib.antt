@@ -1,0 +1,12 @@
+pub mod Places
+pub mod Searches
+pub mod Sights
+pub mod ToldPlaces
+pub mod Cells
+pub mod Found
+pub mod Pages
+pub mod Releases
+pub mod SightTexts
+pub mod Tasks
+pub mod Texts
+pub mod Told

@@ -1,0 +1,5 @@
+pub mod Alike
+mod Columns
+mod FieldRows
+mod Lines
+mod Strings

@@ -1,5 +1,0 @@
-use Rattle.item_tree.specs.Trees.{count}
-use Rattle.item_tree.proofs.tree.ItemTree.+first_from.Given as goal
-
-abbrev pub decreases-first_from : goal.decreases-first_from
-decreases-first_from l = count l.elements.now l.self

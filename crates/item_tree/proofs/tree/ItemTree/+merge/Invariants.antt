@@ -1,6 +1,0 @@
-use Rattle.std.proofs.Common.{◌+◌}
-use Rattle.item_tree.specs.Trees.{count}
-use Rattle.item_tree.proofs.tree.ItemTree.+merge.Given as goal
-
-abbrev pub decreases-merge : goal.decreases-merge
-decreases-merge l = count l.elements.now l.self + count l.elements.now l.other

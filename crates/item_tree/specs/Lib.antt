@@ -1,4 +1,0 @@
-pub mod Items
-pub mod Shape
-pub mod Trees
-pub mod Props

@@ -1,4 +1,0 @@
-pub mod Taken
-pub mod Rising
-pub mod Areas
-pub mod Ahead

@@ -1,9 +1,0 @@
-pub mod Moves
-pub mod Lines
-pub mod Followed
-pub mod Tasks
-pub mod Walked
-pub mod Whole
-pub mod Places
-pub mod Shown
-pub mod Written

@@ -1,3 +1,0 @@
-mod Apart
-mod CauseTexts
-pub mod Each

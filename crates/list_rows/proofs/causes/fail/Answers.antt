@@ -1,5 +1,0 @@
-use Rattle.list_rows.proofs.CauseTexts.{failed_puts}
-use Rattle.list_rows.proofs.causes.fail.Goals as goal
-
-pub returns : goal.returns
-returns g c = λ more. failed_puts _ _ c.args.gathered.now c.args.failed c.hand_out.result more c.requires c.hand_out.ensures.writes

@@ -1,5 +1,0 @@
-use Rattle.list_rows.proofs.Apart.{rows_apart}
-use Rattle.list_rows.proofs.laws.rows_begin_as_no_answer.Goals as goal
-
-pub returns : goal.returns
-returns c = rows_apart

@@ -1,7 +1,0 @@
-use Rattle.std.proofs.Common.{[]}
-use Rattle.list_rows.specs.Rows.{IsLineAt, PutsRows}
-use Rattle.list_rows.proofs.rows.put_warnings.Given as goal
-
-abbrev pub invariant-loop-kind : goal.invariant-loop-kind
-invariant-loop-kind g l =
-    IsLineAt l.script l.line → PutsRows l.form l.script [] [] (g.W.Write.contents l.fn.writer) (g.W.Write.contents l.writer) l.fn.gathered l.gathered

@@ -1,3 +1,0 @@
-pub mod SingleRun
-pub mod Grown
-pub mod ByReply

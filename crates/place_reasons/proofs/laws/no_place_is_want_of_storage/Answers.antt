@@ -1,5 +1,0 @@
-use Rattle.place_reasons.proofs.NoPlace.{no_place_is_want_of_storage}
-use Rattle.place_reasons.proofs.laws.no_place_is_want_of_storage.Goals as goal
-
-pub returns : goal.returns
-returns c = no_place_is_want_of_storage

@@ -1,9 +1,0 @@
-use Rattle.std.proofs.Common.{take}
-use Rattle.text_output.specs.Writing.{Puts}
-use Rattle.place_reasons.specs.Pieces.{pieces_text}
-use Rattle.place_reasons.proofs.pieces.put_pieces.Given as goal
-
-abbrev pub invariant-loop-piece : goal.invariant-loop-piece
-invariant-loop-piece g l =
-    Puts (g.W.Write.contents l.fn.writer) (g.W.Write.contents l.writer) l.fn.gathered l.gathered
-    (pieces_text (take l.piece-index l.pieces))

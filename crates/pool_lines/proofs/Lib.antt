@@ -1,3 +1,0 @@
-mod ExtentSums
-mod PoolRows
-mod PoolSums

@@ -1,4 +1,0 @@
-pub mod Figures
-pub mod Lines
-pub mod Objects
-pub mod Forms

@@ -1,2 +1,0 @@
--- Lemmas on the lines of a text.
-mod Cuts

@@ -1,5 +1,0 @@
-use Rattle.report_rows.proofs.TallyLemmas.{tallies_are_of_runs}
-use Rattle.report_rows.proofs.laws.tallies_are_of_runs.Goals as goal
-
-pub returns : goal.returns
-returns c = tallies_are_of_runs

@@ -1,5 +1,0 @@
-use Rattle.report_rows.proofs.TallyLemmas.{tally_is}
-use Rattle.report_rows.proofs.tallies.Tally.from_sums.Goals as goal
-
-pub returns : goal.returns
-returns c rs sums = tally_is rs c.args.sums sums

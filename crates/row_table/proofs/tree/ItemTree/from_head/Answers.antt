@@ -1,0 +1,5 @@
+use Rattle.std.proofs.Common.{refl}
+use Rattle.row_table.proofs.tree.ItemTree.from_head.Goals as goal
+
+pub returns : goal.returns
+returns c = refl

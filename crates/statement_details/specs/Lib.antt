@@ -1,4 +1,0 @@
-pub mod Ahead
-pub mod Undefined
-pub mod Defined
-pub mod Details
