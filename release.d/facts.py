@@ -8,6 +8,8 @@ import subprocess
 from dataclasses import dataclass
 from pathlib import Path
 
+from kit import logic_of
+
 VERSION = re.compile(r"(0|[1-9]\d{0,5})(\.(0|[1-9]\d{0,5})){2}")
 UNRELEASED = "Not released yet"
 GATE_LINE = re.compile(r"(\d+) passed, (\d+) failed")
@@ -67,8 +69,8 @@ def changes_of(top: Path, version: str) -> list[str]:
 
 
 def say_version(text: str, version: str, kit: str) -> bool:
-    """Whether a program's last line is this version with the kit's line."""
-    return text.rstrip("\n").split("\n")[-1].endswith(f" {version} ({kit})")
+    """Whether a program's last line is this version with the kit's logic."""
+    return text.rstrip("\n").split("\n")[-1].endswith(f" {version} ({logic_of(kit)})")
 
 
 def gate_line(file: str | None) -> str:

@@ -45,8 +45,13 @@ def sum_of(path: Path) -> str:
     return hashlib.sha256(path.read_bytes()).hexdigest()
 
 
+def logic_of(identity: str) -> str:
+    """What the programs say of a kit: its logic, which is what a proof depends on."""
+    return f"rattle {identity.partition(' ')[2]}"
+
+
 class Kit:
-    """The kit that the command rt is of, which has to be the one that README names."""
+    """The kit that the command rt is of, which has to have the logic of the one that README names."""
 
     def __init__(self) -> None:
         command = shutil.which(os.environ.get("RT", "rt"))
@@ -60,8 +65,8 @@ class Kit:
         self.identity = run([command, "version"], "rt version").decode().strip()
         readme = (TOP / "README.md").read_text(encoding="utf-8")
         named = re.search(r"^ {4}(rattle-kit-\S+ logic \S+)$", readme, re.M)
-        if not named or named[1] != self.identity:
-            raise Fault(f"the kit is {self.identity!r}, and README.md names {named[1] if named else 'none'!r}")
+        if not named or logic_of(named[1]) != logic_of(self.identity):
+            raise Fault(f"the kit is {self.identity!r}, and README.md names {named[1] if named else 'none'!r}, of another logic")
 
     def build_words(self, crate: str, toolchain: Path, to: Path) -> list[str | Path]:
         """How the command rt has the program proved and compiled, over the libraries as they stand."""

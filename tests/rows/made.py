@@ -258,5 +258,5 @@ def help_row(name, word):
 
 def made_rows():
     help_rows = [help_row("help", "--help"), help_row("short-help", "-h"),
-                 Row("version", [b" BACK 0\n"], b"vsm 0.1.0 (rattle-kit-13f logic dac8208d650f15bf)\n", 0, ["--version"])]
+                 Row("version", [b" BACK 0\n"], b"vsm 0.1.0 (rattle logic dac8208d650f15bf)\n", 0, ["--version"])]
     return length_rows() + endless_rows() + byte_rows() + [names_row(), free_areas_row(), cell_pools_row(), cell_names_row()] + help_rows

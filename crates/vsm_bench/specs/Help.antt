@@ -21,7 +21,7 @@ help_end =
     ++ codes "\n  0000001 RC=0 A=00006000 L=00000068\n"
     ++ codes "  0000002 RC=0\n"
     ++ codes "  0000003 KEPT=1\n"
-    ++ codes "\nnilbozad 0.1.0 (rattle-kit-13f logic dac8208d650f15bf)\n"
+    ++ codes "\nnilbozad 0.1.0 (rattle logic dac8208d650f15bf)\n"
 
 abbrev pub version_text : List ℕ
-version_text = codes "vsm 0.1.0 (rattle-kit-13f logic dac8208d650f15bf)\n"
+version_text = codes "vsm 0.1.0 (rattle logic dac8208d650f15bf)\n"

@@ -36,7 +36,7 @@ Example: if the file example.vsm has these lines, each after a blank,
   0000002 RC=0
   0000003 KEPT=1
 
-nilbozad 0.1.0 (rattle-kit-13f logic dac8208d650f15bf)
+nilbozad 0.1.0 (rattle logic dac8208d650f15bf)
 ";
 
 /// Help's end, which follows what it says of the options.
@@ -73,11 +73,11 @@ pub(crate) fn write_help<O: Write>(
     }
 }
 
-/// The version of the program and of the kit, in one line.
+/// The version of the program, and the logic that it's proved in, in one line.
 pub(crate) fn version_line() -> &'static str
     ensures { result.now ≡ version_text }
 {
-    "vsm 0.1.0 (rattle-kit-13f logic dac8208d650f15bf)\n"
+    "vsm 0.1.0 (rattle logic dac8208d650f15bf)\n"
 }
 
 /// Writes the version. `Write` if a write fails, with a prefix of it written.

@@ -1,7 +1,7 @@
 //! The texts of help.
 
 /// What `--version` prints after the program's name: the version, and the kit.
-pub(crate) const VERSION: &str = "0.1.0 (rattle-kit-13f logic dac8208d650f15bf)";
+pub(crate) const VERSION: &str = "0.1.0 (rattle logic dac8208d650f15bf)";
 
 pub(crate) const ABOUT: &str =
     "Explains a script of vsm: where its mistakes are, why it's answered so, how much storage is left, and \
