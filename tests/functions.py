@@ -7,6 +7,7 @@ import os
 import re
 import subprocess
 import sys
+from collections.abc import Callable
 from types import ModuleType
 from typing import Any
 
@@ -53,7 +54,28 @@ def kit() -> tuple[ModuleType, ModuleType]:
     loader = importlib.machinery.SourceFileLoader("rt", os.path.join(folder, "rt"))
     module = importlib.util.module_from_spec(importlib.util.spec_from_loader("rt", loader))
     loader.exec_module(module)
+    if not hasattr(module, "stamp_of"):
+        keep_stamps(module.rtlib)
     return module, module.rtlib
+
+
+def keep_stamps(rtlib: ModuleType) -> None:
+    """Has a kit that reckons the sum of a crate once for each path to it do so once for each crate."""
+    reckon: Callable[[Any], str] = rtlib.Crate.stamp
+    kept: dict[str, str] = {}
+
+    def stamp(crate: Any) -> str:
+        if crate.folder not in kept:
+            kept[crate.folder] = reckon(crate)
+        return kept[crate.folder]
+
+    rtlib.Crate.stamp = stamp
+
+
+def stamp_of(crate: Any) -> str:
+    """The sum of all that a crate is made from, as the kit reckons it."""
+    module, _ = kit()
+    return module.stamp_of(crate, {}) if hasattr(module, "stamp_of") else crate.stamp()
 
 
 def module_of(file: str) -> list[str]:
