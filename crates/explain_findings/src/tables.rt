@@ -1,0 +1,51 @@
+//! A table of what is found, by lines.
+ghost use Rattle.std.specs.Prelude.{◌≡◌, ◌==◌, ℕ, if◌then◌else◌, None, OnOk, Some};
+ghost use Rattle.explain_findings.specs.Tables.{found_in, on_table};
+
+use crate::findings::Finding;
+use std::alloc::{AllocError, Global};
+
+/// What is found, with the place of each line's finding, plus one; 0 if there is none.
+#[derive(Drop)]
+pub(crate) struct LineTable {
+    found: Vec<Finding>,
+    places: Vec<usize>,
+}
+
+impl LineTable {
+    /// Nothing is found. Takes no memory.
+    pub(crate) fn new(alloc: Global) -> LineTable
+        ensures { (line : ℕ) → on_table result line ≡ None }
+    {
+        LineTable {
+            found: Vec::new(alloc),
+            places: Vec::new(alloc),
+        }
+    }
+
+    /// This is found on a line.
+    pub(crate) fn set(&mut self, line: u32, finding: Finding) -> Result<(), AllocError>
+        ensures { OnOk result ((n : ℕ) → on_table self.new n
+            ≡ (if n == line then Some finding else on_table self.old n)) }
+    {
+        let at = line as usize;
+        while self.places.len() <= at {
+            self.places.push(0)?;
+        }
+        self.found.push(finding)?;
+        self.places[at] = self.found.len();
+        Ok(())
+    }
+
+    /// What is found on a line, if something is.
+    pub(crate) fn on(&self, line: u32) -> Option<&Finding>
+        ensures { found_in result ≡ on_table self.now line }
+    {
+        let place = *self.places.get(line as usize)?;
+        if place == 0 {
+            None
+        } else {
+            self.found.get(place - 1)
+        }
+    }
+}
