@@ -1,11 +1,20 @@
 //! What is found of one statement or PEEK.
+ghost use Rattle.std.specs.Prelude.{◌≡◌, Some};
+ghost use Rattle.macro_statements.specs.Requests.{IsValue, act_in, written_in};
+ghost use Rattle.bench_core.specs.Stands.{bench_of};
+ghost use Rattle.vsm_model.specs.Meaning.{service_in};
+ghost use Rattle.explain_findings.specs.Homes.{home_at};
+ghost use Rattle.explain_findings.specs.Judged.{finding_by, reading_by};
+ghost use Rattle.explain_findings.specs.LineMaps.{line_in};
+ghost use Rattle.explain_findings.specs.NameEndings.{ending_kept};
 
 use crate::accesses::outside_at;
 use crate::endings::Endings;
 use crate::findings::Finding;
 use crate::line_map::LineMap;
-use crate::parts::part_at;
+use crate::parts::{doublewords, part_at};
 use crate::standing::Reading;
+use explain_who::subpool_at;
 use macro_reader::{Statement, Value};
 use operand_texts::Name;
 use script_steps::Bench;
@@ -47,10 +56,15 @@ fn stale(known: &Known, name: Option<&Name>) -> Option<u32> {
 /// What is found of a statement before it's carried out on this bench, where it asks for this service.
 pub(crate) fn finding_at(
     bench: &Bench,
-    known: &Known,
+    known: &mut Known,
     statement: &Statement,
     service: &Service<'_>,
-) -> Finding {
+) -> Finding
+    ensures found { result ≡ finding_by (home_at (bench_of bench.now).present.storage (line_in known.old.lines))
+        (line_in known.old.lines) (ending_kept known.old.endings) (Some (service_in service.now)) (act_in statement.now) }
+    ensures lines { known.new.lines ≡ known.old.lines }
+    ensures endings { known.new.endings ≡ known.old.endings }
+{
     let storage = bench.storage();
     let mut finding = Finding {
         outside: None,
@@ -59,15 +73,21 @@ pub(crate) fn finding_at(
     };
     match service {
         Service::Store { address, bytes } => {
-            finding.outside =
-                outside_at(storage, &known.lines, *address, bytes.len() as u32, known.guess);
+            known.guess = subpool_at(storage, *address, known.guess);
+            finding.outside = outside_at(
+                storage,
+                &known.lines,
+                *address,
+                bytes.len() as u32,
+                known.guess,
+            );
         }
         Service::Release(release) => {
             finding.part = part_at(
                 storage,
                 &known.lines,
                 release.address / 8,
-                release.length.div_ceil(8),
+                doublewords(release.length),
                 known.guess,
             );
         }
@@ -77,7 +97,14 @@ pub(crate) fn finding_at(
 }
 
 /// What is found of a PEEK on this bench.
-pub(crate) fn reading_finding(bench: &Bench, known: &Known, reading: &Reading) -> Finding {
+pub(crate) fn reading_finding(bench: &Bench, known: &mut Known, reading: &Reading) -> Finding
+    requires { IsValue (written_in reading.now.address) }
+    ensures found { result ≡ reading_by (home_at (bench_of bench.now).present.storage (line_in known.old.lines))
+        (line_in known.old.lines) (ending_kept known.old.endings) (bench_of bench.now).present
+        (written_in reading.now.address) reading.now.count }
+    ensures lines { known.new.lines ≡ known.old.lines }
+    ensures endings { known.new.endings ≡ known.old.endings }
+{
     let outside = match bench.word(&reading.address) {
         Some(word) => outside_at(bench.storage(), &known.lines, word, u32::from(reading.count), known.guess),
         None => None,

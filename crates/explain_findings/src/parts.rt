@@ -1,5 +1,6 @@
 //! Releases of parts.
 ghost use Rattle.std.specs.Prelude.{◌≡◌, ◌+◌, ◌*◌, ◌^◌, ◌<◌, ◌≤◌};
+ghost use Rattle.vsm_model.specs.Regions.{doublewords};
 ghost use Rattle.storage_core.specs.Meaning.{state_of};
 ghost use Rattle.explain_findings.specs.Homes.{home_at};
 ghost use Rattle.explain_findings.specs.LineMaps.{line_in};
@@ -9,6 +10,13 @@ use crate::findings::Part;
 use crate::homes::home_at;
 use crate::line_map::LineMap;
 use storage_core::{Storage, Subpool};
+
+/// How many doublewords have these bytes.
+pub(crate) fn doublewords(bytes: u32) -> u32
+    ensures { result ≡ doublewords bytes }
+{
+    bytes / 8 + u32::from(bytes % 8 > 0)
+}
 
 /// Whether the area of the first of these doublewords goes on before them or after them.
 fn goes_on(

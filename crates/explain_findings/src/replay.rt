@@ -1,4 +1,5 @@
 //! The statements in effect are carried out once more, on a bench of their own, and judged one by one.
+ghost use Rattle.explain_findings.specs.Found.{AreFound};
 
 use crate::endings::{CanEnd, Endings};
 use crate::findings::{Finding, Findings};
@@ -10,10 +11,10 @@ use explain_areas::taken_by;
 use explain_who::{TrailEntry, WhoFault};
 use macro_reader::Statement;
 use operand_texts::Place;
-use script_steps::{Bench, Reply, Watch};
+use script_steps::{Bench, Watch};
 use std::alloc::{AllocError, Global};
 use storage_map::totals;
-use vsm_model::Settings;
+use vsm_model::{Reply, Settings};
 
 /// The bench of the statements up to one, what is known of its storage, and what was found.
 #[derive(Drop)]
@@ -40,7 +41,7 @@ impl Replay {
     fn judge_readings(&mut self, readings: &[Reading], depth: usize) -> Result<(), AllocError> {
         while self.read < readings.len() && readings[self.read].depth <= depth {
             let reading = &readings[self.read];
-            let finding = reading_finding(&self.bench, &self.known, reading);
+            let finding = reading_finding(&self.bench, &mut self.known, reading);
             Replay::note(&mut self.found.readings, reading.line, finding)?;
             self.read += 1;
         }
@@ -55,27 +56,40 @@ impl Replay {
             _ => return Ok(()),
         };
         match statement {
-            Statement::Obtain { place: Some(Place::Name(name)), .. }
-            | Statement::GetCell { place: Some(Place::Name(name)), .. } => {
+            Statement::Obtain { place: Some(Place::Named(name)), .. }
+            | Statement::GetCell { place: Some(Place::Named(name)), .. } => {
                 self.known.endings.give(name, word)
             }
             _ => Ok(()),
         }
     }
 
+    /// The bytes that are taken, if a statement may make an extent.
+    fn taken_by_pools(&self, statement: &Statement) -> u64 {
+        match statement {
+            Statement::GetCell { .. } => totals(self.bench.storage()).taken,
+            _ => 0,
+        }
+    }
+
     /// Carries out a statement, and notes what it took and ended.
-    fn carry_out(&mut self, entry: &TrailEntry<Statement>, can_end: CanEnd) -> Result<(), AllocError> {
-        let before = totals(self.bench.storage()).taken;
+    fn carry_out(
+        &mut self,
+        entry: &TrailEntry<Statement>,
+        can_end: CanEnd,
+    ) -> Result<Reply, AllocError> {
+        let before = self.taken_by_pools(&entry.seen);
         let Ok(reply) = self.bench.apply(&entry.seen) else {
             return Err(AllocError);
         };
-        let after = totals(self.bench.storage()).taken;
-        let taken = taken_by(reply, before, after);
-        for run in taken.as_slice() {
+        let after = self.taken_by_pools(&entry.seen);
+        for run in taken_by(reply, before, after).as_slice() {
             self.known.lines.take(self.alloc, run.0, run.1, entry.line)?;
         }
-        self.known.endings.end(self.bench.storage(), can_end, entry.line, self.known.guess);
-        self.give(&entry.seen, reply)
+        let guess = self.known.guess;
+        self.known.endings.end(self.bench.storage(), can_end, entry.line, guess);
+        self.give(&entry.seen, reply)?;
+        Ok(reply)
     }
 
     /// Judges a statement on the state before it, and carries it out.
@@ -88,9 +102,17 @@ impl Replay {
             return Err(AllocError);
         };
         let can_end = CanEnd::of(&service);
-        let finding = finding_at(&self.bench, &self.known, &entry.seen, &service);
-        Replay::note(&mut self.found.statements, entry.line, finding)?;
-        self.carry_out(entry, can_end)
+        let mut finding = finding_at(&self.bench, &mut self.known, &entry.seen, &service);
+        match self.carry_out(entry, can_end)? {
+            Reply::Returned(0) => (),
+            Reply::Returned(_)
+            | Reply::Obtained { .. }
+            | Reply::Cell(_)
+            | Reply::Attached(_)
+            | Reply::Turn(_)
+            | Reply::Stored => finding.part = None,
+        }
+        Replay::note(&mut self.found.statements, entry.line, finding)
     }
 
     /// Judges these statements and PEEKs, oldest first.
@@ -117,7 +139,9 @@ pub fn find<P: Watch>(
     script: &[u8],
     settings: Settings,
     watch: &mut P,
-) -> Result<Findings, WhoFault> {
+) -> Result<Findings, WhoFault>
+    ensures { AreFound settings script.now result }
+{
     let followed = follow(alloc, script, settings, watch)?;
     let bench = match Bench::new(alloc, settings) {
         Ok(bench) => bench,

@@ -1,5 +1,6 @@
 //! A script is followed on a bench: which of its statements are in effect at its end, and which PEEKs show bytes of a
 //! state that isn't undone later.
+ghost use Rattle.explain_findings.specs.Standings.{IsFollowed};
 
 use explain_who::{Trail, WhoFault};
 use macro_reader::{Request, Statement, Value};
@@ -126,7 +127,9 @@ pub(crate) fn follow<P: Watch>(
     script: &[u8],
     settings: Settings,
     watch: &mut P,
-) -> Result<Followed, WhoFault> {
+) -> Result<Followed, WhoFault>
+    ensures { IsFollowed settings script.now result }
+{
     let bench = match Bench::new(alloc, settings) {
         Ok(bench) => bench,
         Err(fault) => return Err(WhoFault::New(fault)),
