@@ -1,7 +1,7 @@
 //! What is found.
-ghost use Rattle.std.specs.Prelude.{◌≡◌};
-ghost use Rattle.explain_findings.specs.Found.{is_something, nothing_found};
-ghost use Rattle.explain_findings.specs.Tables.{found_in, found_on};
+ghost use Rattle.std.specs.Prelude.{◌≡◌, option_copied};
+ghost use Rattle.explain_findings.specs.Found.{is_something};
+ghost use Rattle.explain_findings.specs.Tables.{found_on};
 
 use crate::homes::Home;
 use crate::tables::LineTable;
@@ -54,7 +54,7 @@ pub struct Findings {
 impl Findings {
     /// What is found of the statement that begins on a line, if something is.
     pub fn on(&self, line: u32) -> Option<&Finding>
-        ensures { found_in result ≡ found_on self.now line }
+        ensures { option_copied result ≡ found_on self.now line }
     {
         match self.statements.on(line) {
             Some(finding) => Some(finding),

@@ -1,6 +1,6 @@
 //! A table of what is found, by lines.
-ghost use Rattle.std.specs.Prelude.{◌≡◌, ◌==◌, ℕ, if◌then◌else◌, None, OnOk, Some};
-ghost use Rattle.explain_findings.specs.Tables.{found_in, on_table};
+ghost use Rattle.std.specs.Prelude.{◌≡◌, ◌==◌, ℕ, if◌then◌else◌, None, OnOk, option_copied, Some};
+ghost use Rattle.explain_findings.specs.Tables.{on_table};
 
 use crate::findings::Finding;
 use std::alloc::{AllocError, Global};
@@ -39,7 +39,7 @@ impl LineTable {
 
     /// What is found on a line, if something is.
     pub(crate) fn on(&self, line: u32) -> Option<&Finding>
-        ensures { found_in result ≡ on_table self.now line }
+        ensures { option_copied result ≡ on_table self.now line }
     {
         let place = *self.places.get(line as usize)?;
         if place == 0 {
