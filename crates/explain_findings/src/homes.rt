@@ -1,13 +1,17 @@
 //! Where a fullword is at home.
-ghost use Rattle.std.specs.Prelude.{◌≡◌, ◌^◌, ◌<◌};
+ghost use Rattle.std.specs.Prelude.{◌≡◌, ◌/◌, ◌^◌, ◌<◌};
 ghost use Rattle.vsm_model.specs.Areas.{is_free};
 ghost use Rattle.storage_core.specs.Meaning.{state_of};
+ghost use Rattle.explain_who.specs.Taken.{cell_at, taken_by};
 ghost use Rattle.explain_findings.specs.Homes.{home_at, home_by, home_on, same_home};
 ghost use Rattle.explain_findings.specs.LineMaps.{line_in};
 
 use crate::line_map::LineMap;
 use explain_who::{PoolName, Taken, cell_at, subpool_at, taken_by};
 use storage_core::{Storage, Subpool};
+
+/// The fullwords that have an address.
+const WORDS: u32 = 1 << 30;
 
 /// Where a fullword is.
 #[derive(Clone, Drop)]
@@ -108,8 +112,10 @@ pub(crate) fn home_at(
     word: u32,
     guess: Option<Subpool>,
 ) -> Home
-    requires { word < 2 ^ 30 }
     ensures { result ≡ home_at (state_of storage.now) (line_in lines.now) word }
 {
+    if word >= WORDS {
+        return Home::Unassigned;
+    }
     home_on(storage, lines, word, subpool_at(storage, 4 * word, guess))
 }

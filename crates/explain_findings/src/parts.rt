@@ -1,5 +1,5 @@
 //! Releases of parts.
-ghost use Rattle.std.specs.Prelude.{◌≡◌, ◌+◌, ◌*◌, ◌^◌, ◌<◌, ◌≤◌};
+ghost use Rattle.std.specs.Prelude.{◌≡◌, ◌^◌, ◌<◌, ◌≤◌};
 ghost use Rattle.vsm_model.specs.Regions.{doublewords};
 ghost use Rattle.storage_core.specs.Meaning.{state_of};
 ghost use Rattle.explain_findings.specs.Homes.{home_at};
@@ -26,7 +26,8 @@ fn goes_on(
     count: u32,
     guess: Option<Subpool>,
 ) -> bool
-    requires { first + count < 2 ^ 29 }
+    requires first { first < 2 ^ 29 }
+    requires count { count ≤ 2 ^ 29 }
     ensures { result ≡ goes_on (home_at (state_of storage.now) (line_in lines.now)) first count }
 {
     let home = home_at(storage, lines, 2 * first, guess);
@@ -46,7 +47,8 @@ pub(crate) fn part_at(
     count: u32,
     guess: Option<Subpool>,
 ) -> Option<Part>
-    requires { first + count < 2 ^ 29 }
+    requires first { first < 2 ^ 29 }
+    requires count { count ≤ 2 ^ 29 }
     ensures { result ≡ part_at (home_at (state_of storage.now) (line_in lines.now)) (line_in lines.now) first count }
 {
     if !lines.is_of_one(first, count) {
