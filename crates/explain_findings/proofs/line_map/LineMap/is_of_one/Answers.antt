@@ -1,9 +1,9 @@
-use Rattle.std.proofs.Common.{◌≡◌, ◌≤◌, ◌<◌, ◌+◌, ◌-◌, ◌*◌, ◌/◌, ℕ, Bool, Option, false, true, slice_get, option_map, sym, ap, subst, ◌∙◌, arith, inl, inr}
+use Rattle.std.proofs.Common.{◌-◌, ◌*◌, ◌/◌, ℕ, Option, slice_get, option_map, sym, ap, ◌∙◌, arith, inl, inr}
 use Rattle.std.proofs.lemmas.Bool.{cases_lt}
 use Rattle.vsm_model.proofs.Least.{all_pass_from}
 use Rattle.vsm_model.specs.Search.{all_pass}
 use Rattle.explain_findings.specs.LineMaps.{in_page, line_in}
-use Rattle.explain_findings.specs.Parts.{is_of_one, same_line}
+use Rattle.explain_findings.specs.Parts.{same_line}
 use Rattle.explain_findings.proofs.LineMaps.{page_fails, page_passes}
 use Rattle.explain_findings.proofs.line_map.LineMap.is_of_one.Goals as goal
 

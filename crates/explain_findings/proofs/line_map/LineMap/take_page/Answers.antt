@@ -1,4 +1,4 @@
-use Rattle.std.proofs.Common.{◌&&◌, ◌==◌, ℕ, Some, ap, ◌∙◌, nat_le, nat_lt, if◌then◌else◌, arith}
+use Rattle.std.proofs.Common.{◌&&◌, ◌==◌, Some, ap, ◌∙◌, nat_le, nat_lt, if◌then◌else◌, arith}
 use Rattle.std.proofs.lemmas.Result.{on_ok_weaker}
 use Rattle.explain_findings.proofs.LineMaps.{page_set}
 use Rattle.explain_findings.proofs.line_map.LineMap.take_page.Goals as goal
