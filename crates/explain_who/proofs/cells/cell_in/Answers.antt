@@ -1,4 +1,4 @@
-use Rattle.std.proofs.Common.{◌≡◌, Some, None, refl, ap, ◌∙◌}
+use Rattle.std.proofs.Common.{◌≡◌, Some, None, refl, ap}
 use Rattle.cell_pool.specs.declared.settings.CellSettings.{CellSettings}
 use Rattle.storage_changes.specs.PoolTable.{cell_pool_of, extent_of}
 use Rattle.storage_map.specs.Cells.{cell_pool}
