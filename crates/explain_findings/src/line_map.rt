@@ -33,8 +33,8 @@ fn widen(lines: &mut Vec<Option<u32>>) -> Result<(), AllocError>
     ensures room { OnOk result (512 ≤ vec_len lines.new) }
     ensures same { OnOk result ((d : ℕ) → joined (slice_get lines.new.items d) ≡ joined (slice_get lines.old.items d)) }
 {
-    while lines.len() < PAGE {
-        lines.push(None)?;
+    if lines.len() < PAGE {
+        lines.resize(PAGE, None)?;
     }
     Ok(())
 }
