@@ -12,10 +12,10 @@ module _ (homes : ℕ → Home) (first : Home) where
   outside_found (suc count) word at from to same other =
       elim (cases_eq at word) [
         | inl is ↦
-          ap (λ b. if b then first_outside homes first count (suc word) else Some word) (ap (λ k. same_home first (homes k)) (sym is) ∙ other) ∙ ap Some (sym is)
+            ap (λ b. if b then first_outside homes first count (suc word) else Some word) (ap (λ k. same_home first (homes k)) (sym is) ∙ other) ∙ ap Some (sym is)
         | inr ne ↦
-          ap (λ b. if b then first_outside homes first count (suc word) else Some word) (same word (omega arith) (omega arith))
-              ∙ outside_found count (suc word) at (omega arith) (omega arith) (λ k above below. same k (omega arith) below) other
+            ap (λ b. if b then first_outside homes first count (suc word) else Some word) (same word (omega arith) (omega arith))
+            ∙ outside_found count (suc word) at (omega arith) (omega arith) (λ k above below. same k (omega arith) below) other
       ]
 
   pub outside_none : (count word : ℕ) → ((k : ℕ) → word ≤ k → k < word + count → same_home first (homes k) ≡ true) → first_outside homes first count word ≡ None

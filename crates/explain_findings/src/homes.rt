@@ -106,12 +106,7 @@ fn home_on(storage: &Storage, lines: &LineMap, word: u32, subpool: Option<Subpoo
 }
 
 /// Where a fullword is. The guessed subpool is asked for its page first.
-pub(crate) fn home_at(
-    storage: &Storage,
-    lines: &LineMap,
-    word: u32,
-    guess: Option<Subpool>,
-) -> Home
+pub(crate) fn home_at(storage: &Storage, lines: &LineMap, word: u32, guess: Option<Subpool>) -> Home
     ensures { result ≡ home_at (state_of storage.now) (line_in lines.now) word }
 {
     if word >= WORDS {

@@ -19,8 +19,8 @@ returns-then-not-is_same-clause-within c =
     let at = c.loop-at.at in
     elim (cases_lt c.args.word at) [
       | inl after ↦
-        let low = same_is_low c.args.storage.now c.args.first.now (line_in c.args.lines.now) (at - 1) (c.loop-at.invariant (at - 1) (omega (arith, after)) (omega (arith, after))) in
-            omega (arith, low)
+          let low = same_is_low c.args.storage.now c.args.first.now (line_in c.args.lines.now) (at - 1) (c.loop-at.invariant (at - 1) (omega (arith, after)) (omega (arith, after))) in
+          omega (arith, low)
       | inr here ↦ omega (arith, here, c.requires.within)
     ]
 
@@ -30,9 +30,9 @@ loop-at-preserved c =
     λ k above below. elim (cases_lt k c.loop-at.at) [
       | inl before ↦ c.loop-at.invariant k above before
       | inr here ↦
-        let is : c.loop-at.at ≡ k = omega (arith, here, below) in
-            ap (same_home c.args.first.now) (ap (home_at (state_of s) (line_in c.args.lines.now)) (sym is) ∙ sym c.home_at-home.ensures) ∙ sym c.is_same.ensures
-                ∙ c.if-not-is_same.false
+          let is : c.loop-at.at ≡ k = omega (arith, here, below) in
+          ap (same_home c.args.first.now) (ap (home_at (state_of s) (line_in c.args.lines.now)) (sym is) ∙ sym c.home_at-home.ensures) ∙ sym c.is_same.ensures
+          ∙ c.if-not-is_same.false
     ]
 
 pub returns-clause-first : goal.returns-clause-first

@@ -18,7 +18,7 @@ returns-in-Some c =
     let homes : ℕ → Home = home_at (state_of a.storage.now) (line_in a.lines.now) in
     let word = a.address / 4 in
     let first : Some c.in-Some.at ≡ first_outside homes (homes word) (words_of a.address a.count) word =
-        c.in-Some.ensures.first ∙ ap (λ h. first_outside homes h c.words_of-count.result word) c.home_at-first.ensures
-            ∙ ap (λ n. first_outside homes (homes word) n word) c.words_of-count.ensures in
+    c.in-Some.ensures.first ∙ ap (λ h. first_outside homes h c.words_of-count.result word) c.home_at-first.ensures
+    ∙ ap (λ n. first_outside homes (homes word) n word) c.words_of-count.ensures in
     ap (λ n. Some (there n c.in-Some.home)) c.max.ensures ∙ ap (λ h. Some (there (max a.address (4 * c.in-Some.at)) h)) c.in-Some.ensures.home
     ∙ ap (option_map (λ w. there (max a.address (4 * w)) (homes w))) first

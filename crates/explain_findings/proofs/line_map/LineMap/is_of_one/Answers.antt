@@ -31,8 +31,8 @@ loop-at-preserved c =
       same = λ d from below. elim (cases_lt d at) [
         | inl before ↦ c.loop-at.invariant.same d from before
         | inr after ↦
-          page_passes lines c.line-line.result k (at - 512 * k) (to - at) (omega (arith, c.min-to.ensures)) (sym c.is_page_of.ensures ∙ c.if-not-is_page_of.false) d
-              (omega (arith, after)) (omega (arith, below, c.min-to.ensures))
+            page_passes lines c.line-line.result k (at - 512 * k) (to - at) (omega (arith, c.min-to.ensures)) (sym c.is_page_of.ensures ∙ c.if-not-is_page_of.false) d
+            (omega (arith, after)) (omega (arith, below, c.min-to.ensures))
       ];
     }
 
