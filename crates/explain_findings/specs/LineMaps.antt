@@ -10,5 +10,9 @@ abbrev pub in_page : Option (List (Option ℕ)) → ℕ → Option ℕ
 in_page None d = None
 in_page (Some lines) d = joined (slice_get lines d)
 
+-- of a doubleword of a page
+abbrev pub page_line : LineMap → ℕ → ℕ → Option ℕ
+page_line m page d = in_page (option_map (λ v. v.items) (slice_get m.pages.items page)) d
+
 abbrev pub line_in : LineMap → ℕ → Option ℕ
-line_in m d = in_page (option_map (λ v. v.items) (slice_get m.pages.items (d / 512))) (d % 512)
+line_in m d = page_line m (d / 512) (d % 512)

@@ -62,7 +62,8 @@ impl Home {
 
 /// Where an address is that is taken in a subpool.
 fn taken_home(storage: &Storage, lines: &LineMap, subpool: Subpool, address: u32) -> Home
-    ensures { result ≡ home_by subpool (line_in lines.now (address / 8)) (cell_at address (state_of storage.now).cell_pools)
+    ensures { result ≡ home_by subpool (line_in lines.now (address / 8))
+        (cell_at address (state_of storage.now).cell_pools)
         (taken_by subpool address (state_of storage.now).cell_pools) }
 {
     match taken_by(storage, subpool, address) {

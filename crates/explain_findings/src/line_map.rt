@@ -1,8 +1,8 @@
 //! Which line took a doubleword last.
 ghost use Rattle.std.specs.Prelude.{◌≡◌, ◌+◌, ◌^◌, ◌<◌, ◌≤◌, ℕ, None, OnOk, if◌then◌else◌, nat_le, nat_lt, Some, ◌&&◌};
-ghost use Rattle.std.specs.Prelude.{◌==◌, length, option_map, slice_get, vec_len};
+ghost use Rattle.std.specs.Prelude.{◌==◌, length, slice_get, vec_len};
 ghost use Rattle.vsm_model.specs.Search.{all_pass};
-ghost use Rattle.explain_findings.specs.LineMaps.{in_page, joined, line_in};
+ghost use Rattle.explain_findings.specs.LineMaps.{joined, line_in, page_line};
 ghost use Rattle.explain_findings.specs.Parts.{is_of_one, same_line};
 
 use std::alloc::{AllocError, Global};
@@ -109,9 +109,7 @@ impl LineMap {
     /// Makes room for a number of pages.
     fn lengthen(&mut self, alloc: Global, count: usize) -> Result<(), AllocError>
         ensures room { OnOk result (count ≤ vec_len self.new.pages) }
-        ensures same { OnOk result ((k d : ℕ) →
-            in_page (option_map (λ v. v.items) (slice_get self.new.pages.items k)) d
-            ≡ in_page (option_map (λ v. v.items) (slice_get self.old.pages.items k)) d) }
+        ensures same { OnOk result ((k d : ℕ) → page_line self.new k d ≡ page_line self.old k d) }
     {
         while self.pages.len() < count {
             self.pages.push(Vec::new(alloc))?;
@@ -130,10 +128,8 @@ impl LineMap {
     ) -> Result<(), AllocError>
         requires order { from ≤ to }
         requires within { to ≤ 512 }
-        ensures { OnOk result ((k d : ℕ) →
-            in_page (option_map (λ v. v.items) (slice_get self.new.pages.items k)) d
-            ≡ (if k == page && (nat_le from d && nat_lt d to) then Some line
-            else in_page (option_map (λ v. v.items) (slice_get self.old.pages.items k)) d)) }
+        ensures { OnOk result ((k d : ℕ) → page_line self.new k d
+            ≡ (if k == page && (nat_le from d && nat_lt d to) then Some line else page_line self.old k d)) }
     {
         let page = page as usize;
         self.lengthen(alloc, page + 1)?;
@@ -165,8 +161,7 @@ impl LineMap {
     /// Whether this many doublewords of a page from one on are of a line.
     fn is_page_of(&self, page: usize, from: usize, count: usize, line: Option<u32>) -> bool
         requires { from + count ≤ 512 }
-        ensures { result ≡ all_pass (λ d. same_line line
-            (in_page (option_map (λ v. v.items) (slice_get self.now.pages.items page)) d)) from count }
+        ensures { result ≡ all_pass (λ d. same_line line (page_line self.now page d)) from count }
     {
         match self.pages.get(page) {
             Some(lines) => are_of(lines, from, count, line),

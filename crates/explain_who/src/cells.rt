@@ -136,7 +136,7 @@ pub fn taken_by(storage: &Storage, subpool: Subpool, address: u32) -> Taken
     }
 }
 
-/// The cell in which an address lies, of a cell pool whose extent has the address; `None` if none of its extents has it.
+/// The cell in which an address lies, of a cell pool whose extent has the address; `None` if no extent has it.
 fn cell_in(storage: &Storage, id: CellId, address: u32) -> Option<Option<u32>>
     requires { IsSome (cell_pool storage.now id) }
     ensures { IfSome (cell_pool storage.now id) (λ p. result ≡ cell_in address (cell_pool_of p)) }

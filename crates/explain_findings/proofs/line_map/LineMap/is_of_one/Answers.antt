@@ -1,8 +1,8 @@
-use Rattle.std.proofs.Common.{◌-◌, ◌*◌, ◌/◌, ℕ, Option, slice_get, option_map, sym, ap, ◌∙◌, arith, inl, inr}
+use Rattle.std.proofs.Common.{◌-◌, ◌*◌, ◌/◌, sym, ap, ◌∙◌, arith, inl, inr}
 use Rattle.std.proofs.lemmas.Bool.{cases_lt}
 use Rattle.vsm_model.proofs.Least.{all_pass_from}
 use Rattle.vsm_model.specs.Search.{all_pass}
-use Rattle.explain_findings.specs.LineMaps.{in_page, line_in}
+use Rattle.explain_findings.specs.LineMaps.{line_in, page_line}
 use Rattle.explain_findings.specs.Parts.{same_line}
 use Rattle.explain_findings.proofs.LineMaps.{page_fails, page_passes}
 use Rattle.explain_findings.proofs.line_map.LineMap.is_of_one.Goals as goal
@@ -13,9 +13,8 @@ returns-then-not-is_page_of c =
     let at = c.loop-at.at in
     let k = at / 512 in
     let to = c.min-to.result in
-    let lines : ℕ → ℕ → Option ℕ = λ k d. in_page (option_map (λ v. v.items) (slice_get m.pages.items k)) d in
     sym (ap (λ o. all_pass (λ d. same_line o (line_in m d)) c.args.first c.args.count) (sym c.line-line.ensures)
-    ∙ page_fails lines c.line-line.result k (at - 512 * k) (to - at) c.args.first c.args.count (omega (arith, c.min-to.ensures))
+    ∙ page_fails (page_line m) c.line-line.result k (at - 512 * k) (to - at) c.args.first c.args.count (omega (arith, c.min-to.ensures))
     (sym c.is_page_of.ensures ∙ c.if-not-is_page_of.true) (omega (arith, c.loop-at.invariant.from)) (omega (arith, c.min-to.ensures)))
 
 pub loop-at-preserved : goal.loop-at-preserved
@@ -24,14 +23,13 @@ loop-at-preserved c =
     let at = c.loop-at.at in
     let k = at / 512 in
     let to = c.min-to.result in
-    let lines : ℕ → ℕ → Option ℕ = λ k d. in_page (option_map (λ v. v.items) (slice_get m.pages.items k)) d in
     record {
       from = omega (arith, c.loop-at.invariant.from, c.min-to.ensures);
       to = omega (arith, c.min-to.ensures);
       same = λ d from below. elim (cases_lt d at) [
         | inl before ↦ c.loop-at.invariant.same d from before
         | inr after ↦
-            page_passes lines c.line-line.result k (at - 512 * k) (to - at) (omega (arith, c.min-to.ensures)) (sym c.is_page_of.ensures ∙ c.if-not-is_page_of.false) d
+            page_passes (page_line m) c.line-line.result k (at - 512 * k) (to - at) (omega (arith, c.min-to.ensures)) (sym c.is_page_of.ensures ∙ c.if-not-is_page_of.false) d
             (omega (arith, after)) (omega (arith, below, c.min-to.ensures))
       ];
     }
