@@ -171,7 +171,6 @@ impl LineMap {
 
     /// Whether this many doublewords from the first on are of the first one's line.
     pub(crate) fn is_of_one(&self, first: u32, count: u32) -> bool
-        requires { first + count < 2 ^ 32 }
         ensures { result ≡ is_of_one (line_in self.now) first count }
     {
         let line = self.line(first);
