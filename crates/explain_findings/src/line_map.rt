@@ -1,19 +1,29 @@
 //! Which line took a doubleword last.
-ghost use Rattle.std.specs.Prelude.{◌≡◌, ◌+◌, ◌^◌, ◌<◌, ◌≤◌, ℕ, None, OnOk, if◌then◌else◌, nat_le, nat_lt, Some, ◌&&◌};
+ghost use Rattle.std.specs.Prelude.{◌≡◌, ◌+◌, ◌^◌, ◌<◌, ◌≤◌, ℕ, IfOk, None, OnOk, if◌then◌else◌, nat_le, nat_lt, Some, ◌&&◌};
 ghost use Rattle.std.specs.Prelude.{◌==◌, length, slice_get, vec_len};
 ghost use Rattle.vsm_model.specs.Search.{all_pass};
-ghost use Rattle.explain_findings.specs.LineMaps.{joined, line_in, page_line};
+ghost use Rattle.explain_findings.specs.LineMaps.{joined, line_in, on_page, page_line};
 ghost use Rattle.explain_findings.specs.Parts.{is_of_one, same_line};
 
 use std::alloc::{AllocError, Global};
+use std::mem;
 
 /// The doublewords of a page.
 const PAGE: usize = 512;
 
-/// The line that took each doubleword last, by pages; a page without one may have no room.
+/// The lines that took the doublewords of a page last.
+#[derive(Drop)]
+enum PageLines {
+    /// One line took all of them, or none took any.
+    One(Option<u32>),
+    /// The line of each, as far as there is one.
+    Each(Vec<Option<u32>>),
+}
+
+/// The line that took each doubleword last, by pages.
 #[derive(Drop)]
 pub(crate) struct LineMap {
-    pages: Vec<Vec<Option<u32>>>,
+    pages: Vec<PageLines>,
 }
 
 /// A line takes the doublewords of a page from one up to another.
@@ -28,31 +38,47 @@ fn set_lines(lines: &mut [Option<u32>], from: usize, to: usize, line: u32)
     }
 }
 
-/// Makes room for all doublewords of a page.
-fn widen(lines: &mut Vec<Option<u32>>) -> Result<(), AllocError>
-    ensures room { OnOk result (512 ≤ vec_len lines.new) }
-    ensures same { OnOk result ((d : ℕ) → joined (slice_get lines.new.items d) ≡ joined (slice_get lines.old.items d)) }
+/// The line of each doubleword of a page, with room for all of them.
+fn opened(alloc: Global, page: PageLines) -> Result<Vec<Option<u32>>, AllocError>
+    ensures room { IfOk result (λ lines. 512 ≤ vec_len lines) }
+    ensures same { IfOk result (λ lines. (d : ℕ) → d < 512 → joined (slice_get lines.items d) ≡ on_page page d) }
 {
-    if lines.len() < PAGE {
-        lines.resize(PAGE, None)?;
+    match page {
+        PageLines::One(line) => {
+            let mut lines = Vec::new(alloc);
+            lines.resize(PAGE, line)?;
+            Ok(lines)
+        }
+        PageLines::Each(lines) => {
+            let mut lines = lines;
+            if lines.len() < PAGE {
+                lines.resize(PAGE, None)?;
+            }
+            Ok(lines)
+        }
     }
-    Ok(())
 }
 
-/// A line takes the doublewords of a page from one up to another; the page gets room for them.
+/// A line takes the doublewords of a page from one up to another.
 fn take_in(
-    lines: &mut Vec<Option<u32>>,
+    page: &mut PageLines,
+    alloc: Global,
     from: usize,
     to: usize,
     line: u32,
 ) -> Result<(), AllocError>
     requires order { from ≤ to }
     requires within { to ≤ 512 }
-    ensures { OnOk result ((d : ℕ) → joined (slice_get lines.new.items d)
-        ≡ (if nat_le from d && nat_lt d to then Some line else joined (slice_get lines.old.items d))) }
+    ensures { OnOk result ((d : ℕ) → d < 512 → on_page page.new d
+        ≡ (if nat_le from d && nat_lt d to then Some line else on_page page.old d)) }
 {
-    widen(lines)?;
-    set_lines(lines, from, to, line);
+    if to - from == PAGE {
+        *page = PageLines::One(Some(line));
+        return Ok(());
+    }
+    let mut lines = opened(alloc, mem::replace(page, PageLines::One(None)))?;
+    set_lines(&mut lines, from, to, line);
+    *page = PageLines::Each(lines);
     Ok(())
 }
 
@@ -67,24 +93,46 @@ fn is_same(a: Option<u32>, b: Option<u32>) -> bool
     }
 }
 
-/// The line that took a doubleword of a page last.
-fn line_on(lines: &[Option<u32>], doubleword: usize) -> Option<u32>
+/// The line that took a doubleword last, of some from a page's first on.
+fn line_among(lines: &[Option<u32>], doubleword: usize) -> Option<u32>
     ensures { result ≡ joined (slice_get lines.now doubleword) }
 {
     *lines.get(doubleword)?
 }
 
-/// Whether this many doublewords of a page from one on are of a line.
+/// The line that took a doubleword of a page last.
+fn line_on(page: &PageLines, doubleword: usize) -> Option<u32>
+    ensures { result ≡ on_page page.now doubleword }
+{
+    match page {
+        PageLines::One(line) => *line,
+        PageLines::Each(lines) => line_among(lines, doubleword),
+    }
+}
+
+/// Whether this many doublewords, of some from a page's first on, are of a line from one on.
 fn are_of(lines: &[Option<u32>], from: usize, count: usize, line: Option<u32>) -> bool
     requires { from + count ≤ 512 }
     ensures { result ≡ all_pass (λ d. same_line line (joined (slice_get lines.now d))) from count }
 {
     for d in from..from + count {
-        if !is_same(line, line_on(lines, d)) {
+        if !is_same(line, line_among(lines, d)) {
             return false;
         }
     }
     true
+}
+
+/// Whether this many doublewords of a page from one on are of a line.
+fn is_run_of(page: &PageLines, from: usize, count: usize, line: Option<u32>) -> bool
+    requires some { 0 < count }
+    requires within { from + count ≤ 512 }
+    ensures { result ≡ all_pass (λ d. same_line line (on_page page.now d)) from count }
+{
+    match page {
+        PageLines::One(its) => is_same(line, *its),
+        PageLines::Each(lines) => are_of(lines, from, count, line),
+    }
 }
 
 impl LineMap {
@@ -107,12 +155,12 @@ impl LineMap {
     }
 
     /// Makes room for a number of pages.
-    fn lengthen(&mut self, alloc: Global, count: usize) -> Result<(), AllocError>
+    fn lengthen(&mut self, count: usize) -> Result<(), AllocError>
         ensures room { OnOk result (count ≤ vec_len self.new.pages) }
         ensures same { OnOk result ((k d : ℕ) → page_line self.new k d ≡ page_line self.old k d) }
     {
         while self.pages.len() < count {
-            self.pages.push(Vec::new(alloc))?;
+            self.pages.push(PageLines::One(None))?;
         }
         Ok(())
     }
@@ -128,12 +176,12 @@ impl LineMap {
     ) -> Result<(), AllocError>
         requires order { from ≤ to }
         requires within { to ≤ 512 }
-        ensures { OnOk result ((k d : ℕ) → page_line self.new k d
+        ensures { OnOk result ((k d : ℕ) → d < 512 → page_line self.new k d
             ≡ (if k == page && (nat_le from d && nat_lt d to) then Some line else page_line self.old k d)) }
     {
         let page = page as usize;
-        self.lengthen(alloc, page + 1)?;
-        take_in(&mut self.pages[page], from, to, line)
+        self.lengthen(page + 1)?;
+        take_in(&mut self.pages[page], alloc, from, to, line)
     }
 
     /// A line takes this many doublewords from the first on.
@@ -160,12 +208,13 @@ impl LineMap {
 
     /// Whether this many doublewords of a page from one on are of a line.
     fn is_page_of(&self, page: usize, from: usize, count: usize, line: Option<u32>) -> bool
-        requires { from + count ≤ 512 }
+        requires some { 0 < count }
+        requires within { from + count ≤ 512 }
         ensures { result ≡ all_pass (λ d. same_line line (page_line self.now page d)) from count }
     {
         match self.pages.get(page) {
-            Some(lines) => are_of(lines, from, count, line),
-            None => are_of(&[], from, count, line),
+            Some(lines) => is_run_of(lines, from, count, line),
+            None => is_same(line, None),
         }
     }
 

@@ -8,7 +8,7 @@ pub returns-then-not-is_same : goal.returns-then-not-is_same
 returns-then-not-is_same c =
     let line = c.args.line in
     sym (all_pass_none (λ d. same_line line (joined (slice_get c.args.lines.now d))) c.args.from c.args.count c.loop-d.d (omega arith) (omega arith)
-    (ap (same_line line) (sym c.line_on.ensures) ∙ sym c.is_same.ensures ∙ c.if-not-is_same.true))
+    (ap (same_line line) (sym c.line_among.ensures) ∙ sym c.is_same.ensures ∙ c.if-not-is_same.true))
 
 pub returns : goal.returns
 returns c =
