@@ -1,5 +1,5 @@
 -- The line that took a doubleword, as a map has it.
-use Rattle.std.specs.Prelude.{ℕ, ◌/◌, ◌%◌, Option, Some, None, List, slice_get}
+use Rattle.std.specs.Prelude.{ℕ, ◌/◌, ◌%◌, Option, Some, None, slice_get}
 use Rattle.explain_findings.specs.declared.line_map.LineMap.{LineMap}
 use Rattle.explain_findings.specs.declared.line_map.PageLines.{PageLines}
 use Rattle.explain_findings.specs.declared.line_map.PageLines.TheVariants as page
