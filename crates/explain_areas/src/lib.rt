@@ -18,5 +18,6 @@ mod tracing;
 mod walks;
 
 pub use faults::AreasFault;
+pub use newly::{TakenRun, taken_by};
 pub use orders::AreaOrder;
 pub use output::areas;

@@ -7,7 +7,7 @@ use vsm_model::Reply;
 
 /// The run of doublewords that are taken after a service and weren't before: the first of them and how many there are,
 /// or none.
-pub(crate) type TakenRun = ArrayVec<(u32, u32), 1>;
+pub type TakenRun = ArrayVec<(u32, u32), 1>;
 
 /// This many doublewords from the first on, or none.
 fn run_of(first: u32, count: u32) -> TakenRun
@@ -28,7 +28,7 @@ fn grown(before: u64, after: u64) -> u32
 }
 
 /// What a service with this reply took, by the taken bytes before and after it.
-pub(crate) fn taken_by(reply: Reply, before: u64, after: u64) -> TakenRun
+pub fn taken_by(reply: Reply, before: u64, after: u64) -> TakenRun
     ensures { result.items ≡ taken_by reply before after }
 {
     match reply {

@@ -21,7 +21,7 @@ use Rattle.vsm_model.specs.CellPools.{CellExtent, CellPool, CellPools}
 use Rattle.vsm_model.specs.Regions.{doublewords}
 use Rattle.vsm_model.specs.Releasing.{overlaps_extent}
 use Rattle.vsm_model.specs.declared.Subpool.{Subpool}
-use Rattle.explain_who.specs.Taken.{cell_with, extent_with, has_address, taken_by, taken_cell, taken_in}
+use Rattle.explain_who.specs.Taken.{cell_at, cell_in, cell_with, extent_with, has_address, taken_by, taken_cell, taken_in}
 use Rattle.explain_who.specs.declared.takers.Taken.{Taken}
 use Rattle.explain_who.specs.declared.takers.Taken.TheVariants as taken
 use Rattle.explain_who.proofs.InUse.{uses_same}
@@ -80,6 +80,16 @@ pool_takes p address size found r same first is =
     ∙ ap (option_map (λ (x : CellExtent). taken_cell p.name (cell_pool_of p) (cell_with size address x))) first
     ∙ ap (λ (n : ℕ). option_map (λ (x : CellExtent). taken_cell p.name (cell_pool_of p) (cell_with n address x)) (extent_with n address (map extent_of p.extents))) same
 
+-- the cell in which the address lies
+pub cell_is_in : (p : Pool) (address size : ℕ) (found : Option Extent) (r : Option (Option ℕ)) → size ≡ p.settings.size
+    → option_map extent_of found ≡ extent_with size address (map extent_of p.extents)
+    → r ≡ option_map (cell_with size address) (option_map extent_of found)
+    → r ≡ cell_in address (cell_pool_of p)
+cell_is_in p address size found r same first is =
+    is
+    ∙ ap (option_map (cell_with size address)) first
+    ∙ ap (λ (n : ℕ). option_map (cell_with n address) (extent_with n address (map extent_of p.extents))) same
+
 -- ---- lists that are walked over
 
 pub shorter : {A : Type 0} (xs ys : List A) (x : A) → xs ≡ x ∷ ys → length ys < length xs
@@ -130,6 +140,31 @@ module _ (q : Subpool) (address : ℕ) (table : CellPools) (low : Option (List �
   fewer_rows None name there next named = absurd (let no : false ≡ true = there in cc)
   fewer_rows (Some p) name there next named =
       shorter (rows_behind table low) (rows_behind table (Some name)) (p.name, cell_pool_of p) (after p name next named)
+
+module _ (address : ℕ) (row : List ℕ × CellPool) (left rest : CellPools) (next : left ≡ row ∷ rest) where
+  cell_passed : cell_in address row.1 ≡ None → cell_at address left ≡ cell_at address rest
+  cell_passed none = ap (cell_at address) next ∙ ap (λ (o : Option (Option ℕ)). unwrap_or o (cell_at address rest)) none
+
+  cell_found : (t : Option ℕ) → cell_in address row.1 ≡ Some t → cell_at address left ≡ t
+  cell_found t has = ap (cell_at address) next ∙ ap (λ (o : Option (Option ℕ)). unwrap_or o (cell_at address rest)) has
+
+-- the cell pool that comes next after a name has the address, or not
+module _ (address : ℕ) (table : CellPools) (low : Option (List ℕ)) where
+  abbrev IsNextOf : Pool → Type 0
+  IsNextOf p = rows_behind table low ≡ (p.name, cell_pool_of p) ∷ rows_behind table (Some p.name)
+
+  pub cell_pool_passed : (o : Option Pool) (name : List ℕ) → IsSome o → IfSome o IsNextOf → IfSome o (λ p. name ≡ p.name)
+      → IfSome o (λ p. None ≡ cell_in address (cell_pool_of p)) → cell_at address (rows_behind table low) ≡ cell_at address (rows_behind table (Some name))
+  cell_pool_passed None name there next named none = absurd (let no : false ≡ true = there in cc)
+  cell_pool_passed (Some p) name there next named none =
+      cell_passed address (p.name, cell_pool_of p) (rows_behind table low) (rows_behind table (Some name))
+      (next ∙ ap (λ (n : List ℕ). (p.name, cell_pool_of p) ∷ rows_behind table (Some n)) (sym named)) (sym none)
+
+  pub cell_pool_has : (o : Option Pool) (t : Option ℕ) → IsSome o → IfSome o IsNextOf
+      → IfSome o (λ p. Some t ≡ cell_in address (cell_pool_of p)) → cell_at address (rows_behind table low) ≡ t
+  cell_pool_has None t there next has = absurd (let no : false ≡ true = there in cc)
+  cell_pool_has (Some p) t there next has =
+      cell_found address (p.name, cell_pool_of p) (rows_behind table low) (rows_behind table (Some p.name)) next t (sym has)
 
 -- ---- no row has the address
 

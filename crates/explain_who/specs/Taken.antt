@@ -46,6 +46,14 @@ abbrev pub taken_by : Subpool → ℕ → CellPools → Taken
 taken_by p address [] = taken.Obtained p
 taken_by p address (row ∷ rows) = unwrap_or (taken_in address row.0 row.1) (taken_by p address rows)
 
+-- the cell in which an address lies, by its address, of the first cell pool that has the address
+abbrev pub cell_in : ℕ → CellPool → Option (Option ℕ)
+cell_in address pool = option_map (cell_with pool.size address) (extent_with pool.size address pool.extents)
+
+abbrev pub cell_at : ℕ → CellPools → Option ℕ
+cell_at address [] = None
+cell_at address (row ∷ rows) = unwrap_or (cell_in address row.1) (cell_at address rows)
+
 -- ---- storage
 
 -- in a page of this subpool

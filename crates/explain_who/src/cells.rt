@@ -4,7 +4,8 @@ ghost use Rattle.storage_changes.specs.PoolTable.{cell_pool_of, extent_of};
 ghost use Rattle.storage_core.specs.Meaning.{state_of};
 ghost use Rattle.storage_map.specs.Cells.{cell_pool};
 ghost use Rattle.vsm_model.specs.Releasing.{overlaps_cells};
-ghost use Rattle.explain_who.specs.Taken.{cell_with, extent_with, has_address, taken_by, taken_cell, taken_in};
+ghost use Rattle.explain_who.specs.Taken.{cell_at, cell_in, cell_with, extent_with, has_address, taken_by, taken_cell};
+ghost use Rattle.explain_who.specs.Taken.{taken_in};
 
 use crate::takers::{PoolName, Taken};
 use arrayvec::ArrayVec;
@@ -133,4 +134,32 @@ pub fn taken_by(storage: &Storage, subpool: Subpool, address: u32) -> Taken
     } else {
         Taken::Obtained(subpool)
     }
+}
+
+/// The cell in which an address lies, of a cell pool whose extent has the address; `None` if no extent has it.
+fn cell_in(storage: &Storage, id: CellId, address: u32) -> Option<Option<u32>>
+    requires { IsSome (cell_pool storage.now id) }
+    ensures { IfSome (cell_pool storage.now id) (λ p. result ≡ cell_in address (cell_pool_of p)) }
+{
+    let size = cell_pool_settings(storage, id).size;
+    match extent_with(storage, id, size, address) {
+        None => None,
+        Some(extent) => Some(cell_with(size, address, extent)),
+    }
+}
+
+/// The address of the cell in which an address lies: of the first cell pool that has the address. `None` after an
+/// extent's last cell, and outside of all extents.
+pub fn cell_at(storage: &Storage, address: u32) -> Option<u32>
+    ensures { result ≡ cell_at address (state_of storage.now).cell_pools }
+{
+    let mut behind: Option<CellPoolName> = None;
+    while let Some(id) = next_cell_pool(storage, behind.as_ref()) {
+        match cell_in(storage, id, address) {
+            None => (),
+            Some(cell) => return cell,
+        }
+        behind = Some(cell_pool_name(storage, id));
+    }
+    None
 }

@@ -25,14 +25,16 @@ mod texts;
 mod tracing;
 mod trail;
 
-pub use cells::taken_by;
+pub use cells::{cell_at, taken_by};
 pub use counts::put_count;
 pub use faults::WhoFault;
 pub use names::word_after;
 pub use orders::ChangeOrder;
 pub use output::who;
+pub use pages::subpool_at;
 pub use readings::Subject;
 pub use shown_lines::{put_line, put_line_fields};
+pub use taken::taken_on;
 pub use taken_texts::put_subpool;
-pub use takers::Taken;
+pub use takers::{PoolName, Taken};
 pub use trail::{Trail, TrailEntry};

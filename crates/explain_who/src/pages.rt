@@ -33,7 +33,7 @@ fn subpool_of(storage: &Storage, page: u32, guess: Option<Subpool>) -> Option<Su
 
 /// The subpool that the page of an address belongs to, first the guessed one is asked; `None` if it isn't assigned, and
 /// then no subpool is asked.
-pub(crate) fn subpool_at(storage: &Storage, address: u32, guess: Option<Subpool>) -> Option<Subpool>
+pub fn subpool_at(storage: &Storage, address: u32, guess: Option<Subpool>) -> Option<Subpool>
     ensures { result ≡ (state_of storage.now).pages (address / 4096) }
 {
     if is_assigned(storage, address) {

@@ -17,7 +17,7 @@ fn is_free(storage: &Storage, subpool: Subpool, doubleword: u32) -> bool
 
 /// How the storage at an address is taken, whose page belongs to this subpool. Its cost grows with the cell pools, and
 /// with their extents if a cell pool has the address.
-pub(crate) fn taken_on(storage: &Storage, subpool: Option<Subpool>, address: u32) -> Taken
+pub fn taken_on(storage: &Storage, subpool: Option<Subpool>, address: u32) -> Taken
     ensures { result ≡ taken_on (state_of storage.now) address subpool }
 {
     match subpool {

@@ -1,0 +1,4 @@
+-- Lemmas on what is found.
+mod LineMaps
+mod HomePages
+mod FirstOutside

@@ -1,0 +1,46 @@
+-- What is found of a statement or a PEEK, by what is known of the storage: where fullwords are at home, which line took
+-- a doubleword, and what ended the areas and cells of names.
+use Rattle.std.specs.Prelude.{ℕ, ◌/◌, Option, Some, None, List, length}
+use Rattle.bench_core.specs.Machine.{service_asked, looked_up}
+use Rattle.macro_statements.specs.Requests.{Act, Written, act, peek}
+use Rattle.vsm_model.specs.Names.{NamedState}
+use Rattle.vsm_model.specs.Regions.{doublewords}
+use Rattle.vsm_model.specs.Services as services
+use Rattle.vsm_model.specs.Services.{Service}
+use Rattle.explain_findings.specs.Accesses.{outside_at}
+use Rattle.explain_findings.specs.Endings.{name_used}
+use Rattle.explain_findings.specs.Parts.{part_at}
+use Rattle.explain_findings.specs.declared.findings.Finding.{Finding}
+use Rattle.explain_findings.specs.declared.findings.Outside.{Outside}
+use Rattle.explain_findings.specs.declared.findings.Part.{Part}
+use Rattle.explain_findings.specs.declared.homes.Home.{Home}
+
+module _ (homes : ℕ → Home) (lines : ℕ → Option ℕ) (ended : List ℕ → Option ℕ) where
+  abbrev pub outside_by : Option Service → Option Outside
+  outside_by (Some (services.store address bytes)) = outside_at homes address (length bytes)
+  outside_by _ = None
+
+  abbrev pub part_by : Option Service → Option Part
+  part_by (Some (services.release r)) = part_at homes lines (r.address / 8) (doublewords r.length)
+  part_by _ = None
+
+  abbrev pub stale_by : Option (List ℕ) → Option ℕ
+  stale_by None = None
+  stale_by (Some name) = ended name
+
+  -- of a statement that asks for this service; of a release, whatever it's answered
+  abbrev pub finding_by : Option Service → Act → Finding
+  finding_by service x =
+      record { outside = outside_by service; stale = stale_by (name_used (act x)); part = part_by service }
+
+  abbrev pub read_by : Option ℕ → ℕ → Option Outside
+  read_by None count = None
+  read_by (Some word) count = outside_at homes word count
+
+  abbrev pub reading_by : NamedState → Written → ℕ → Finding
+  reading_by m address count =
+      record {
+        outside = read_by (looked_up m address) count;
+        stale = stale_by (name_used (peek address count));
+        part = None;
+      }

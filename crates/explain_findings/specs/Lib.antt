@@ -1,0 +1,11 @@
+pub mod Homes
+pub mod LineMaps
+pub mod Accesses
+pub mod Parts
+pub mod Endings
+pub mod NameEndings
+pub mod Readings
+pub mod Standings
+pub mod Judged
+pub mod Tables
+pub mod Found
