@@ -1,1 +1,2 @@
 -- Lemmas on what is found.
+pub mod NameEntries
