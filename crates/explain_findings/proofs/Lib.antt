@@ -1,2 +1,4 @@
 -- Lemmas on what is found.
 pub mod NameEntries
+pub mod FewBytes
+pub mod FindingLemmas
