@@ -51,7 +51,7 @@ entry_there [] name d within = absurd (omega arith)
 entry_there (e ∷ es) name d within =
     (elim (same_name e.name.bytes name) as (λ b. cond b 0 (suc (place_of es name)) < suc (length es) →
     cond b (Some e) (entry_of es name) ≡ Some (get_or (e ∷ es) (cond b 0 (suc (place_of es name))) d)) [
-        true ↦ λ _. refl
+      | true ↦ λ _. refl
       | false ↦ λ less. entry_there es name d (omega arith)
     ]) within
 
@@ -60,7 +60,7 @@ no_entry [] name past = refl
 no_entry (e ∷ es) name past =
     (elim (same_name e.name.bytes name) as (λ b. suc (length es) ≤ cond b 0 (suc (place_of es name)) →
     cond b (Some e) (entry_of es name) ≡ None) [
-        true ↦ λ less. absurd (omega arith)
+      | true ↦ λ less. absurd (omega arith)
       | false ↦ λ less. no_entry es name (omega arith)
     ]) past
 
@@ -73,9 +73,9 @@ head_or : (own name other : List ℕ) (e x : NameEnding) (rest : Option NameEndi
 head_or own name other e x rest differ =
     (elim (same_name own other) as (λ b. same_name own other ≡ b →
     cond b (Some x) (cond (same_name name other) (Some e) rest) ≡ cond (same_name name other) (Some e) (cond b (Some x) rest)) [
-        true ↦ λ is. (elim (same_name name other) as (λ b. same_name name other ≡ b →
+      | true ↦ λ is. (elim (same_name name other) as (λ b. same_name name other ≡ b →
           Some x ≡ cond b (Some e) (Some x)) [
-              true ↦ λ too. absurd (true≢false (sym (ap (same_name own) (same_name-is name other too) ∙ is) ∙ differ))
+            | true ↦ λ too. absurd (true≢false (sym (ap (same_name own) (same_name-is name other too) ∙ is) ∙ differ))
             | false ↦ λ _. refl
           ]) refl
       | false ↦ λ _. refl
@@ -87,14 +87,14 @@ entry_of-set [] name other e own within = absurd (omega arith)
 entry_of-set (x ∷ es) name other e own within =
     (elim (same_name x.name.bytes name) as (λ b. same_name x.name.bytes name ≡ b → cond b 0 (suc (place_of es name)) < suc (length es) →
     entry_of (set (x ∷ es) (cond b 0 (suc (place_of es name))) e) other ≡ cond (same_name name other) (Some e) (entry_of (x ∷ es) other)) [
-        true ↦ λ is _.
+      | true ↦ λ is _.
           ap (λ n. cond (same_name n other) (Some e) (entry_of es other)) own
           ∙ (elim (same_name name other) as (λ b. same_name name other ≡ b →
-            cond b (Some e) (entry_of es other) ≡ cond b (Some e) (cond (same_name x.name.bytes other) (Some x) (entry_of es other))) [
-                true ↦ λ _. refl
-              | false ↦ λ no. sym (cond-false (same_name x.name.bytes other) (Some x) (entry_of es other)
-                  (ap (λ n. same_name n other) (same_name-is x.name.bytes name is) ∙ no))
-            ]) refl
+          cond b (Some e) (entry_of es other) ≡ cond b (Some e) (cond (same_name x.name.bytes other) (Some x) (entry_of es other))) [
+            | true ↦ λ _. refl
+            | false ↦ λ no. sym (cond-false (same_name x.name.bytes other) (Some x) (entry_of es other)
+                (ap (λ n. same_name n other) (same_name-is x.name.bytes name is) ∙ no))
+          ]) refl
       | false ↦ λ differ less.
           ap (λ o. cond (same_name x.name.bytes other) (Some x) o) (entry_of-set es name other e own (omega arith))
           ∙ head_or x.name.bytes name other e x (entry_of es other) differ
@@ -106,7 +106,7 @@ entry_of-push [] name other e own past = ap (λ n. cond (same_name n other) (Som
 entry_of-push (x ∷ es) name other e own past =
     (elim (same_name x.name.bytes name) as (λ b. same_name x.name.bytes name ≡ b → suc (length es) ≤ cond b 0 (suc (place_of es name)) →
     entry_of (x ∷ (es ++ e ∷ [])) other ≡ cond (same_name name other) (Some e) (entry_of (x ∷ es) other)) [
-        true ↦ λ _ less. absurd (omega arith)
+      | true ↦ λ _ less. absurd (omega arith)
       | false ↦ λ differ less.
           ap (λ o. cond (same_name x.name.bytes other) (Some x) o) (entry_of-push es name other e own (omega arith))
           ∙ head_or x.name.bytes name other e x (entry_of es other) differ
@@ -146,7 +146,7 @@ entry_of-after s can line [] name = refl
 entry_of-after s can line (e ∷ es) name =
     (elim (same_name e.name.bytes name) as (λ b. cond b (Some (after s can line e)) (entry_of (map (after s can line) es) name)
     ≡ option_map (after s can line) (cond b (Some e) (entry_of es name))) [
-        true ↦ refl
+      | true ↦ refl
       | false ↦ entry_of-after s can line es name
     ])
 

@@ -134,7 +134,13 @@ fn released_part(storage: &Storage, known: &Known, service: &Service<'_>) -> Opt
         Service::Release(release) => {
             let length = release.length;
             let count = doublewords(length);
-            part_at(storage, &known.lines, release.address / 8, count, known.guess)
+            part_at(
+                storage,
+                &known.lines,
+                release.address / 8,
+                count,
+                known.guess,
+            )
         }
         Service::Obtain(_)
         | Service::Whole { .. }
@@ -188,7 +194,13 @@ fn read_outside(
 {
     match address {
         Some(address) => {
-            outside_at(storage, &known.lines, address, u32::from(count), known.guess)
+            outside_at(
+                storage,
+                &known.lines,
+                address,
+                u32::from(count),
+                known.guess,
+            )
         }
         None => None,
     }
