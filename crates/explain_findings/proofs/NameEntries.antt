@@ -1,15 +1,17 @@
 -- Entries of names: the search for a name's place, a write there, one more entry, and a statement after which each is
 -- looked at.
-use Rattle.std.proofs.Common.{◌≡◌, ℕ, zero, suc, ◌+◌, ◌<◌, ◌≤◌, Bool, true, false, cond, ◌&&◌, ◌==◌, nat_eq, Option, Some, None, List, [], ◌∷◌, ◌++◌, length, drop, map, get_or, set, take, refl, sym, ap, ◌∙◌, arith, true≢false}
+use Rattle.std.proofs.Common.{◌≡◌, ℕ, zero, suc, ◌+◌, ◌<◌, ◌≤◌, Bool, true, false, cond, not, ◌&&◌, ◌==◌, nat_eq, Option, Some, None, List, [], ◌∷◌, ◌++◌, length, drop, map, get_or, set, take, refl, sym, ap, ◌∙◌, arith, true≢false}
 use Rattle.std.specs.Option.{option_map}
 use Rattle.std.specs.Cmp.Lexicographic.{pointwise}
 use Rattle.std.proofs.lemmas.Bool.{and_parts, cond-true, cond-false, eqb-true}
 use Rattle.std.proofs.lemmas.List.{append-nil, at_drop_more, drop_all, take_all}
 use Rattle.vsm_model.specs.Names.{same_name}
 use Rattle.vsm_model.specs.State.{State}
-use Rattle.explain_findings.specs.Endings.{first_line}
-use Rattle.explain_findings.specs.NameEndings.{ended_after, ended_in, ended_now, entry_of, place_of, word_in}
+use Rattle.explain_who.specs.Taken.{taken_at}
+use Rattle.explain_findings.specs.Endings.{first_line, is_used}
+use Rattle.explain_findings.specs.NameEndings.{can_end_in, ended_after, ended_in, ended_now, entry_of, place_of, word_in}
 use Rattle.explain_findings.specs.declared.endings.CanEnd.{CanEnd}
+use Rattle.explain_findings.specs.declared.endings.CanEnd.TheVariants as ends
 use Rattle.explain_findings.specs.declared.endings.NameEnding.{NameEnding}
 
 -- ---- equal names
@@ -158,3 +160,10 @@ ended_in-after s can line (Some e) = refl
 pub word_in-after : (s : State) (can : CanEnd) (line : ℕ) (o : Option NameEnding) → word_in (option_map (after s can line) o) ≡ word_in o
 word_in-after s can line None = refl
 word_in-after s can line (Some e) = refl
+
+-- a statement that can end nothing
+pub nothing_ends : (s : State) (can : CanEnd) (line : ℕ) (o w : Option ℕ) → can ≡ ends.Nothing → o ≡ first_line o (cond (ended_now s can w) (Some line) None)
+nothing_ends s can line (Some n) w is = refl
+nothing_ends s can line None None is = refl
+nothing_ends s can line None (Some word) is =
+    ap (λ x. cond (can_end_in x word && not (is_used (taken_at s word))) (Some line) None) (sym is)

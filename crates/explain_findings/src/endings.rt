@@ -177,6 +177,9 @@ impl Endings {
             (if ended_now (state_of storage.now) can_end (word_kept self.old name) then Some line else None) }
         ensures words { (name : List ℕ) → word_kept self.new name ≡ word_kept self.old name }
     {
+        if let CanEnd::Nothing = can_end {
+            return;
+        }
         for i in 0..self.names.len() {
             let ended = self.names[i].ended_after(storage, can_end, line, guess);
             self.names[i].ended = ended;

@@ -3,7 +3,7 @@ use Rattle.std.proofs.lemmas.List.{get_or_default}
 use Rattle.std.proofs.lemmas.List.Edits.{map_over_more}
 use Rattle.storage_core.specs.Meaning.{state_of}
 use Rattle.explain_findings.specs.NameEndings.{ended_after, ended_in, entry_of, word_in}
-use Rattle.explain_findings.proofs.NameEntries.{after, ended_in-after, entry_of-after, length-front, mapped, word_in-after}
+use Rattle.explain_findings.proofs.NameEntries.{after, ended_in-after, entry_of-after, length-front, mapped, nothing_ends, word_in-after}
 use Rattle.explain_findings.proofs.endings.Endings.end.Goals as goal
 
 pub loop-i-preserved : goal.loop-i-preserved
@@ -38,3 +38,8 @@ returns-clause-words c name =
     (c.loop-i.invariant ∙ mapped (after s c.args.can_end c.args.line) es c.loop-i.i (omega arith))
     ∙ ap word_in (entry_of-after s c.args.can_end c.args.line es name)
     ∙ word_in-after s c.args.can_end c.args.line (entry_of es name)
+
+pub returns-in-Nothing-clause-ended : goal.returns-in-Nothing-clause-ended
+returns-in-Nothing-clause-ended c name =
+    let es = c.args.self.now.names.items in
+    nothing_ends (state_of c.args.storage.now) c.args.can_end c.args.line (ended_in (entry_of es name)) (word_in (entry_of es name)) c.in-Nothing.is
