@@ -1,7 +1,7 @@
 -- What a statement that can be written asks for stores at most 256 bytes.
 use Rattle.std.proofs.Common.{◌≡◌, ℕ, ◌≤◌, Bool, Option, Some, None, List, length, subst, arith, lit≤}
 use Rattle.std.specs.Option.{IfSome, option_map}
-use Rattle.bench_core.specs.Machine.{service_asked, looked_up, lengths_asked, left_or_looked_up, passed_asked, with_bytes, with_cells, with_lengths, with_passed, with_three, bytes_in, area_asked, area_back}
+use Rattle.bench_core.specs.Machine.{service_asked, looked_up, lengths_asked, left_or_looked_up, passed_asked, with_bytes, with_cells, with_lengths, with_passed, with_three, bytes_in}
 use Rattle.macro_statements.specs.Requests.{Act, IsStored, IsValidAct, Stored, spelled, word}
 use Rattle.macro_statements.specs.Requests.{obtain, release, whole, build, get, free, delete, attach, detach, run, end_task, poke}
 use Rattle.vsm_model.specs.Bytes.{fullword}

@@ -1,5 +1,5 @@
 -- Findings by their parts.
-use Rattle.std.proofs.Common.{◌≡◌, ℕ, Option, None, Some, List, refl, ap, ◌∙◌}
+use Rattle.std.proofs.Common.{◌≡◌, ℕ, Option, refl}
 use Rattle.macro_statements.specs.Requests.{Written, number, named, register, peek}
 use Rattle.explain_findings.specs.Endings.{name_used}
 use Rattle.explain_findings.specs.Judged.{name_of}

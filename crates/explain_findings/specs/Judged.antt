@@ -1,6 +1,6 @@
 -- What is found of a statement or a PEEK, by what is known of the storage: where fullwords are at home, which line took
 -- a doubleword, and what ended the areas and cells of names.
-use Rattle.std.specs.Prelude.{ℕ, ◌/◌, ◌<◌, ◌≤◌, Option, Some, None, List, length, ⊤}
+use Rattle.std.specs.Prelude.{ℕ, ◌/◌, ◌≤◌, Option, Some, None, List, length, ⊤}
 use Rattle.bench_core.specs.Machine.{looked_up}
 use Rattle.macro_statements.specs.Requests.{Act, Written, act, named, number, peek, register}
 use Rattle.vsm_model.specs.Names.{NamedState}

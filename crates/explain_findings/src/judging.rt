@@ -1,7 +1,7 @@
 //! What is found of one statement or PEEK.
 ghost use Rattle.std.specs.Prelude.{◌≡◌, Some, option_map};
 ghost use Rattle.macro_statements.specs.Requests.{IsValidAct, IsValue, act, act_in, written_in};
-ghost use Rattle.bench_core.specs.Machine.{looked_up, service_asked};
+ghost use Rattle.bench_core.specs.Machine.{service_asked};
 ghost use Rattle.bench_core.specs.Stands.{bench_of};
 ghost use Rattle.storage_core.specs.Meaning.{state_of};
 ghost use Rattle.vsm_model.specs.Meaning.{service_in};

@@ -1,4 +1,4 @@
-use Rattle.std.proofs.Common.{arith, ap, sym, ◌∙◌, Some}
+use Rattle.std.proofs.Common.{ap, ◌∙◌, Some}
 use Rattle.bench_core.specs.Stands.{bench_of}
 use Rattle.macro_statements.specs.Requests.{act_in}
 use Rattle.vsm_model.specs.Meaning.{service_in}

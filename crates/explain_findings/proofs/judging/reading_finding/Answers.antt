@@ -1,5 +1,4 @@
 use Rattle.std.proofs.Common.{ap, refl, ◌∙◌}
-use Rattle.bench_core.specs.Machine.{looked_up}
 use Rattle.bench_core.specs.Stands.{bench_of}
 use Rattle.macro_statements.specs.Requests.{written_in}
 use Rattle.explain_findings.specs.Homes.{home_at}
