@@ -1,4 +1,4 @@
 -- Lemmas on what is found.
-pub mod NameEntries
-pub mod FewBytes
-pub mod FindingLemmas
+mod NameEntries
+mod FewBytes
+mod FindingLemmas
