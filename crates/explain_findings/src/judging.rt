@@ -164,7 +164,8 @@ pub(crate) fn finding_at(
     service: &Service<'_>,
 ) -> Finding
     requires valid { IsValidAct (act_in statement.now) }
-    requires asked { service_asked (bench_of bench.now).present (act_in statement.now) ≡ Some (service_in service.now) }
+    requires asked { service_asked (bench_of bench.now).present (act_in statement.now)
+        ≡ Some (service_in service.now) }
     ensures found { result ≡ finding_by (home_at (bench_of bench.now).present.storage (line_in known.old.lines))
         (line_in known.old.lines) (ending_kept known.old.endings) (Some (service_in service.now)) (act_in statement.now) }
     ensures lines { known.new.lines ≡ known.old.lines }
