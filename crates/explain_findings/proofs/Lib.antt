@@ -2,3 +2,6 @@
 mod LineMaps
 mod HomePages
 mod FirstOutside
+mod NameEntries
+mod FewBytes
+mod FindingLemmas

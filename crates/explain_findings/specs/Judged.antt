@@ -1,8 +1,8 @@
 -- What is found of a statement or a PEEK, by what is known of the storage: where fullwords are at home, which line took
 -- a doubleword, and what ended the areas and cells of names.
-use Rattle.std.specs.Prelude.{ℕ, ◌/◌, Option, Some, None, List, length}
-use Rattle.bench_core.specs.Machine.{service_asked, looked_up}
-use Rattle.macro_statements.specs.Requests.{Act, Written, act, peek}
+use Rattle.std.specs.Prelude.{ℕ, ◌/◌, ◌≤◌, Option, Some, None, List, length, ⊤}
+use Rattle.bench_core.specs.Machine.{looked_up}
+use Rattle.macro_statements.specs.Requests.{Act, Written, act, named, number, peek, register}
 use Rattle.vsm_model.specs.Names.{NamedState}
 use Rattle.vsm_model.specs.Regions.{doublewords}
 use Rattle.vsm_model.specs.Services as services
@@ -15,6 +15,22 @@ use Rattle.explain_findings.specs.declared.findings.Outside.{Outside}
 use Rattle.explain_findings.specs.declared.findings.Part.{Part}
 use Rattle.explain_findings.specs.declared.homes.Home.{Home}
 
+-- the name in a value, if it's one
+abbrev pub name_of : Written → Option (List ℕ)
+name_of (number n) = None
+name_of (named name) = Some name
+name_of (register n) = None
+
+-- a service stores at most 256 bytes
+abbrev pub HasFewBytes : Service → Type 0
+HasFewBytes (services.store address bytes) = length bytes ≤ 256
+HasFewBytes _ = ⊤
+
+-- what ended the area or the cell of a name that is used
+abbrev pub stale_by : (List ℕ → Option ℕ) → Option (List ℕ) → Option ℕ
+stale_by ended None = None
+stale_by ended (Some name) = ended name
+
 module _ (homes : ℕ → Home) (lines : ℕ → Option ℕ) (ended : List ℕ → Option ℕ) where
   abbrev pub outside_by : Option Service → Option Outside
   outside_by (Some (services.store address bytes)) = outside_at homes address (length bytes)
@@ -24,14 +40,10 @@ module _ (homes : ℕ → Home) (lines : ℕ → Option ℕ) (ended : List ℕ �
   part_by (Some (services.release r)) = part_at homes lines (r.address / 8) (doublewords r.length)
   part_by _ = None
 
-  abbrev pub stale_by : Option (List ℕ) → Option ℕ
-  stale_by None = None
-  stale_by (Some name) = ended name
-
   -- of a statement that asks for this service; of a release, whatever it's answered
   abbrev pub finding_by : Option Service → Act → Finding
   finding_by service x =
-      record { outside = outside_by service; stale = stale_by (name_used (act x)); part = part_by service }
+      record { outside = outside_by service; stale = stale_by ended (name_used (act x)); part = part_by service }
 
   abbrev pub read_by : Option ℕ → ℕ → Option Outside
   read_by None count = None
@@ -41,6 +53,6 @@ module _ (homes : ℕ → Home) (lines : ℕ → Option ℕ) (ended : List ℕ �
   reading_by m address count =
       record {
         outside = read_by (looked_up m address) count;
-        stale = stale_by (name_used (peek address count));
+        stale = stale_by ended (name_used (peek address count));
         part = None;
       }

@@ -1,12 +1,12 @@
 //! Which statement ended the area or the cell at the word of a name.
-ghost use Rattle.std.specs.Prelude.{◌≡◌, ◌&&◌, List, None, OnOk, Some, if◌then◌else◌, is_none, not, ℕ};
-ghost use Rattle.std.specs.Option.{option_map};
+ghost use Rattle.std.specs.Prelude.{◌≡◌, List, None, OnOk, Some, if◌then◌else◌, ℕ};
 ghost use Rattle.vsm_model.specs.Meaning.{service_in};
 ghost use Rattle.vsm_model.specs.Names.{same_name};
 ghost use Rattle.storage_core.specs.Meaning.{state_of};
 ghost use Rattle.explain_who.specs.Taken.{taken_at};
 ghost use Rattle.explain_findings.specs.Endings.{can_end, first_line, is_used};
-ghost use Rattle.explain_findings.specs.NameEndings.{can_end_in, ended_now, ending_kept, word_kept};
+ghost use Rattle.explain_findings.specs.NameEndings.{can_end_in, ended_after, ended_now, ending_kept, place_of};
+ghost use Rattle.explain_findings.specs.NameEndings.{word_kept};
 
 use crate::parts::doublewords;
 use explain_who::{Taken, subpool_at, taken_on};
@@ -87,6 +87,28 @@ fn is_used(storage: &Storage, address: u32, guess: Option<Subpool>) -> bool
     }
 }
 
+impl NameEnding {
+    /// The line of the statement that ended what is at its word, after one more statement.
+    fn ended_after(
+        &self,
+        storage: &Storage,
+        can_end: CanEnd,
+        line: u32,
+        guess: Option<Subpool>,
+    ) -> Option<u32>
+        ensures { result ≡ ended_after (state_of storage.now) can_end line self.now }
+    {
+        if self.ended.is_some() {
+            return self.ended;
+        }
+        if can_end.can_end(self.word) && !is_used(storage, self.word, guess) {
+            Some(line)
+        } else {
+            None
+        }
+    }
+}
+
 impl Endings {
     /// No name is defined. Takes no memory.
     pub(crate) fn new(alloc: Global) -> Endings
@@ -98,16 +120,28 @@ impl Endings {
         }
     }
 
+    /// The place of a name, or the number of names if it has none.
+    fn place_of(&self, name: &Name) -> usize
+        ensures { result ≡ place_of self.now.names.items name.now.bytes }
+    {
+        for i in 0..self.names.len() {
+            if self.names[i].name == *name {
+                return i;
+            }
+        }
+        self.names.len()
+    }
+
     /// The line of the statement that ended what is at the word of a name since the name was given that word.
     pub(crate) fn ended_by(&self, name: &Name) -> Option<u32>
         ensures { result ≡ ending_kept self.now name.now.bytes }
     {
-        for known in &self.names {
-            if known.name == *name {
-                return known.ended;
-            }
+        let place = self.place_of(name);
+        if place < self.names.len() {
+            self.names[place].ended
+        } else {
+            None
         }
-        None
     }
 
     /// A name is given a word.
@@ -117,18 +151,17 @@ impl Endings {
         ensures words { OnOk result ((other : List ℕ) → word_kept self.new other
             ≡ (if same_name name.now.bytes other then Some word else word_kept self.old other)) }
     {
-        for i in 0..self.names.len() {
-            if self.names[i].name == *name {
-                self.names[i].word = word;
-                self.names[i].ended = None;
-                return Ok(());
-            }
-        }
-        self.names.push(NameEnding {
+        let entry = NameEnding {
             name: *name,
             word,
             ended: None,
-        })?;
+        };
+        let place = self.place_of(name);
+        if place < self.names.len() {
+            self.names[place] = entry;
+        } else {
+            self.names.push(entry)?;
+        }
         Ok(())
     }
 
@@ -144,14 +177,12 @@ impl Endings {
             (if ended_now (state_of storage.now) can_end (word_kept self.old name) then Some line else None) }
         ensures words { (name : List ℕ) → word_kept self.new name ≡ word_kept self.old name }
     {
+        if let CanEnd::Nothing = can_end {
+            return;
+        }
         for i in 0..self.names.len() {
-            let word = self.names[i].word;
-            if self.names[i].ended.is_none()
-                && can_end.can_end(word)
-                && !is_used(storage, word, guess)
-            {
-                self.names[i].ended = Some(line);
-            }
+            let ended = self.names[i].ended_after(storage, can_end, line, guess);
+            self.names[i].ended = ended;
         }
     }
 }
