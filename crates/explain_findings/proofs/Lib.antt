@@ -1,1 +1,5 @@
 -- Lemmas on what is found.
+mod KeptReadings
+mod StandingNotes
+mod StandingFollowed
+mod StandingWhole
