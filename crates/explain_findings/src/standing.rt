@@ -214,7 +214,7 @@ fn follow_end(session: Session, followed: &mut Followed, rest: &[u8]) -> Result<
     let mut request = Request::Map;
     let ending = session.end_into(&mut request);
     let noted = followed.note(request, before, &ending.last);
-    // what is open at the end is only a fault
+    // The response to a statement that is open at the end is a fault, which is idle.
     let idle = is_idle(&ending.open_statement);
     drop(ending);
     match noted {
