@@ -5,3 +5,7 @@ mod FirstOutside
 mod NameEntries
 mod FewBytes
 mod FindingLemmas
+mod KeptReadings
+mod StandingNotes
+mod StandingFollowed
+mod StandingWhole

@@ -1,12 +1,18 @@
 //! A script is followed on a bench: which of its statements are in effect at its end, and which PEEKs show bytes of a
 //! state that isn't undone later.
-ghost use Rattle.explain_findings.specs.Standings.{IsFollowed};
+ghost use Rattle.std.specs.Prelude.{◌≡◌, ◌↔◌, ◌≤◌, [], drop, length, IsTrue, OnOk};
+ghost use Rattle.macro_statements.specs.Requests.{act_in, asked_in};
+ghost use Rattle.script_steps.specs.Script.{NoFeed};
+ghost use Rattle.explain_who.specs.Notes.{with_told};
+ghost use Rattle.explain_who.specs.Trails.{marks_of, nothing_marked, stepped, with_mark};
+ghost use Rattle.explain_findings.specs.Standings.{Deeper, IsEndFollowed, IsFollowed, IsIdle, IsLineFollowed};
+ghost use Rattle.explain_findings.specs.Standings.{act_asked, fallen, marks_in, readings_in, readings_noted};
+ghost use Rattle.explain_findings.specs.Standings.{with_reading};
 
 use explain_who::{Trail, WhoFault};
 use macro_reader::{Request, Statement, Value};
 use script_steps::{Bench, Response, Session, Watch};
 use std::alloc::{AllocError, Global};
-use std::mem;
 use vsm_model::Settings;
 
 /// A PEEK that shows bytes: how many statements are in effect, its line, its address and how many bytes it shows.
@@ -16,6 +22,56 @@ pub(crate) struct Reading {
     pub line: u32,
     pub address: Value,
     pub count: u16,
+}
+
+/// Whether more statements than these are in effect in the newest PEEK's state.
+fn is_deeper(readings: &[Reading], standing: usize) -> bool
+    ensures { IsTrue result ↔ Deeper standing (readings_in readings.now) }
+{
+    match readings.last() {
+        Some(newest) => newest.depth > standing,
+        None => false,
+    }
+}
+
+/// The newest PEEKs, in whose states more statements than these are in effect, go.
+fn forget(readings: &mut Vec<Reading>, standing: usize)
+    ensures { readings_in readings.new.items ≡ fallen standing (readings_in readings.old.items) }
+{
+    while is_deeper(readings.as_slice(), standing) {
+        readings.pop();
+    }
+}
+
+/// The statement of a request; ENDTASK if it's none, which no accepted statement asks for.
+fn statement_of(request: Request) -> Statement
+    ensures { act_in result ≡ act_asked (asked_in request) }
+{
+    match request {
+        Request::Act(statement) => statement,
+        Request::Peek { .. } | Request::Map | Request::Back(_) | Request::Forward(_) =>
+            Statement::EndTask,
+    }
+}
+
+/// Whether a response leaves the statements in effect and the PEEKs as they are.
+fn is_idle(told: &Option<(u32, Response)>) -> bool
+    ensures { IsTrue result ↔ IsIdle told.now }
+{
+    match told {
+        Some((_, Response::Replied(_) | Response::Shown | Response::Kept(_))) => false,
+        None
+        | Some(
+            (
+                _,
+                Response::Refused(_)
+                | Response::TooFar(_)
+                | Response::TooFarAhead(_)
+                | Response::Map
+                | Response::Fault(_),
+            ),
+        ) => true,
+    }
 }
 
 /// A script that was followed to its end.
@@ -29,52 +85,90 @@ pub(crate) struct Followed {
 
 impl Followed {
     /// Nothing is followed yet. Takes no memory.
-    fn new(alloc: Global) -> Followed {
+    fn new(alloc: Global) -> Followed
+        ensures acts { marks_in result.trail ≡ nothing_marked }
+        ensures readings { readings_in result.readings.items ≡ [] }
+    {
         Followed {
             trail: Trail::new(alloc),
             readings: Vec::new(alloc),
         }
     }
 
-    /// The PEEKs whose states are undone go.
-    fn forget(&mut self) {
-        let standing = self.trail.standing().len();
-        while let Some(last) = self.readings.last() {
-            if last.depth <= standing {
-                return;
+    /// Notes the statement of a line, which is in effect.
+    fn note_act(&mut self, line: u32, request: Request) -> Result<(), AllocError>
+        ensures acts { OnOk result (marks_in self.new.trail
+            ≡ with_mark (marks_in self.old.trail) line (act_asked (asked_in request))) }
+        ensures readings { self.new.readings ≡ self.old.readings }
+    {
+        self.trail.applied(line, statement_of(request))
+    }
+
+    /// Notes the PEEK of a line, which showed bytes.
+    fn note_reading(&mut self, line: u32, request: Request) -> Result<(), AllocError>
+        ensures acts { self.new.trail ≡ self.old.trail }
+        ensures readings { OnOk result (readings_in self.new.readings.items
+            ≡ with_reading (asked_in request) (marks_of self.old.trail).standing line
+            (readings_in self.old.readings.items)) }
+    {
+        match request {
+            Request::Peek { addr, len } => {
+                let depth = self.trail.standing().len();
+                self.readings.push(Reading {
+                    depth,
+                    line,
+                    address: addr,
+                    count: len,
+                })?;
+                Ok(())
             }
-            self.readings.pop();
+            Request::Act(_) | Request::Map | Request::Back(_) | Request::Forward(_) => Ok(()),
         }
+    }
+
+    /// Notes a step, which changed how many changes can be undone from `before` to `after`.
+    fn note_step(&mut self, before: u32, after: u32)
+        ensures acts { marks_in self.new.trail ≡ stepped (marks_in self.old.trail) before after }
+        ensures readings { readings_in self.new.readings.items
+            ≡ fallen (marks_of self.new.trail).standing (readings_in self.old.readings.items) }
+    {
+        self.trail.stepped(before, after);
+        let standing = self.trail.standing().len();
+        forget(&mut self.readings, standing);
     }
 
     /// Notes what a line did: it added a statement in effect, showed bytes, or stepped over statements, before which
     /// `before` could be undone.
     fn note(
         &mut self,
-        request: &mut Request,
+        request: Request,
         before: u32,
         told: &Option<(u32, Response)>,
-    ) -> Result<(), AllocError> {
-        match (told, mem::replace(request, Request::Map)) {
-            (Some((line, Response::Replied(_))), Request::Act(statement)) => {
-                self.trail.applied(*line, statement)
-            }
-            (Some((line, Response::Shown)), Request::Peek { addr, len }) => {
-                let depth = self.trail.standing().len();
-                self.readings.push(Reading {
-                    depth,
-                    line: *line,
-                    address: addr,
-                    count: len,
-                })?;
+    ) -> Result<(), AllocError>
+        ensures acts { OnOk result (marks_in self.new.trail
+            ≡ with_told (act_asked (asked_in request)) before told.now (marks_in self.old.trail)) }
+        ensures readings { OnOk result (readings_in self.new.readings.items
+            ≡ readings_noted told.now (asked_in request) (marks_of self.old.trail).standing
+            (marks_of self.new.trail).standing (readings_in self.old.readings.items)) }
+    {
+        match told {
+            Some((line, Response::Replied(_))) => self.note_act(*line, request),
+            Some((line, Response::Shown)) => self.note_reading(*line, request),
+            Some((_, Response::Kept(after))) => {
+                self.note_step(before, *after);
                 Ok(())
             }
-            (Some((_, Response::Kept(after))), _) => {
-                self.trail.stepped(before, *after);
-                self.forget();
-                Ok(())
-            }
-            _ => Ok(()),
+            None
+            | Some(
+                (
+                    _,
+                    Response::Refused(_)
+                    | Response::TooFar(_)
+                    | Response::TooFarAhead(_)
+                    | Response::Map
+                    | Response::Fault(_),
+                ),
+            ) => Ok(()),
         }
     }
 }
@@ -86,7 +180,10 @@ fn follow_line(
     followed: &mut Followed,
     script: &[u8],
     at: usize,
-) -> Result<Option<usize>, WhoFault> {
+) -> Result<Option<usize>, WhoFault>
+    requires { at ≤ length script.now }
+    ensures { IsLineFollowed script.now at session.old session.new followed.old followed.new result }
+{
     let before = session.bench().kept();
     let mut request = Request::Map;
     let step = match session.take_line_into(script, at, &mut request) {
@@ -94,14 +191,17 @@ fn follow_line(
         Ok(None) => return Ok(None),
         Err(_) => return Err(WhoFault::TooLong),
     };
-    match followed.note(&mut request, before, &step.told) {
+    match followed.note(request, before, &step.told) {
         Ok(()) => Ok(Some(step.next)),
         Err(_) => Err(WhoFault::Memory),
     }
 }
 
 /// Follows what is after the last line feed.
-fn follow_end(session: Session, followed: &mut Followed, rest: &[u8]) -> Result<(), WhoFault> {
+fn follow_end(session: Session, followed: &mut Followed, rest: &[u8]) -> Result<(), WhoFault>
+    requires { NoFeed rest.now }
+    ensures { IsEndFollowed rest.now session followed.old followed.new result }
+{
     let mut session = session;
     let before = session.bench().kept();
     match session.take_bytes(rest) {
@@ -113,12 +213,22 @@ fn follow_end(session: Session, followed: &mut Followed, rest: &[u8]) -> Result<
     }
     let mut request = Request::Map;
     let ending = session.end_into(&mut request);
-    let noted = followed.note(&mut request, before, &ending.last);
+    let noted = followed.note(request, before, &ending.last);
+    // The response to a statement that is open at the end is a fault, which is idle.
+    let idle = is_idle(&ending.open_statement);
     drop(ending);
     match noted {
-        Ok(()) => Ok(()),
-        Err(_) => Err(WhoFault::Memory),
+        Ok(()) if idle => Ok(()),
+        Ok(()) | Err(_) => Err(WhoFault::Memory),
     }
+}
+
+/// A script from a place on.
+fn rest_from(script: &[u8], at: usize) -> &[u8]
+    requires { at ≤ length script.now }
+    ensures { result.now ≡ drop at script.now }
+{
+    &script[at..]
 }
 
 /// Follows a script on a new bench under these settings, to its end.
@@ -141,6 +251,7 @@ pub(crate) fn follow<P: Watch>(
         watch.line(session.lines());
         at = next;
     }
-    follow_end(session, &mut followed, &script[at..])?;
+    let rest = rest_from(script, at);
+    follow_end(session, &mut followed, rest)?;
     Ok(followed)
 }
