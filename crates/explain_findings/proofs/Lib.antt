@@ -7,3 +7,4 @@ mod KeptLines
 mod Carried
 mod FoundBefore
 mod ReadInOrder
+mod AllFound

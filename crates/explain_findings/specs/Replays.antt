@@ -1,9 +1,9 @@
 -- What is known after some statements in effect, and what was found of them.
-use Rattle.std.specs.Prelude.{◌≡◌, ℕ, Bool, true, false, ◌&&◌, ◌==◌, if◌then◌else◌, Option, Some, None, List, [], ◌∷◌}
+use Rattle.std.specs.Prelude.{◌≡◌, ℕ, Bool, true, false, ◌&&◌, ◌==◌, if◌then◌else◌, Option, Some, None, List, [], ◌∷◌, Ok}
 use Rattle.std.specs.Prelude.{map, reverse, take}
 use Rattle.std.specs.List.{list_any}
 use Rattle.bench_core.specs.Machine.{service_asked}
-use Rattle.bench_core.specs.Stands.{bench_of, settings_in}
+use Rattle.bench_core.specs.Stands.{IsNew, bench_of, settings_in}
 use Rattle.bench_core.specs.declared.bench.Bench.{Bench}
 use Rattle.macro_operands.specs.declared.requests.Statement.{Statement}
 use Rattle.macro_statements.specs.Requests.{Act, act_in, written_in}
@@ -17,18 +17,20 @@ use Rattle.vsm_model.specs.Services.{Service}
 use Rattle.explain_areas.specs.Since.{taken_since}
 use Rattle.explain_who.specs.declared.trail.TrailEntry.{TrailEntry}
 use Rattle.explain_findings.specs.Endings.{can_end, ended_by, gives, machine_after, reply_to}
-use Rattle.explain_findings.specs.Found.{finding_at, is_something, judged, judged_readings, on_line, reading_finding}
+use Rattle.explain_findings.specs.Found.{AreFound, finding_at, is_something, judged, judged_readings, on_line, reading_finding}
 use Rattle.explain_findings.specs.LineMaps.{line_in}
 use Rattle.explain_findings.specs.NameEndings.{can_end_in, ending_kept, word_kept}
-use Rattle.explain_findings.specs.Standings.{acts_in, reading_in}
+use Rattle.explain_findings.specs.Standings.{IsFollowedBy, acts_in, reading_in}
 use Rattle.explain_findings.specs.Tables.{on_table}
 use Rattle.explain_findings.specs.declared.endings.CanEnd.{CanEnd}
 use Rattle.explain_findings.specs.declared.endings.Endings.{Endings}
 use Rattle.explain_findings.specs.declared.findings.Finding.{Finding}
+use Rattle.explain_findings.specs.declared.findings.Findings.{Findings}
 use Rattle.explain_findings.specs.declared.findings.Part.{Part}
 use Rattle.explain_findings.specs.declared.judging.Known.{Known}
 use Rattle.explain_findings.specs.declared.replay.Judged.{Judged}
 use Rattle.explain_findings.specs.declared.replay.Replay.{Replay}
+use Rattle.explain_findings.specs.declared.standing.Followed.{Followed}
 use Rattle.explain_findings.specs.declared.standing.Reading.{Reading as ReadingKept}
 use Rattle.explain_findings.specs.declared.tables.LineTable.{LineTable}
 
@@ -171,3 +173,17 @@ ReplaysAll entries readings r s =
     (settings : Settings) → IsReplayed settings [] r → AreRead settings [] [] r.found.readings →
     IsReplayed settings (reverse (acts_in entries)) s
     × AreRead settings (reverse (acts_in entries)) readings s.found.readings
+
+-- Nothing is known or found yet.
+pub record IsNothingFound (r : Replay) : Type 0 where
+  pub lines : (d : ℕ) → line_in r.known.lines d ≡ None
+  pub endings : (name : List ℕ) → ending_kept r.known.endings name ≡ None
+  pub words : (name : List ℕ) → word_kept r.known.endings name ≡ None
+  pub statements : (line : ℕ) → on_table r.found.statements line ≡ None
+  pub readings : (line : ℕ) → on_table r.found.readings line ≡ None
+
+-- All is found in a script that was followed, by a new bench.
+abbrev pub FindsIn : Followed → Bench → Findings → Type 0
+FindsIn f b found =
+    (settings : Settings) (script : List ℕ) → IsNew settings (Ok b) → IsFollowedBy settings script f →
+    AreFound settings script (Ok found)

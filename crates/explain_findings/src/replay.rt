@@ -8,7 +8,8 @@ ghost use Rattle.vsm_model.specs.Standing.{Accepted};
 ghost use Rattle.explain_areas.specs.Followed.{taken_in};
 ghost use Rattle.explain_findings.specs.Found.{AreFound};
 ghost use Rattle.explain_findings.specs.LineMaps.{line_in};
-ghost use Rattle.explain_findings.specs.Replays.{CarriesOut, Follows, GoesOn, GoesTo, IsGiven, Judges, Reads, ReplaysAll};
+ghost use Rattle.explain_findings.specs.Replays.{CarriesOut, FindsIn, Follows, GoesOn, GoesTo, IsGiven, IsNothingFound};
+ghost use Rattle.explain_findings.specs.Replays.{Judges, Reads, ReplaysAll};
 ghost use Rattle.explain_findings.specs.Replays.{is_get, is_in, part_kept, with_finding, word_given};
 ghost use Rattle.explain_findings.specs.Tables.{on_table};
 
@@ -315,10 +316,12 @@ fn judge_all(
     judge_to(alloc, replay, entries, done, entries.len())
 }
 
-/// What is found in a script that was followed.
-fn find_in(alloc: Global, followed: &Followed, bench: Bench) -> Result<Findings, AllocError>
+/// Nothing is judged yet, on a new bench. Takes no memory.
+fn start(alloc: Global, bench: Bench) -> Replay
+    ensures bench { result.bench ≡ bench }
+    ensures nothing { IsNothingFound result }
 {
-    let mut replay = Replay {
+    Replay {
         bench,
         known: Known {
             lines: LineMap::new(alloc),
@@ -329,8 +332,16 @@ fn find_in(alloc: Global, followed: &Followed, bench: Bench) -> Result<Findings,
             statements: LineTable::new(alloc),
             readings: LineTable::new(alloc),
         },
-    };
-    judge_all(alloc, &mut replay, followed.trail.standing(), followed.readings.as_slice())?;
+    }
+}
+
+/// What is found in a script that was followed, on a new bench.
+fn find_in(alloc: Global, followed: &Followed, bench: Bench) -> Result<Findings, AllocError>
+    ensures { IfOk result (FindsIn followed.now bench) }
+{
+    let mut replay = start(alloc, bench);
+    let entries = followed.trail.standing();
+    judge_all(alloc, &mut replay, entries, followed.readings.as_slice())?;
     Ok(replay.found)
 }
 
@@ -346,7 +357,10 @@ pub fn find<P: Watch>(
 ) -> Result<Findings, WhoFault>
     ensures { AreFound settings script.now result }
 {
-    let followed = follow(alloc, script, settings, watch)?;
+    let followed = match follow(alloc, script, settings, watch) {
+        Ok(followed) => followed,
+        Err(fault) => return Err(fault),
+    };
     let bench = match Bench::new(alloc, settings) {
         Ok(bench) => bench,
         Err(fault) => return Err(WhoFault::New(fault)),
