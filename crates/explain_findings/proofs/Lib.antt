@@ -9,3 +9,12 @@ mod KeptReadings
 mod StandingNotes
 mod StandingFollowed
 mod StandingWhole
+mod Firsts
+mod Replies
+mod KeptNames
+mod NewRuns
+mod KeptLines
+mod Carried
+mod FoundBefore
+mod ReadInOrder
+mod AllFound

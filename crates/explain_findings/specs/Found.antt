@@ -1,6 +1,6 @@
 -- What is found in a script: of each statement in effect at its end, judged on the state before it, and of each PEEK
 -- whose state isn't undone later.
-use Rattle.std.specs.Prelude.{◌≡◌, ℕ, ◌-◌, ◌/◌, ◌==◌, ◌||◌, Bool, if◌then◌else◌, Option, Some, None, is_some, option_map}
+use Rattle.std.specs.Prelude.{◌≡◌, ℕ, ◌-◌, ◌/◌, ◌==◌, ◌&&◌, ◌||◌, Bool, if◌then◌else◌, Option, Some, None, is_some, option_map}
 use Rattle.std.specs.Prelude.{unwrap_or, List, [], ◌∷◌, drop, filter, length, map, Result, Ok, Err}
 use Rattle.bench_core.specs.Machine.{looked_up, service_asked}
 use Rattle.macro_statements.specs.Requests.{Act, Written, act, peek}
@@ -33,6 +33,16 @@ nothing_found = record { outside = None; stale = None; part = None }
 
 abbrev pub is_something : Finding → Bool
 is_something f = is_some f.outside || is_some f.stale || is_some f.part
+
+-- what is found on a line, if something is
+abbrev pub on_line : List (ℕ × Finding) → ℕ → Option Finding
+on_line [] line = None
+on_line (f ∷ fs) line = if (f.0 == line) && is_something f.1 then Some f.1 else on_line fs line
+
+-- of a statement, or of a PEEK
+abbrev pub either : Option Finding → Option Finding → Option Finding
+either (Some f) other = Some f
+either None other = other
 
 module _ (settings : Settings) where
   -- OUTSIDE of a POKE
@@ -81,15 +91,7 @@ module _ (settings : Settings) where
   judged_readings xs =
       map (λ r. (r.line, reading_finding (drop (length xs - r.depth) xs) r.address r.count))
 
-  -- What is found on a line, if something is: of its statement, or of its PEEK.
-  abbrev pub on_line : List (ℕ × Finding) → ℕ → Option Finding
-  on_line [] line = None
-  on_line (f ∷ fs) line = if (f.0 == line) && is_something f.1 then Some f.1 else on_line fs line
-
-  abbrev pub either : Option Finding → Option Finding → Option Finding
-  either (Some f) other = Some f
-  either None other = other
-
+  -- What is found on a line: of its statement, or of its PEEK.
   abbrev pub finding_on : List Marked → ℕ → Option Finding
   finding_on answers line =
       either (on_line (judged (standing settings answers)) line)

@@ -9,3 +9,4 @@ pub mod Standings
 pub mod Judged
 pub mod Tables
 pub mod Found
+pub mod Replays

@@ -1,133 +1,348 @@
 //! The statements in effect are carried out once more, on a bench of their own, and judged one by one.
+ghost use Rattle.std.specs.Prelude.{◌≡◌, ◌≤◌, ◌^◌, ◌<◌, ℕ, Some, IfOk, IfSome, OnOk, if◌then◌else◌, length, option_map};
+ghost use Rattle.macro_statements.specs.Requests.{IsValidAct, act_in, target_in};
+ghost use Rattle.bench_core.specs.Machine.{name_asked, name_in, statement_step};
+ghost use Rattle.bench_core.specs.Stands.{bench_of, settings_in};
+ghost use Rattle.vsm_model.specs.Meaning.{service_in};
+ghost use Rattle.vsm_model.specs.Standing.{Accepted};
+ghost use Rattle.explain_areas.specs.Followed.{taken_in};
 ghost use Rattle.explain_findings.specs.Found.{AreFound};
+ghost use Rattle.explain_findings.specs.LineMaps.{line_in};
+ghost use Rattle.explain_findings.specs.Replays.{CarriesOut, FindsIn, Follows, GoesOn, GoesTo, IsGiven, IsNothingFound};
+ghost use Rattle.explain_findings.specs.Replays.{Judges, Reads, ReplaysAll};
+ghost use Rattle.explain_findings.specs.Replays.{is_get, is_in, part_kept, with_finding, word_given};
+ghost use Rattle.explain_findings.specs.Tables.{on_table};
 
 use crate::endings::{CanEnd, Endings};
-use crate::findings::{Finding, Findings};
+use crate::findings::{Finding, Findings, Part};
 use crate::judging::{Known, finding_at, reading_finding};
 use crate::line_map::LineMap;
-use crate::standing::{Reading, follow};
+use crate::standing::{Followed, Reading, follow};
 use crate::tables::LineTable;
+use explain_areas::laws::taken_by_the_reply;
 use explain_areas::taken_by;
 use explain_who::{TrailEntry, WhoFault};
 use macro_reader::Statement;
-use operand_texts::Place;
+use operand_texts::{Name, Place};
 use script_steps::{Bench, Watch};
 use std::alloc::{AllocError, Global};
 use storage_map::totals;
-use vsm_model::{Reply, Settings};
+use vsm_model::{Reply, Service, Settings};
 
 /// The bench of the statements up to one, what is known of its storage, and what was found.
 #[derive(Drop)]
 struct Replay {
-    alloc: Global,
     bench: Bench,
     known: Known,
     found: Findings,
-    /// How many PEEKs are judged.
-    read: usize,
 }
 
-impl Replay {
-    fn note(table: &mut LineTable, line: u32, finding: Finding) -> Result<(), AllocError> {
-        if finding.is_something() {
-            table.set(line, finding)
-        } else {
-            drop(finding);
-            Ok(())
-        }
-    }
+/// What is found of a statement on the state before it, and what it can do.
+#[derive(Drop)]
+struct Judged {
+    finding: Finding,
+    can_end: CanEnd,
+    is_get: bool,
+}
 
-    /// Judges the PEEKs that come after this many statements.
-    fn judge_readings(&mut self, readings: &[Reading], depth: usize) -> Result<(), AllocError> {
-        while self.read < readings.len() && readings[self.read].depth <= depth {
-            let reading = &readings[self.read];
-            let finding = reading_finding(&self.bench, &mut self.known, reading);
-            Replay::note(&mut self.found.readings, reading.line, finding)?;
-            self.read += 1;
-        }
+/// Keeps what is found on a line, if something is.
+fn note(table: &mut LineTable, line: u32, finding: Finding) -> Result<(), AllocError>
+    ensures { OnOk result ((n : ℕ) → on_table table.new n ≡ with_finding line finding (on_table table.old) n) }
+{
+    if finding.is_something() {
+        table.set(line, finding)
+    } else {
         Ok(())
     }
+}
 
-    /// The name to which a statement's address goes.
-    fn give(&mut self, statement: &Statement, reply: Reply) -> Result<(), AllocError> {
-        let word = match reply {
-            Reply::Obtained { address, .. } => address,
-            Reply::Cell(cell) => cell,
-            _ => return Ok(()),
-        };
-        match statement {
-            Statement::Obtain { place: Some(Place::Named(name)), .. }
-            | Statement::GetCell { place: Some(Place::Named(name)), .. } => {
-                self.known.endings.give(name, word)
-            }
-            _ => Ok(()),
-        }
+/// The line took these runs of doublewords.
+fn take_runs(
+    lines: &mut LineMap,
+    alloc: Global,
+    runs: &[(u32, u32)],
+    line: u32,
+) -> Result<(), AllocError>
+    ensures { OnOk result ((d : ℕ) → d < 2 ^ 32 → line_in lines.new d
+        ≡ (if is_in d runs.now then Some line else line_in lines.old d)) }
+{
+    for run in runs {
+        lines.take(alloc, run.0, run.1, line)?;
     }
+    Ok(())
+}
 
-    /// The bytes that are taken, if a statement may make an extent.
-    fn taken_by_pools(&self, statement: &Statement) -> u64 {
-        match statement {
-            Statement::GetCell { .. } => totals(self.bench.storage()).taken,
-            _ => 0,
-        }
+/// The name of a place, if it's one.
+fn name_in(place: &Option<Place>) -> Option<&Name>
+    ensures { option_map (λ name. name.now.bytes) result ≡ name_in (option_map target_in place.now) }
+{
+    match place {
+        Some(Place::Named(name)) => Some(name),
+        Some(Place::Register(_)) => None,
+        None => None,
     }
+}
 
-    /// Carries out a statement, and notes what it took and ended.
-    fn carry_out(
-        &mut self,
-        entry: &TrailEntry<Statement>,
-        can_end: CanEnd,
-    ) -> Result<Reply, AllocError> {
-        let before = self.taken_by_pools(&entry.seen);
-        let Ok(reply) = self.bench.apply(&entry.seen) else {
+/// The name to which the address of a statement's area or cell goes, if it names one.
+fn name_asked(statement: &Statement) -> Option<&Name>
+    ensures { option_map (λ name. name.now.bytes) result ≡ name_asked (act_in statement.now) }
+{
+    match statement {
+        Statement::Obtain { place, .. } => name_in(place),
+        Statement::GetCell { place, .. } => name_in(place),
+        Statement::Release { .. }
+        | Statement::Whole { .. }
+        | Statement::Build(_)
+        | Statement::FreeCell { .. }
+        | Statement::DeletePool { .. }
+        | Statement::Attach { .. }
+        | Statement::Detach { .. }
+        | Statement::Run { .. }
+        | Statement::EndTask
+        | Statement::Poke { .. } => None,
+    }
+}
+
+/// The address of an area or a cell that a reply gives.
+fn word_given(reply: Reply) -> Option<u32>
+    ensures { result ≡ word_given reply }
+{
+    match reply {
+        Reply::Obtained { address, .. } => Some(address),
+        Reply::Cell(address) => Some(address),
+        Reply::Returned(_) | Reply::Attached(_) | Reply::Turn(_) | Reply::Stored => None,
+    }
+}
+
+/// The address in a reply goes to the statement's name, if there are both.
+fn give(endings: &mut Endings, statement: &Statement, reply: Reply) -> Result<(), AllocError>
+    ensures { OnOk result (IsGiven endings.old (name_asked (act_in statement.now)) reply endings.new) }
+{
+    let Some(name) = name_asked(statement) else {
+        return Ok(());
+    };
+    let Some(word) = word_given(reply) else {
+        return Ok(());
+    };
+    endings.give(name, word)
+}
+
+/// Whether a service gets a cell.
+fn is_get(service: &Service<'_>) -> bool
+    ensures { result ≡ is_get (service_in service.now) }
+{
+    match service {
+        Service::Get { .. } => true,
+        Service::Obtain(_)
+        | Service::Release(_)
+        | Service::Whole { .. }
+        | Service::Attach(_)
+        | Service::Detach { .. }
+        | Service::EndTask
+        | Service::Run { .. }
+        | Service::Store { .. }
+        | Service::Build { .. }
+        | Service::Free { .. }
+        | Service::Delete { .. } => false,
+    }
+}
+
+/// The bytes that are taken, if they are asked for.
+fn taken_bytes(bench: &Bench, asked: bool) -> u64
+    ensures { result ≡ (if asked then taken_in bench.now else 0) }
+{
+    if asked { totals(bench.storage()).taken } else { 0 }
+}
+
+/// Carries out a statement that was accepted before. `AllocError` if it's refused now.
+fn apply(bench: &mut Bench, statement: &Statement) -> Result<Reply, AllocError>
+    requires { IsValidAct (act_in statement.now) }
+    ensures accepted { IfOk result (λ reply. statement_step (settings_in bench.old) (bench_of bench.old).present
+        (act_in statement.now) ≡ Accepted (bench_of bench.new).present reply) }
+    ensures settings { settings_in bench.new ≡ settings_in bench.old }
+{
+    match bench.apply(statement) {
+        Ok(reply) => Ok(reply),
+        Err(_) => Err(AllocError),
+    }
+}
+
+/// Carries out a statement, and notes what it took and ended.
+fn carry_out(
+    alloc: Global,
+    bench: &mut Bench,
+    known: &mut Known,
+    entry: &TrailEntry<Statement>,
+    can_end: CanEnd,
+    is_get: bool,
+) -> Result<Reply, AllocError>
+    requires { IsValidAct (act_in entry.now.seen) }
+    ensures { IfOk result (λ reply. CarriesOut bench.old known.old entry.now can_end is_get reply bench.new known.new) }
+{
+    taken_by_the_reply();
+    let before = taken_bytes(bench, is_get);
+    let reply = apply(bench, &entry.seen)?;
+    let after = taken_bytes(bench, is_get);
+    let runs = taken_by(reply, before, after);
+    take_runs(&mut known.lines, alloc, runs.as_slice(), entry.line)?;
+    let guess = known.guess;
+    known.endings.end(bench.storage(), can_end, entry.line, guess);
+    give(&mut known.endings, &entry.seen, reply)?;
+    Ok(reply)
+}
+
+/// What is found of a statement before it's carried out, and what it can do. `None` if it asks for no service.
+fn judge_before(bench: &Bench, known: &mut Known, statement: &Statement) -> Option<Judged>
+    requires { IsValidAct (act_in statement.now) }
+    ensures judges { IfSome result (Judges bench.now known.old (act_in statement.now)) }
+    ensures lines { known.new.lines ≡ known.old.lines }
+    ensures endings { known.new.endings ≡ known.old.endings }
+{
+    let mut room = [0; 4];
+    let service = bench.service_of(statement, &mut room)?;
+    let finding = finding_at(bench, known, statement, &service);
+    Some(Judged {
+        finding,
+        can_end: CanEnd::of(&service),
+        is_get: is_get(&service),
+    })
+}
+
+/// A release that isn't answered 0 released nothing.
+fn part_kept(reply: Reply, part: Option<Part>) -> Option<Part>
+    ensures { result ≡ part_kept reply part }
+{
+    match reply {
+        Reply::Returned(0) => part,
+        Reply::Returned(_)
+        | Reply::Obtained { .. }
+        | Reply::Cell(_)
+        | Reply::Attached(_)
+        | Reply::Turn(_)
+        | Reply::Stored => None,
+    }
+}
+
+/// Judges a statement on the state before it, and carries it out.
+fn judge(
+    alloc: Global,
+    bench: &mut Bench,
+    known: &mut Known,
+    entry: &TrailEntry<Statement>,
+) -> Result<Finding, AllocError>
+    ensures { IfOk result (λ f. Follows bench.old known.old entry.now f bench.new known.new) }
+{
+    if !entry.seen.valid() {
+        return Err(AllocError);
+    }
+    let Some(judged) = judge_before(bench, known, &entry.seen) else {
+        return Err(AllocError);
+    };
+    let reply = carry_out(
+        alloc,
+        bench,
+        known,
+        entry,
+        judged.can_end,
+        judged.is_get,
+    )?;
+    let mut finding = judged.finding;
+    finding.part = part_kept(reply, finding.part);
+    Ok(finding)
+}
+
+/// Judges the next statement.
+fn judge_next(
+    alloc: Global,
+    replay: &mut Replay,
+    entry: &TrailEntry<Statement>,
+) -> Result<(), AllocError>
+    ensures goes_on { OnOk result (GoesOn entry.now replay.old replay.new) }
+    ensures readings { OnOk result (replay.new.found.readings ≡ replay.old.found.readings) }
+{
+    let finding = judge(alloc, &mut replay.bench, &mut replay.known, entry)?;
+    note(&mut replay.found.statements, entry.line, finding)
+}
+
+/// Judges the statements from one to another.
+fn judge_to(
+    alloc: Global,
+    replay: &mut Replay,
+    entries: &[TrailEntry<Statement>],
+    from: usize,
+    to: usize,
+) -> Result<(), AllocError>
+    requires ordered { from ≤ to }
+    requires within { to ≤ length entries.now }
+    ensures goes_to { OnOk result (GoesTo entries.now from to replay.old replay.new) }
+    ensures readings { OnOk result (replay.new.found.readings ≡ replay.old.found.readings) }
+{
+    for i in from..to {
+        judge_next(alloc, replay, &entries[i])?;
+    }
+    Ok(())
+}
+
+/// Judges a PEEK after the statements up to now.
+fn judge_reading(replay: &mut Replay, reading: &Reading) -> Result<(), AllocError>
+    ensures { OnOk result (Reads reading.now replay.old replay.new) }
+{
+    if !reading.address.valid() {
+        return Err(AllocError);
+    }
+    let finding = reading_finding(&replay.bench, &mut replay.known, reading);
+    note(&mut replay.found.readings, reading.line, finding)
+}
+
+/// Judges these statements, and PEEKs after as many of them as each says, oldest first. `AllocError`, too, if the PEEKs
+/// aren't in order.
+fn judge_all(
+    alloc: Global,
+    replay: &mut Replay,
+    entries: &[TrailEntry<Statement>],
+    readings: &[Reading],
+) -> Result<(), AllocError>
+    ensures { OnOk result (ReplaysAll entries.now readings.now replay.old replay.new) }
+{
+    let mut done = 0;
+    for reading in readings {
+        if reading.depth < done || entries.len() < reading.depth {
             return Err(AllocError);
-        };
-        let after = self.taken_by_pools(&entry.seen);
-        for run in taken_by(reply, before, after).as_slice() {
-            self.known.lines.take(self.alloc, run.0, run.1, entry.line)?;
         }
-        let guess = self.known.guess;
-        self.known.endings.end(self.bench.storage(), can_end, entry.line, guess);
-        self.give(&entry.seen, reply)?;
-        Ok(reply)
+        judge_to(alloc, replay, entries, done, reading.depth)?;
+        done = reading.depth;
+        judge_reading(replay, reading)?;
     }
+    judge_to(alloc, replay, entries, done, entries.len())
+}
 
-    /// Judges a statement on the state before it, and carries it out.
-    fn judge(&mut self, entry: &TrailEntry<Statement>) -> Result<(), AllocError> {
-        if !entry.seen.valid() {
-            return Err(AllocError);
-        }
-        let mut room = [0; 4];
-        let Some(service) = self.bench.service_of(&entry.seen, &mut room) else {
-            return Err(AllocError);
-        };
-        let can_end = CanEnd::of(&service);
-        let mut finding = finding_at(&self.bench, &mut self.known, &entry.seen, &service);
-        match self.carry_out(entry, can_end)? {
-            Reply::Returned(0) => (),
-            Reply::Returned(_)
-            | Reply::Obtained { .. }
-            | Reply::Cell(_)
-            | Reply::Attached(_)
-            | Reply::Turn(_)
-            | Reply::Stored => finding.part = None,
-        }
-        Replay::note(&mut self.found.statements, entry.line, finding)
+/// Nothing is judged yet, on a new bench. Takes no memory.
+fn start(alloc: Global, bench: Bench) -> Replay
+    ensures bench { result.bench ≡ bench }
+    ensures nothing { IsNothingFound result }
+{
+    Replay {
+        bench,
+        known: Known {
+            lines: LineMap::new(alloc),
+            endings: Endings::new(alloc),
+            guess: None,
+        },
+        found: Findings {
+            statements: LineTable::new(alloc),
+            readings: LineTable::new(alloc),
+        },
     }
+}
 
-    /// Judges these statements and PEEKs, oldest first.
-    fn run(
-        &mut self,
-        entries: &[TrailEntry<Statement>],
-        readings: &[Reading],
-    ) -> Result<(), AllocError> {
-        self.judge_readings(readings, 0)?;
-        for i in 0..entries.len() {
-            self.judge(&entries[i])?;
-            self.judge_readings(readings, i + 1)?;
-        }
-        Ok(())
-    }
+/// What is found in a script that was followed, on a new bench.
+fn find_in(alloc: Global, followed: &Followed, bench: Bench) -> Result<Findings, AllocError>
+    ensures { IfOk result (FindsIn followed.now bench) }
+{
+    let mut replay = start(alloc, bench);
+    let entries = followed.trail.standing();
+    judge_all(alloc, &mut replay, entries, followed.readings.as_slice())?;
+    Ok(replay.found)
 }
 
 /// What is found in a script: of the statements in effect at its end, each judged on the state before it, and of the
@@ -142,27 +357,16 @@ pub fn find<P: Watch>(
 ) -> Result<Findings, WhoFault>
     ensures { AreFound settings script.now result }
 {
-    let followed = follow(alloc, script, settings, watch)?;
+    let followed = match follow(alloc, script, settings, watch) {
+        Ok(followed) => followed,
+        Err(fault) => return Err(fault),
+    };
     let bench = match Bench::new(alloc, settings) {
         Ok(bench) => bench,
         Err(fault) => return Err(WhoFault::New(fault)),
     };
-    let mut replay = Replay {
-        alloc,
-        bench,
-        known: Known {
-            lines: LineMap::new(alloc),
-            endings: Endings::new(alloc),
-            guess: None,
-        },
-        found: Findings {
-            statements: LineTable::new(alloc),
-            readings: LineTable::new(alloc),
-        },
-        read: 0,
-    };
-    match replay.run(followed.trail.standing(), followed.readings.as_slice()) {
-        Ok(()) => Ok(replay.found),
+    match find_in(alloc, &followed, bench) {
+        Ok(found) => Ok(found),
         Err(_) => Err(WhoFault::Memory),
     }
 }
