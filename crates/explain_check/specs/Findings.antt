@@ -1,10 +1,10 @@
 -- What is found of a statement, as a check says it.
-use Rattle.std.specs.Prelude.{ℕ, Bool, false, ◌==◌, ◌||◌, if◌then◌else◌, is_some, List, [], ◌∷◌, ◌++◌, codes}
-use Rattle.std.specs.Prelude.{Option, Some, None, Result, Ok, Err, unwrap_or}
+use Rattle.std.specs.Prelude.{ℕ, Bool, false, ◌==◌, ◌||◌, if◌then◌else◌, is_some, nat_lt, List, [], ◌∷◌, ◌++◌, codes}
+use Rattle.std.specs.Prelude.{Option, Some, None, Result, Ok, Err, option_map, unwrap_or}
 use Rattle.std.specs.Fmt.{decimal}
 use Rattle.vsm_model.specs.Texts.{hexadecimal}
 use Rattle.macro_operands.specs.declared.faults.FaultKind.{FaultKind}
-use Rattle.macro_statements.specs.Requests.{Asked}
+use Rattle.macro_statements.specs.Requests.{Asked, asked_in}
 use Rattle.script_steps.specs.Output.{Marked}
 use Rattle.script_steps.specs.declared.responses.Response.{Response}
 use Rattle.explain_who.specs.TakenTexts.{subpool_text}
@@ -16,6 +16,7 @@ use Rattle.explain_findings.specs.declared.findings.Part.{Part}
 use Rattle.explain_findings.specs.declared.findings.Part.TheVariants as part_kind
 use Rattle.explain_findings.specs.declared.homes.Home.{Home}
 use Rattle.explain_findings.specs.declared.homes.Home.TheVariants as home
+use Rattle.explain_check.specs.declared.refusals.Answered.{Answered}
 
 -- Bytes outside of the area or the cell of the first one; a name, and the line that ended the area or the cell there; a
 -- release that takes back less than an area, or of several.
@@ -92,6 +93,13 @@ name_by (Some kind) asked = None
 abbrev pub name_told : Option (ℕ × Response) → Asked → Option (List ℕ)
 name_told told asked = name_by (fault_told told) asked
 
--- What is found, if it's said on this line of a statement.
+abbrev pub found_to : Answered → List Found
+found_to answered =
+    found_by (name_told answered.told.now (asked_in answered.request.now)) (option_map (λ f. f.now) answered.found)
+
+-- What is found, if it's said on this line of a statement, or if it's said on none of this many.
 abbrev pub if_on : ℕ → ℕ → List Found → List Found
 if_on line index found = if line == index then found else []
+
+abbrev pub unless_before : ℕ → ℕ → List Found → List Found
+unless_before line lines found = if nat_lt line lines then [] else found

@@ -1,5 +1,5 @@
 //! What is wrong with a script, a line for each fault, each refusal, each finding and each warning.
-ghost use Rattle.std.specs.Prelude.{◌≡◌, ◌≤◌, ℕ, false, Err, IfOk, List, Ok, Option, length, drop};
+ghost use Rattle.std.specs.Prelude.{◌≡◌, ◌≤◌, ◌||◌, ℕ, false, Err, IfOk, List, Ok, Option, length, drop};
 ghost use Rattle.bench_core.specs.Stands.{IsNew, bench_of, settings_in};
 ghost use Rattle.macro_statements.specs.Requests.{asked_in};
 ghost use Rattle.vsm_model.specs.declared.limits.Settings.{Settings};
@@ -74,8 +74,22 @@ fn put_page<W: Write>(
         told,
         found: found_told(source.findings, told),
     };
-    put_checks(gathered, writer, page, source.script, source.name, &answered);
+    put_checks(
+        gathered,
+        writer,
+        page,
+        source.script,
+        source.name,
+        &answered,
+    );
     is_wrong(answered.found)
+}
+
+/// Whether one or the other is so.
+fn either(one: bool, other: bool) -> bool
+    ensures { result ≡ (one || other) }
+{
+    one || other
 }
 
 /// Checks all lines that have a line feed, and gives the place after the last.
@@ -104,7 +118,7 @@ fn check_lines<W: Write, P: Watch>(
             Ok(Some(step)) => {
                 let bench = session.bench();
                 let its = put_page(gathered, writer, page, source, bench, &request, &step.told);
-                wrong = wrong || its;
+                wrong = either(wrong, its);
                 at = step.next;
             }
         }
@@ -145,10 +159,28 @@ fn check_end<W: Write>(
     let ending = session.end_into(&mut request);
     let bench = &ending.bench;
     page.take_last(source.script, last.line, before, &ending);
-    let one = put_page(gathered, writer, page, source, bench, &request, &ending.last);
+    let one = put_page(
+        gathered,
+        writer,
+        page,
+        source,
+        bench,
+        &request,
+        &ending.last,
+    );
     page.show_open(source.script, &ending);
-    let two = put_page(gathered, writer, page, source, bench, &request, &ending.open_statement);
-    let wrong = ending.totals.refused > 0 || last.wrong || one || two;
+    let two = put_page(
+        gathered,
+        writer,
+        page,
+        source,
+        bench,
+        &request,
+        &ending.open_statement,
+    );
+    let some = either(last.wrong, one);
+    let finds = either(some, two);
+    let wrong = either(ending.totals.refused > 0, finds);
     drop(ending);
     match gathered.hand_out(writer) {
         Ok(()) => Ok(wrong),
@@ -190,7 +222,10 @@ fn check_rest<W: Write>(
     let rest = rest_from(source.script, checked.at);
     match session.take_bytes(rest) {
         Ok(()) => {
-            let last = LastLine { line, wrong: checked.wrong };
+            let last = LastLine {
+                line,
+                wrong: checked.wrong,
+            };
             check_end(session, gathered, writer, page, source, last)
         }
         Err(_) => {

@@ -1,9 +1,8 @@
 //! What is found of a statement, a line for each.
-ghost use Rattle.std.specs.Prelude.{◌≡◌, [], option_map, unwrap_or};
-ghost use Rattle.macro_statements.specs.Requests.{asked_in};
+ghost use Rattle.std.specs.Prelude.{◌≡◌, [], ℕ, option_map, unwrap_or};
+ghost use Rattle.macro_statements.specs.Requests.{act, act_in, asked_in, peek, written_in};
 ghost use Rattle.explain_findings.specs.Endings.{name_used};
-ghost use Rattle.explain_list.specs.Pages.{fault_told};
-ghost use Rattle.explain_check.specs.Findings.{found_by, found_told, is_wrong, name_told, outside_found};
+ghost use Rattle.explain_check.specs.Findings.{found_to, found_told, is_wrong, name_told, outside_found};
 ghost use Rattle.explain_check.specs.Findings.{part_found, stale_found};
 ghost use Rattle.explain_check.specs.Lines.{PutsChecks};
 ghost use Rattle.explain_findings.specs.Tables.{found_on};
@@ -44,7 +43,9 @@ pub(crate) fn is_wrong(found: Option<&Finding>) -> bool
 }
 
 /// The name in a value, if it's one.
-fn name_in(value: &Value) -> Option<Name> {
+fn name_in(value: &Value) -> Option<Name>
+    ensures { (count : ℕ) → option_map (λ name. name.bytes) result ≡ name_used (peek (written_in value.now) count) }
+{
     match value {
         Value::Named(name) => Some(*name),
         Value::Number(_) | Value::Register(_) => None,
@@ -52,9 +53,12 @@ fn name_in(value: &Value) -> Option<Name> {
 }
 
 /// The name in the address of a statement that uses storage.
-fn name_in_act(statement: &Statement) -> Option<Name> {
+fn name_in_act(statement: &Statement) -> Option<Name>
+    ensures { option_map (λ name. name.bytes) result ≡ name_used (act (act_in statement.now)) }
+{
     match statement {
-        Statement::Poke { address, .. } | Statement::Release { address, .. } => name_in(address),
+        Statement::Poke { address, .. } => name_in(address),
+        Statement::Release { address, .. } => name_in(address),
         Statement::FreeCell { cell, .. } => name_in(cell),
         Statement::Obtain { .. }
         | Statement::Whole { .. }
@@ -176,8 +180,7 @@ pub(crate) fn put_found_checks<W: Write>(
     answered: &Answered,
 )
     ensures { PutsChecks spot.now.name.now [] []
-        (found_by (name_told answered.now.told.now (asked_in answered.now.request.now))
-        (option_map (λ f. f.now) answered.now.found))
+        (found_to answered.now)
         (W.contents writer.old) (W.contents writer.new) gathered.old gathered.new }
 {
     match answered.found {

@@ -50,13 +50,28 @@ fn put_home<W: Write>(gathered: &mut Gathered, writer: &mut W, home: &Home)
         Home::Free(subpool) => put_free(gathered, writer, *subpool),
         Home::Area { line, .. } => put_number(gathered, writer, b"in the area of line ", *line),
         Home::Cell { pool, .. } => {
-            put_pool(gathered, writer, b"in another cell of cell pool ", pool.as_slice());
+            put_pool(
+                gathered,
+                writer,
+                b"in another cell of cell pool ",
+                pool.as_slice(),
+            );
         }
         Home::FreeCell(pool) => {
-            put_pool(gathered, writer, b"in a free cell of cell pool ", pool.as_slice());
+            put_pool(
+                gathered,
+                writer,
+                b"in a free cell of cell pool ",
+                pool.as_slice(),
+            );
         }
         Home::PastCells(pool) => {
-            put_pool(gathered, writer, b"in no cell of cell pool ", pool.as_slice());
+            put_pool(
+                gathered,
+                writer,
+                b"in no cell of cell pool ",
+                pool.as_slice(),
+            );
         }
     }
 }
@@ -75,12 +90,7 @@ pub(crate) fn put_outside<W: Write>(gathered: &mut Gathered, writer: &mut W, its
 
 /// Puts that a name is used after a line ended the area or the cell there.
 #[tactic(auto, using(text_output::proofs::Gathering::puts_both))]
-pub(crate) fn put_stale<W: Write>(
-    gathered: &mut Gathered,
-    writer: &mut W,
-    name: &[u8],
-    line: u32,
-)
+pub(crate) fn put_stale<W: Write>(gathered: &mut Gathered, writer: &mut W, name: &[u8], line: u32)
     ensures { Puts (W.contents writer.old) (W.contents writer.new) gathered.old gathered.new
         (found_text (stale name.now line)) }
 {

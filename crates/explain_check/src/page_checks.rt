@@ -1,10 +1,10 @@
 //! What is wrong with the lines that are shown, a line for each fault, each refusal, each finding and each warning.
-ghost use Rattle.std.specs.Prelude.{[], List, if◌then◌else◌, nat_lt, option_map};
+ghost use Rattle.std.specs.Prelude.{[], List};
 ghost use Rattle.macro_statements.specs.Requests.{asked_in};
 ghost use Rattle.bench_core.specs.Stands.{bench_of, settings_in};
 ghost use Rattle.explain_list.specs.Pages.{fault_at, marks_in, shown_of};
 ghost use Rattle.explain_list.specs.Rows.{marks_on};
-ghost use Rattle.explain_check.specs.Findings.{found_by, if_on, name_told};
+ghost use Rattle.explain_check.specs.Findings.{found_to, if_on, unless_before};
 ghost use Rattle.explain_check.specs.Lines.{PutsChecks, Said, refusal_told};
 ghost use Rattle.explain_check.specs.Reasons.{IsSaidOf};
 
@@ -48,9 +48,7 @@ fn put_found_on<W: Write>(
     number: u32,
     index: usize,
 )
-    ensures { PutsChecks shown.now.name.now [] [] (if_on shown.now.place.line index
-        (found_by (name_told answered.now.told.now (asked_in answered.now.request.now))
-        (option_map (λ f. f.now) answered.now.found)))
+    ensures { PutsChecks shown.now.name.now [] [] (if_on shown.now.place.line index (found_to answered.now))
         (W.contents writer.old) (W.contents writer.new) gathered.old gathered.new }
 {
     if shown.place.line == index {
@@ -82,9 +80,7 @@ fn put_line_checks<W: Write>(
     index: usize,
 )
     ensures { PutsChecks shown.now.name.now (marks_on line.now (fault_at shown.now.page.now.fault index)) []
-        (if_on shown.now.place.line index
-        (found_by (name_told answered.now.told.now (asked_in answered.now.request.now))
-        (option_map (λ f. f.now) answered.now.found)))
+        (if_on shown.now.place.line index (found_to answered.now))
         (W.contents writer.old) (W.contents writer.new) gathered.old gathered.new }
 {
     let name = shown.name;
@@ -110,9 +106,7 @@ fn put_found_elsewhere<W: Write>(
     answered: &Answered,
     lines: usize,
 )
-    ensures { PutsChecks shown.now.name.now [] [] (if nat_lt shown.now.place.line lines then []
-        else found_by (name_told answered.now.told.now (asked_in answered.now.request.now))
-        (option_map (λ f. f.now) answered.now.found))
+    ensures { PutsChecks shown.now.name.now [] [] (unless_before shown.now.place.line lines (found_to answered.now))
         (W.contents writer.old) (W.contents writer.new) gathered.old gathered.new }
 {
     if shown.place.line < lines {
@@ -182,8 +176,7 @@ pub(crate) fn put_checks<W: Write>(
         × IsSaidOf (settings_in answered.now.bench.now) (bench_of answered.now.bench.now).present
         (asked_in answered.now.request.now) (refusal_told answered.now.told.now) said
         × PutsChecks name.now (marks_in (shown_of page.now) page.now.fault) said
-        (found_by (name_told answered.now.told.now (asked_in answered.now.request.now))
-        (option_map (λ f. f.now) answered.now.found))
+        (found_to answered.now)
         (W.contents writer.old) (W.contents writer.new) gathered.old gathered.new }
 {
     let lines = page.lines();

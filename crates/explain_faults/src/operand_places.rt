@@ -1,4 +1,5 @@
-//! Where an operand is of a statement.
+//! Where an operand of a statement is.
+ghost use Rattle.std.specs.Prelude.{◌≤◌, length};
 
 use crate::carets::{field_over, first_card, operation_column};
 use crate::gathered::TextPlace;
@@ -34,7 +35,9 @@ fn operand_start(field: &[u8], keywords: &[&'static [u8]]) -> Option<usize> {
 }
 
 /// The lines after the first, nine at most.
-fn further_lines(lines: &[SourceLine]) -> &[SourceLine] {
+fn further_lines(lines: &[SourceLine]) -> &[SourceLine]
+    ensures { length result.now ≤ 9 }
+{
     if lines.is_empty() {
         lines
     } else {
