@@ -1,3 +1,4 @@
 pub mod Checked
+pub mod Findings
 pub mod Lines
 pub mod Reasons

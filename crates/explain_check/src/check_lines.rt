@@ -23,7 +23,7 @@ use text_output::{Gathered, put_decimal};
 
 /// Puts what a line on a place in a file begins with.
 #[tactic(auto, using(text_output::proofs::Gathering::puts_both))]
-fn put_position<W: Write>(
+pub(crate) fn put_position<W: Write>(
     gathered: &mut Gathered,
     writer: &mut W,
     name: &[u8],
@@ -50,7 +50,7 @@ pub(crate) fn put_loss_check<W: Write>(
     number: u32,
     lost: Option<SourceLine>,
 )
-    ensures { PutsChecks name.now [] [] (W.contents writer.old) (W.contents writer.new) gathered.old gathered.new }
+    ensures { PutsChecks name.now [] [] [] (W.contents writer.old) (W.contents writer.new) gathered.old gathered.new }
 {
     if let Some(before) = lost {
         put_position(gathered, writer, name, number, 1);
@@ -68,7 +68,7 @@ fn put_warned_check<W: Write>(
     place: usize,
     warning: Warning,
 )
-    ensures { PutsChecks name.now [] [] (W.contents writer.old) (W.contents writer.new) gathered.old gathered.new }
+    ensures { PutsChecks name.now [] [] [] (W.contents writer.old) (W.contents writer.new) gathered.old gathered.new }
 {
     put_position(gathered, writer, name, number, place);
     put_warning(gathered, writer, one_line(warning.text()));
@@ -115,7 +115,7 @@ pub(crate) fn put_warning_checks<W: Write>(
     from: usize,
     to: usize,
 )
-    ensures { PutsChecks name.now [] [] (W.contents writer.old) (W.contents writer.new) gathered.old gathered.new }
+    ensures { PutsChecks name.now [] [] [] (W.contents writer.old) (W.contents writer.new) gathered.old gathered.new }
 {
     let mut after = (from, 0);
     for _i in 0..KINDS {
@@ -138,7 +138,7 @@ fn put_caret_check<W: Write>(
     caret: &Caret,
     kind: FaultKind,
 )
-    ensures { (line : SourceLine) → line.number ≡ number → PutsChecks name.now (mark_of line (caret.now, kind) ∷ []) []
+    ensures { (line : SourceLine) → line.number ≡ number → PutsChecks name.now (mark_of line (caret.now, kind) ∷ []) [] []
         (W.contents writer.old) (W.contents writer.new) gathered.old gathered.new }
 {
     let mut words = Words::new();
@@ -159,7 +159,7 @@ pub(crate) fn put_fault_check<W: Write>(
     line: &SourceLine,
     fault: Option<(&Caret, FaultKind)>,
 )
-    ensures { PutsChecks name.now (marks_on line.now (option_map (λ f. (f.0.now, f.1)) fault.entry)) []
+    ensures { PutsChecks name.now (marks_on line.now (option_map (λ f. (f.0.now, f.1)) fault.entry)) [] []
         (W.contents writer.old) (W.contents writer.new) gathered.old gathered.new }
 {
     match fault {
@@ -179,7 +179,7 @@ pub(crate) fn put_refusal_check<W: Write>(
     ensures { (said : List Said)
         × IsSaidOf (settings_in answered.now.bench.now) (bench_of answered.now.bench.now).present
         (asked_in answered.now.request.now) (refusal_told answered.now.told.now) said
-        × PutsChecks name.now [] said (W.contents writer.old) (W.contents writer.new) gathered.old gathered.new }
+        × PutsChecks name.now [] said [] (W.contents writer.old) (W.contents writer.new) gathered.old gathered.new }
 {
     match refusal_told(answered.told) {
         Some((number, answer)) => {
@@ -197,7 +197,7 @@ pub(crate) fn put_file_check<W: Write>(
     script: &[u8],
     name: &[u8],
 )
-    ensures { PutsChecks name.now [] [] (W.contents writer.old) (W.contents writer.new) gathered.old gathered.new }
+    ensures { PutsChecks name.now [] [] [] (W.contents writer.old) (W.contents writer.new) gathered.old gathered.new }
 {
     if let Some(warning) = warning_on(script) {
         put_position(gathered, writer, name, 1, 1);

@@ -1,25 +1,96 @@
-//! What is wrong with a script, a line for each fault, each refusal and each warning.
-ghost use Rattle.std.specs.Prelude.{◌≡◌, ◌≤◌, ℕ, Err, List, Ok, Option, length, drop};
-ghost use Rattle.bench_core.specs.Stands.{IsNew};
+//! What is wrong with a script, a line for each fault, each refusal, each finding and each warning.
+ghost use Rattle.std.specs.Prelude.{◌≡◌, ◌≤◌, ◌||◌, ℕ, false, Err, IfOk, List, Ok, Option, length, drop};
+ghost use Rattle.bench_core.specs.Stands.{IsNew, bench_of, settings_in};
+ghost use Rattle.macro_statements.specs.Requests.{asked_in};
 ghost use Rattle.vsm_model.specs.declared.limits.Settings.{Settings};
 ghost use Rattle.script_steps.specs.Script.{NoFeed};
+ghost use Rattle.explain_findings.specs.Tables.{found_on};
+ghost use Rattle.explain_findings.specs.declared.findings.Finding.{Finding};
 ghost use Rattle.explain_list.specs.Listing.{IsRest};
-ghost use Rattle.explain_check.specs.Checked.{Checked, Checks, ChecksFront, ChecksLines, ChecksRest};
-ghost use Rattle.explain_check.specs.Checked.{StopsCheck};
+ghost use Rattle.explain_list.specs.Pages.{marks_in, shown_of};
+ghost use Rattle.explain_check.specs.Checked.{AreFindings, Checked, Checks, ChecksAll, ChecksFront, ChecksLines};
+ghost use Rattle.explain_check.specs.Checked.{ChecksRest, PutsPage, StopsCheck};
+ghost use Rattle.explain_check.specs.Findings.{found_told, is_wrong};
 
 use crate::check_lines::put_file_check;
-use crate::page_checks::{put_checks, put_end_checks};
+use crate::found_checks::{found_told, is_wrong};
+use crate::page_checks::put_checks;
 use crate::refusals::Answered;
 use bench_core::Bench;
 use explain_faults::lines::SourceLine;
+use explain_findings::{Findings, find};
 use explain_list::pages::{ListingPage, rest_line};
 use explain_list::{ListFault, rest_from};
+use explain_who::WhoFault;
 use macro_reader::Request;
-use script_steps::{Session, TooLong, Watch};
+use script_steps::{Response, Session, TooLong, Watch};
 use std::alloc::Global;
 use std::io::{ErrorKind, Write};
 use text_output::{Gathered, WriteFault};
 use vsm_model::Settings;
+
+/// What is checked: a script, the name of its file, and what is found in it.
+#[derive(Drop)]
+struct Source<'a> {
+    script: &'a [u8],
+    name: &'a [u8],
+    findings: &'a Findings,
+}
+
+/// How far lines were checked, and whether OUTSIDE or STALE was found.
+#[derive(Drop)]
+struct LinesChecked {
+    at: usize,
+    wrong: bool,
+}
+
+/// What follows the last line feed of a script, and whether OUTSIDE or STALE was found before it.
+#[derive(Drop)]
+struct LastLine {
+    line: SourceLine,
+    wrong: bool,
+}
+
+/// Puts what is wrong with the lines that are shown, whose statement asked for this and was answered this, which left
+/// this bench. Gives whether OUTSIDE or STALE is found.
+fn put_page<W: Write>(
+    gathered: &mut Gathered,
+    writer: &mut W,
+    page: &ListingPage,
+    source: &Source,
+    bench: &Bench,
+    request: &Request,
+    told: &Option<(u32, Response)>,
+) -> bool
+    ensures puts { PutsPage (settings_in bench.now) source.now.name.now (found_on source.now.findings.now)
+        (marks_in (shown_of page.now) page.now.fault) (bench_of bench.now).present (asked_in request.now) told.now
+        (W.contents writer.old) (W.contents writer.new) gathered.old gathered.new }
+    ensures wrong { result ≡ is_wrong (found_told (found_on source.now.findings.now) told.now) }
+{
+    let answered = Answered {
+        alloc: page.alloc(),
+        bench,
+        request,
+        told,
+        found: found_told(source.findings, told),
+    };
+    put_checks(
+        gathered,
+        writer,
+        page,
+        source.script,
+        source.name,
+        &answered,
+    );
+    is_wrong(answered.found)
+}
+
+/// Whether one or the other is so.
+fn either(one: bool, other: bool) -> bool
+    ensures { result ≡ (one || other) }
+{
+    one || other
+}
 
 /// Checks all lines that have a line feed, and gives the place after the last.
 fn check_lines<W: Write, P: Watch>(
@@ -27,42 +98,40 @@ fn check_lines<W: Write, P: Watch>(
     gathered: &mut Gathered,
     writer: &mut W,
     page: &mut ListingPage,
-    script: &[u8],
-    name: &[u8],
+    source: &Source,
     watch: &mut P,
-) -> Result<usize, TooLong>
+) -> Result<LinesChecked, TooLong>
     ensures checks { (settings : Settings) (first : Option (List ℕ))
-        → Checks settings script.now name.now first (W.contents writer.old) gathered.old page.old 0 session.old
-        → ChecksLines settings script.now name.now first (W.contents writer.new) gathered.new page.new session.new
-        result }
-    ensures rest { IsRest script.now result }
+        → Checks settings source.now.script.now source.now.name.now (found_on source.now.findings.now) first
+        (W.contents writer.old) gathered.old page.old false 0 session.old
+        → ChecksLines settings source.now.script.now source.now.name.now (found_on source.now.findings.now) first
+        (W.contents writer.new) gathered.new page.new session.new result }
+    ensures rest { IfOk result (λ r. IsRest source.now.script.now (Ok r.at)) }
 {
     let mut request = Request::Map;
+    let mut wrong = false;
     let mut at = 0;
-    while at < script.len() {
-        match page.take_line(session, script, at, &mut request) {
+    while at < source.script.len() {
+        match page.take_line(session, source.script, at, &mut request) {
             Err(fault) => return Err(fault),
-            Ok(None) => return Ok(at),
+            Ok(None) => return Ok(LinesChecked { at, wrong }),
             Ok(Some(step)) => {
-                let answered = Answered {
-                    alloc: page.alloc(),
-                    bench: session.bench(),
-                    request: &request,
-                    told: &step.told,
-                };
-                put_checks(gathered, writer, page, script, name, &answered);
+                let bench = session.bench();
+                let its = put_page(gathered, writer, page, source, bench, &request, &step.told);
+                wrong = either(wrong, its);
                 at = step.next;
             }
         }
         watch.line(session.lines());
     }
-    Ok(at)
+    Ok(LinesChecked { at, wrong })
 }
 
 /// Why a check ends if a write failed: one of the text of a cause fails if no memory is left.
 fn write_fault(fault: WriteFault) -> ListFault
-    ensures { (settings : Settings) (script name : List ℕ) (at_first now : Option (List ℕ))
-        → ChecksFront settings script name at_first now → Checked settings script name at_first now (Err result) }
+    ensures { (settings : Settings) (script name : List ℕ) (found : ℕ → Option Finding)
+        (at_first now : Option (List ℕ)) → ChecksFront settings script name found at_first now
+        → ChecksAll settings script name found at_first now (Err result) }
 {
     match fault.error.kind() {
         ErrorKind::OutOfMemory => ListFault::Memory,
@@ -76,52 +145,54 @@ fn check_end<W: Write>(
     gathered: &mut Gathered,
     writer: &mut W,
     page: &mut ListingPage,
-    script: &[u8],
-    name: &[u8],
-    line: SourceLine,
+    source: &Source,
+    last: LastLine,
 ) -> Result<bool, ListFault>
     ensures { (settings : Settings) (first : Option (List ℕ))
-        → ChecksRest settings script.now name.now first (W.contents writer.old) gathered.old page.old line session
-        → Checked settings script.now name.now first (W.contents writer.new) result }
+        → ChecksRest settings source.now.script.now source.now.name.now (found_on source.now.findings.now) first
+        (W.contents writer.old) gathered.old page.old last.wrong last.line session
+        → ChecksAll settings source.now.script.now source.now.name.now (found_on source.now.findings.now) first
+        (W.contents writer.new) result }
 {
     let before = session.stand();
     let mut request = Request::Map;
     let ending = session.end_into(&mut request);
-    page.take_last(script, line, before, &ending);
-    put_end_checks(
+    let bench = &ending.bench;
+    page.take_last(source.script, last.line, before, &ending);
+    let one = put_page(
         gathered,
         writer,
         page,
-        script,
-        name,
-        &ending,
+        source,
+        bench,
+        &request,
         &ending.last,
-        &request,
     );
-    page.show_open(script, &ending);
-    put_end_checks(
+    page.show_open(source.script, &ending);
+    let two = put_page(
         gathered,
         writer,
         page,
-        script,
-        name,
-        &ending,
-        &ending.open_statement,
+        source,
+        bench,
         &request,
+        &ending.open_statement,
     );
-    let is_refused = ending.totals.refused > 0;
+    let some = either(last.wrong, one);
+    let finds = either(some, two);
+    let wrong = either(ending.totals.refused > 0, finds);
     drop(ending);
     match gathered.hand_out(writer) {
-        Ok(()) => Ok(is_refused),
+        Ok(()) => Ok(wrong),
         Err(fault) => Err(write_fault(fault)),
     }
 }
 
 /// What a check is that ends at a byte that passes a bound.
 fn stop<W: Write>(gathered: &mut Gathered, writer: &mut W) -> Result<bool, ListFault>
-    ensures { (settings : Settings) (script name : List ℕ) (first : Option (List ℕ))
-        → StopsCheck settings script name first (W.contents writer.old) gathered.old
-        → Checked settings script name first (W.contents writer.new) result }
+    ensures { (settings : Settings) (script name : List ℕ) (found : ℕ → Option Finding) (first : Option (List ℕ))
+        → StopsCheck settings script name found first (W.contents writer.old) gathered.old
+        → ChecksAll settings script name found first (W.contents writer.new) result }
 {
     match gathered.hand_out(writer) {
         Ok(()) => Err(ListFault::TooLong),
@@ -135,21 +206,28 @@ fn check_rest<W: Write>(
     gathered: &mut Gathered,
     writer: &mut W,
     page: &mut ListingPage,
-    script: &[u8],
-    name: &[u8],
-    at: usize,
+    source: &Source,
+    checked: LinesChecked,
 ) -> Result<bool, ListFault>
-    requires within { at ≤ length script.now }
-    requires plain { NoFeed (drop at script.now) }
+    requires within { checked.at ≤ length source.now.script.now }
+    requires plain { NoFeed (drop checked.at source.now.script.now) }
     ensures { (settings : Settings) (first : Option (List ℕ))
-        → Checks settings script.now name.now first (W.contents writer.old) gathered.old page.old at session
-        → Checked settings script.now name.now first (W.contents writer.new) result }
+        → Checks settings source.now.script.now source.now.name.now (found_on source.now.findings.now) first
+        (W.contents writer.old) gathered.old page.old checked.wrong checked.at session
+        → ChecksAll settings source.now.script.now source.now.name.now (found_on source.now.findings.now) first
+        (W.contents writer.new) result }
 {
     let mut session = session;
-    let line = rest_line(session.lines(), script, at);
-    let rest = rest_from(script, at);
+    let line = rest_line(session.lines(), source.script, checked.at);
+    let rest = rest_from(source.script, checked.at);
     match session.take_bytes(rest) {
-        Ok(()) => check_end(session, gathered, writer, page, script, name, line),
+        Ok(()) => {
+            let last = LastLine {
+                line,
+                wrong: checked.wrong,
+            };
+            check_end(session, gathered, writer, page, source, last)
+        }
         Err(_) => {
             drop(session);
             stop(gathered, writer)
@@ -162,28 +240,19 @@ fn check_on<W: Write, P: Watch>(
     alloc: Global,
     settings: Settings,
     bench: Bench,
-    script: &[u8],
-    name: &[u8],
+    source: &Source,
     out: &mut W,
     watch: &mut P,
 ) -> Result<bool, ListFault>
-    ensures { IsNew settings (Ok bench)
-        → Checked settings script.now name.now (W.contents out.old) (W.contents out.new) result }
+    ensures { IsNew settings (Ok bench) → ChecksAll settings source.now.script.now source.now.name.now
+        (found_on source.now.findings.now) (W.contents out.old) (W.contents out.new) result }
 {
     let mut session = Session::new(bench);
     let mut gathered = Gathered::new();
     let mut page = ListingPage::new(alloc, settings);
-    put_file_check(&mut gathered, out, script, name);
-    match check_lines(
-        &mut session,
-        &mut gathered,
-        out,
-        &mut page,
-        script,
-        name,
-        watch,
-    ) {
-        Ok(at) => check_rest(session, &mut gathered, out, &mut page, script, name, at),
+    put_file_check(&mut gathered, out, source.script, source.name);
+    match check_lines(&mut session, &mut gathered, out, &mut page, source, watch) {
+        Ok(checked) => check_rest(session, &mut gathered, out, &mut page, source, checked),
         Err(_) => {
             drop(session);
             stop(&mut gathered, out)
@@ -191,11 +260,52 @@ fn check_on<W: Write, P: Watch>(
     }
 }
 
-/// Writes a line for each fault, each statement that gets ABEND, REFUSED NAME or REFUSED MEMORY, and each warning of a
-/// script, `FILE:LINE:COLUMN: text`, with this name of the file, by line and then by column.
+/// What is found in a script: nothing, if it's too long.
+fn findings_in<P: Watch>(
+    alloc: Global,
+    script: &[u8],
+    settings: Settings,
+    watch: &mut P,
+) -> Result<Findings, ListFault>
+    ensures { AreFindings settings script.now result }
+{
+    match find(alloc, script, settings, watch) {
+        Ok(findings) => Ok(findings),
+        Err(fault) => match fault {
+            WhoFault::TooLong => Ok(Findings::nothing(alloc)),
+            WhoFault::New(fault) => Err(ListFault::New(fault)),
+            WhoFault::Memory
+            | WhoFault::Count
+            | WhoFault::NoTask(_)
+            | WhoFault::NoName(_)
+            | WhoFault::Write => Err(ListFault::Memory),
+        },
+    }
+}
+
+/// Checks a script in which this is found.
+fn check_found<W: Write, P: Watch>(
+    alloc: Global,
+    settings: Settings,
+    source: &Source,
+    out: &mut W,
+    watch: &mut P,
+) -> Result<bool, ListFault>
+    ensures { ChecksAll settings source.now.script.now source.now.name.now (found_on source.now.findings.now)
+        (W.contents out.old) (W.contents out.new) result }
+{
+    match Bench::new(alloc, settings) {
+        Ok(bench) => check_on(alloc, settings, bench, source, out, watch),
+        Err(fault) => Err(ListFault::New(fault)),
+    }
+}
+
+/// Writes a line for each fault, each statement that gets ABEND, REFUSED NAME or REFUSED MEMORY, what is found of each
+/// other statement, and each warning of a script, `FILE:LINE:COLUMN: text`, with this name of the file, by line and
+/// then by column.
 ///
-/// Gives whether a statement was refused or faulty. `TooLong` follows what is said of the answers before that line;
-/// `Write` and `Memory` a prefix of what is said; `New` with nothing written.
+/// Gives whether a statement was refused or faulty, or OUTSIDE or STALE. `TooLong` follows what is said of the answers
+/// before that line; `Write` and `Memory` a prefix of what is said, or nothing; `New` with nothing written.
 pub fn check<W: Write, P: Watch>(
     alloc: Global,
     script: &[u8],
@@ -206,8 +316,15 @@ pub fn check<W: Write, P: Watch>(
 ) -> Result<bool, ListFault>
     ensures { Checked settings script.now name.now (W.contents out.old) (W.contents out.new) result }
 {
-    match Bench::new(alloc, settings) {
-        Ok(bench) => check_on(alloc, settings, bench, script, name, out, watch),
-        Err(fault) => Err(ListFault::New(fault)),
+    match findings_in(alloc, script, settings, watch) {
+        Ok(findings) => {
+            let source = Source {
+                script,
+                name,
+                findings: &findings,
+            };
+            check_found(alloc, settings, &source, out, watch)
+        }
+        Err(fault) => Err(fault),
     }
 }

@@ -1,22 +1,24 @@
-//! What is wrong with the lines that are shown, a line for each fault, each refusal and each warning.
+//! What is wrong with the lines that are shown, a line for each fault, each refusal, each finding and each warning.
 ghost use Rattle.std.specs.Prelude.{[], List};
 ghost use Rattle.macro_statements.specs.Requests.{asked_in};
 ghost use Rattle.bench_core.specs.Stands.{bench_of, settings_in};
 ghost use Rattle.explain_list.specs.Pages.{fault_at, marks_in, shown_of};
 ghost use Rattle.explain_list.specs.Rows.{marks_on};
+ghost use Rattle.explain_check.specs.Findings.{found_to, if_on, unless_before};
 ghost use Rattle.explain_check.specs.Lines.{PutsChecks, Said, refusal_told};
 ghost use Rattle.explain_check.specs.Reasons.{IsSaidOf};
 
 use crate::check_lines::{
     WarnedLine, put_fault_check, put_loss_check, put_refusal_check, put_warning_checks,
 };
+use crate::found_checks::{Spot, found_place, put_found_checks};
 use crate::refusals::{Answered, refusal_told};
 use explain_faults::carets::Caret;
+use explain_faults::gathered::TextPlace;
 use explain_faults::lines::SourceLine;
 use explain_list::pages::ListingPage;
-use macro_reader::Request;
 use operand_texts::words::{after_blanks, after_word};
-use script_steps::{Ending, FaultKind, Response};
+use script_steps::{FaultKind, Response};
 use std::io::Write;
 use text_output::Gathered;
 
@@ -28,30 +30,94 @@ fn behind_caret(fault: Option<(&Caret, FaultKind)>) -> usize {
     }
 }
 
+/// The lines that are shown, and where what is found of their statement is reported.
+#[derive(Drop)]
+struct Shown<'a> {
+    page: &'a ListingPage,
+    script: &'a [u8],
+    name: &'a [u8],
+    place: TextPlace,
+}
+
+/// Puts what is found of an answer's statement, if it's reported on this one of its lines.
+fn put_found_on<W: Write>(
+    gathered: &mut Gathered,
+    writer: &mut W,
+    shown: &Shown,
+    answered: &Answered,
+    number: u32,
+    index: usize,
+)
+    ensures { PutsChecks shown.now.name.now [] [] (if_on shown.now.place.line index (found_to answered.now))
+        (W.contents writer.old) (W.contents writer.new) gathered.old gathered.new }
+{
+    if shown.place.line == index {
+        let spot = Spot {
+            name: shown.name,
+            number,
+            column: shown.place.column,
+        };
+        put_found_checks(gathered, writer, &spot, answered);
+    }
+}
+
+/// The column after that of what is found or of the fault on a line; one after all columns, if there is neither.
+fn behind_found(shown: &Shown, answered: &Answered, index: usize) -> usize {
+    if answered.found.is_some() && shown.place.line == index {
+        shown.place.column.saturating_add(1)
+    } else {
+        behind_caret(shown.page.fault_on(index))
+    }
+}
+
 /// Puts what is wrong with a line, in the order of columns.
 fn put_line_checks<W: Write>(
     gathered: &mut Gathered,
     writer: &mut W,
-    page: &ListingPage,
-    script: &[u8],
-    name: &[u8],
+    shown: &Shown,
+    answered: &Answered,
     line: &SourceLine,
     index: usize,
 )
-    ensures { PutsChecks name.now (marks_on line.now (fault_at page.now.fault index)) [] (W.contents writer.old)
-        (W.contents writer.new) gathered.old gathered.new }
+    ensures { PutsChecks shown.now.name.now (marks_on line.now (fault_at shown.now.page.now.fault index)) []
+        (if_on shown.now.place.line index (found_to answered.now))
+        (W.contents writer.old) (W.contents writer.new) gathered.old gathered.new }
 {
+    let name = shown.name;
     let warned = WarnedLine {
         number: line.number,
-        bytes: line.bytes(script),
-        stand: page.stand(script, line, index),
+        bytes: line.bytes(shown.script),
+        stand: shown.page.stand(shown.script, line, index),
     };
-    let lost = page.lost(index, line);
-    let behind = behind_caret(page.fault_on(index));
-    put_loss_check(gathered, writer, name, script, line.number, lost);
+    let lost = shown.page.lost(index, line);
+    let behind = behind_found(shown, answered, index);
+    put_loss_check(gathered, writer, name, shown.script, line.number, lost);
     put_warning_checks(gathered, writer, name, &warned, 0, behind);
-    put_fault_check(gathered, writer, name, line, page.fault_on(index));
+    put_fault_check(gathered, writer, name, line, shown.page.fault_on(index));
+    put_found_on(gathered, writer, shown, answered, line.number, index);
     put_warning_checks(gathered, writer, name, &warned, behind, usize::MAX);
+}
+
+/// Puts what is found of an answer's statement, if it's reported on none of this many lines.
+fn put_found_elsewhere<W: Write>(
+    gathered: &mut Gathered,
+    writer: &mut W,
+    shown: &Shown,
+    answered: &Answered,
+    lines: usize,
+)
+    ensures { PutsChecks shown.now.name.now [] [] (unless_before shown.now.place.line lines (found_to answered.now))
+        (W.contents writer.old) (W.contents writer.new) gathered.old gathered.new }
+{
+    if shown.place.line < lines {
+        return;
+    }
+    let spot = Spot {
+        name: shown.name,
+        number: number_told(answered.told),
+        column: shown.place.column,
+    };
+    put_found_checks(gathered, writer, &spot, answered);
 }
 
 /// The column of the operation of a statement over these lines; 1 if there are none.
@@ -62,6 +128,14 @@ fn operation_column(script: &[u8], lines: &[SourceLine]) -> usize {
             let rest = after_blanks(after_word(line)).len();
             line.len().saturating_sub(rest).saturating_add(1)
         }
+        None => 1,
+    }
+}
+
+/// The number of the first line of an answer's statement; 1 without an answer.
+fn number_told(told: &Option<(u32, Response)>) -> u32 {
+    match told {
+        Some((number, _)) => *number,
         None => 1,
     }
 }
@@ -78,7 +152,7 @@ fn put_answer_check<W: Write>(
     ensures { (said : List Said)
         × IsSaidOf (settings_in answered.now.bench.now) (bench_of answered.now.bench.now).present
         (asked_in answered.now.request.now) (refusal_told answered.now.told.now) said
-        × PutsChecks name.now [] said (W.contents writer.old) (W.contents writer.new) gathered.old gathered.new }
+        × PutsChecks name.now [] said [] (W.contents writer.old) (W.contents writer.new) gathered.old gathered.new }
 {
     match refusal_told(answered.told) {
         Some(_) => {
@@ -101,38 +175,20 @@ pub(crate) fn put_checks<W: Write>(
     ensures { (said : List Said)
         × IsSaidOf (settings_in answered.now.bench.now) (bench_of answered.now.bench.now).present
         (asked_in answered.now.request.now) (refusal_told answered.now.told.now) said
-        × PutsChecks name.now (marks_in (shown_of page.now) page.now.fault) said (W.contents writer.old)
-        (W.contents writer.new) gathered.old gathered.new }
+        × PutsChecks name.now (marks_in (shown_of page.now) page.now.fault) said
+        (found_to answered.now)
+        (W.contents writer.old) (W.contents writer.new) gathered.old gathered.new }
 {
     let lines = page.lines();
+    let shown = Shown {
+        page,
+        script,
+        name,
+        place: found_place(script, lines, answered),
+    };
     put_answer_check(gathered, writer, page, script, name, answered);
     for index in 0..lines.len() {
-        put_line_checks(gathered, writer, page, script, name, &lines[index], index);
+        put_line_checks(gathered, writer, &shown, answered, &lines[index], index);
     }
-}
-
-/// Puts what is wrong with the lines that are shown at the end of a script, and the refusal that is answered to them,
-/// whose statement asked for this.
-pub(crate) fn put_end_checks<W: Write>(
-    gathered: &mut Gathered,
-    writer: &mut W,
-    page: &ListingPage,
-    script: &[u8],
-    name: &[u8],
-    ending: &Ending,
-    told: &Option<(u32, Response)>,
-    request: &Request,
-)
-    ensures { (said : List Said) × IsSaidOf (settings_in ending.now.bench) (bench_of ending.now.bench).present
-        (asked_in request.now) (refusal_told told.now) said
-        × PutsChecks name.now (marks_in (shown_of page.now) page.now.fault) said (W.contents writer.old)
-        (W.contents writer.new) gathered.old gathered.new }
-{
-    let answered = Answered {
-        alloc: page.alloc(),
-        bench: &ending.bench,
-        request,
-        told,
-    };
-    put_checks(gathered, writer, page, script, name, &answered);
+    put_found_elsewhere(gathered, writer, &shown, answered, lines.len());
 }

@@ -10,6 +10,7 @@ ghost use Rattle.explain_check.specs.Lines.{PutsWith, refusal_told};
 ghost use Rattle.explain_check.specs.Reasons.{IsReason, first_line, why_in};
 
 use bench_core::{Bench, Refusal};
+use explain_findings::Finding;
 use explain_list::causes::{cause_text, fail};
 use explain_list::words::one_line;
 use explain_text::Words;
@@ -31,6 +32,8 @@ pub(crate) struct Answered<'a> {
     /// What the statement asked for, unless it's wrong.
     pub request: &'a Request,
     pub told: &'a Option<(u32, Response)>,
+    /// What is found of the statement.
+    pub found: Option<&'a Finding>,
 }
 
 /// An answer with the number of its statement's first line, if it's ABEND or REFUSED.

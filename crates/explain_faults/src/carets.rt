@@ -121,7 +121,7 @@ pub(crate) fn field_over(
 }
 
 /// The column of the operation on a first line, from 1; after its name if it has none.
-fn operation_column(card: &[u8]) -> usize
+pub(crate) fn operation_column(card: &[u8]) -> usize
     ensures { 0 < length (after_blanks (after_word card.now))
         → result ≡ length card.now - length (after_blanks (after_word card.now)) + 1 }
 {

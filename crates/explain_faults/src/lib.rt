@@ -11,6 +11,7 @@ mod laws;
 pub mod lines;
 mod missing;
 mod operand_hints;
+pub mod operand_places;
 mod operands;
 pub mod roles;
 pub mod stands;

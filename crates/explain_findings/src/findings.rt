@@ -1,10 +1,11 @@
 //! What is found.
-ghost use Rattle.std.specs.Prelude.{◌≡◌, option_copied};
+ghost use Rattle.std.specs.Prelude.{◌≡◌, ℕ, None, option_copied};
 ghost use Rattle.explain_findings.specs.Found.{is_something};
 ghost use Rattle.explain_findings.specs.Tables.{found_on};
 
 use crate::homes::Home;
 use crate::tables::LineTable;
+use std::alloc::Global;
 
 /// Bytes that are stored or read outside of the area or the cell of the first one.
 #[derive(Drop)]
@@ -52,6 +53,16 @@ pub struct Findings {
 }
 
 impl Findings {
+    /// Nothing is found. Takes no memory.
+    pub fn nothing(alloc: Global) -> Findings
+        ensures { (line : ℕ) → found_on result line ≡ None }
+    {
+        Findings {
+            statements: LineTable::new(alloc),
+            readings: LineTable::new(alloc),
+        }
+    }
+
     /// What is found of the statement that begins on a line, if something is.
     pub fn on(&self, line: u32) -> Option<&Finding>
         ensures { option_copied result ≡ found_on self.now line }

@@ -6,7 +6,7 @@ pub loop-i-init : goal.loop-i-init
 loop-i-init g c = checks_no c.args.name.now _ _
 
 pub loop-i-preserved : goal.loop-i-preserved
-loop-i-preserved g c = checks_each c.args.name.now [] [] [] [] _ _ _ _ _ _ c.loop-i.invariant c.put_warned_check.ensures
+loop-i-preserved g c = checks_each c.args.name.now [] [] [] [] [] [] _ _ _ _ _ _ c.loop-i.invariant c.put_warned_check.ensures
 
 pub returns-in-None : goal.returns-in-None
 returns-in-None g c = c.loop-i.invariant

@@ -1,9 +1,10 @@
 use Rattle.std.proofs.Common.{◌≡◌, ◌≤◌, ◌+◌, ◌-◌, ◌++◌, ◌∙◌, length, ap, inr, sym, subst, arith}
 use Rattle.macro_statements.specs.Requests.{asked_in}
 use Rattle.bench_core.specs.Stands.{bench_of, settings_in}
+use Rattle.explain_findings.specs.Tables.{found_on}
 use Rattle.explain_list.specs.Pages.{Follow, fault_told, marks_in, open_of, shown_of}
 use Rattle.explain_list.specs.declared.pages.ListingPage.{ListingPage}
-use Rattle.explain_check.proofs.Checks.{checks_page, page_under}
+use Rattle.explain_check.proofs.Checks.{checks_page, page_under, wrong_more}
 use Rattle.explain_list.proofs.Lines.{first_lines, step_follow}
 use Rattle.explain_list.proofs.Marked.{page_marks}
 use Rattle.explain_list.proofs.Rests.{rest_none}
@@ -21,7 +22,9 @@ loop-at-preserved g c =
       place.1.within,
       λ settings first held.
           let h = c.loop-at.invariant.1 settings first held in
-          let script = c.args.script.now in
+          let script = c.args.source.now.script.now in
+          let name = c.args.source.now.name.now in
+          let found = found_on c.args.source.now.findings.now in
           let e = asks settings h.answers h.took in
           let its = c.take_line.new.self in
           let more = whole.1 h.room in
@@ -33,10 +36,11 @@ loop-at-preserved g c =
             answers = h.answers ++ e.0;
             took = e.4;
             listed = h.listed ++ shown_of its;
-            held = checks_page settings c.args.name.now script first _ _ _ _ h.answers e.0 (bench_of c.take_line.new.session.bench) told asked h.listed (shown_of its)
+            held = checks_page settings name script found first _ _ _ _ h.answers e.0 (bench_of c.take_line.new.session.bench) told asked h.listed (shown_of its)
                 (marks_in (shown_of its) its.fault) e.1 e.3 e.4.led (page_marks script (fault_told told) its shown)
-                (page_under settings (settings_in c.bench.result.now) c.args.name.now (marks_in (shown_of its) its.fault) (bench_of c.bench.result.now) (bench_of c.take_line.new.session.bench) asked told _ _ _ _
-                (ap settings_in c.bench.ensures ∙ e.4.under) (ap bench_of c.bench.ensures) c.put_checks.ensures) h.held;
+                (page_under settings (settings_in c.bench-bench.result.now) name found (marks_in (shown_of its) its.fault) (bench_of c.bench-bench.result.now) (bench_of c.take_line.new.session.bench) asked told _ _ _ _
+                (ap settings_in c.bench-bench.ensures ∙ e.4.under) (ap bench_of c.bench-bench.ensures) c.put_page-its.ensures.puts) h.held;
+            wrongs = c.either-wrong.ensures ∙ wrong_more settings found h.answers e.0 told c.loop-at.wrong c.put_page-its.result e.1 h.wrongs c.put_page-its.ensures.wrong;
             follow = step_follow h.listed (shown_of its) (open_of its) (open_of c.loop-at.page) more.0 c.loop-at.at c.in-Ok-Some.step.next more.3 (more.1 ∙ place.0)
                 (ap (λ k. k + 1) more.2 ∙ next) h.follow;
             starts = inr place.1.feed;
@@ -67,6 +71,7 @@ returns-in-Ok-None g c =
             took = takes settings h.answers h.took;
             listed = h.listed;
             held = h.held;
+            wrongs = h.wrongs;
             follow = subst (λ (p : ListingPage). Follow 0 (h.listed ++ open_of p) c.loop-at.at) (sym same) h.follow;
             starts = h.starts;
             lines = page settings h.answers h.took h.starts h.lines;
@@ -78,5 +83,5 @@ returns-in-Ok-None g c =
 pub returns : goal.returns
 returns g c = record {
   checks = c.loop-at.invariant.1;
-  rest = (c.loop-at.invariant.0, rest_none c.args.script.now c.loop-at.at c.loop-at-test.false);
+  rest = (c.loop-at.invariant.0, rest_none c.args.source.now.script.now c.loop-at.at c.loop-at-test.false);
 }

@@ -2,6 +2,7 @@ use Rattle.std.proofs.Common.{◌≤◌, List, [], length, refl, inl, sym, subst
 use Rattle.std.proofs.KnownBytes.{Appends-nil}
 use Rattle.text_output.proofs.Gathering.{empty_holds}
 use Rattle.explain_faults.specs.declared.lines.SourceLine.{SourceLine}
+use Rattle.explain_findings.specs.Tables.{found_on}
 use Rattle.explain_list.specs.Pages.{Follow}
 use Rattle.explain_check.proofs.Checks.{holds_file}
 use Rattle.explain_check.proofs.checking.check_on.Goals as goal
@@ -9,15 +10,17 @@ use Rattle.explain_check.proofs.checking.check_on.Goals as goal
 pub returns-in-Ok : goal.returns-in-Ok
 returns-in-Ok g c = λ new.
     let settings = c.args.settings in
-    let name = c.args.name.now in
-    let script = c.args.script.now in
+    let name = c.args.source.now.name.now in
+    let script = c.args.source.now.script.now in
+    let found = found_on c.args.source.now.findings.now in
     let first = g.W.Write.contents c.args.out.now in
-    let held = holds_file settings name script first _ _ _ _ c.put_file_check.ensures (empty_holds _ _ _ [] c.new-gathered.ensures (Appends-nil _)) in
+    let held = holds_file settings name script found first _ _ _ _ c.put_file_check.ensures (empty_holds _ _ _ [] c.new-gathered.ensures (Appends-nil _)) in
     let checks = c.in-Ok.ensures.checks settings first (record {
       answers = [];
       took = c.new-session.ensures settings new;
       listed = [];
       held = held;
+      wrongs = refl;
       follow = subst (λ ls. Follow 0 ls 0) (sym c.new-page.ensures.open) refl;
       starts = inl refl;
       lines = c.new-page.ensures.lines script;
@@ -28,18 +31,20 @@ returns-in-Ok g c = λ new.
 pub returns-in-Err : goal.returns-in-Err
 returns-in-Err g c = λ new.
     let settings = c.args.settings in
-    let name = c.args.name.now in
-    let script = c.args.script.now in
+    let name = c.args.source.now.name.now in
+    let script = c.args.source.now.script.now in
+    let found = found_on c.args.source.now.findings.now in
     let first = g.W.Write.contents c.args.out.now in
-    let held = holds_file settings name script first _ _ _ _ c.put_file_check.ensures (empty_holds _ _ _ [] c.new-gathered.ensures (Appends-nil _)) in
+    let held = holds_file settings name script found first _ _ _ _ c.put_file_check.ensures (empty_holds _ _ _ [] c.new-gathered.ensures (Appends-nil _)) in
     let checks = c.in-Err.ensures.checks settings first (record {
       answers = [];
       took = c.new-session.ensures settings new;
       listed = [];
       held = held;
+      wrongs = refl;
       follow = subst (λ ls. Follow 0 ls 0) (sym c.new-page.ensures.open) refl;
       starts = inl refl;
       lines = c.new-page.ensures.lines script;
       room = subst (λ (ls : List SourceLine). length ls ≤ 9) (sym c.new-page.ensures.open) (omega arith);
     }) in
-    c.stop.ensures settings script name first checks
+    c.stop.ensures settings script name found first checks
