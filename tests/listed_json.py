@@ -59,6 +59,9 @@ def as_check(it: Object) -> str:
     return f"{it['line']}:{it['column']}: {word}{it['text']}"
 
 
+# What is found of a statement, of which a listing has nothing.
+FOUND = re.compile(r"\d+:\d+: (?:OUTSIDE|STALE|PART): .+")
+
 # An ABEND or REFUSED as `check` has it: its line and column, and the answer with the reason.
 REFUSAL = re.compile(r"(\d+):(\d+): ((?:ABEND|REFUSED) [^:]+): (.+)")
 
@@ -91,9 +94,10 @@ def compare_refusals(programs: Any, file: str, options: list[str], said: list[st
 
 
 def compare_check(check: bytes, programs: Any, script: Any, file: str, found: list[Object]) -> None:
-    """`check` has a line for each fault, dropped line and warning, and for each refusal, by line and then by column."""
+    """`check` has a line for each fault, dropped line and warning, and for each refusal, by line and then by column. What is
+    found of statements is left out."""
     said = [shown(it).removeprefix(file + ":") for it in check.split(b"\n")[:-1]]
-    compare("what is wrong", sorted(it for it in said if not REFUSAL.fullmatch(it)),
+    compare("what is wrong", sorted(it for it in said if not REFUSAL.fullmatch(it) and not FOUND.fullmatch(it)),
             sorted(as_check(it) for it in found if it["kind"] != "answer"))
     places = [tuple(map(int, it.split(":", 2)[:2])) for it in said]
     compare("the order of places", places, sorted(places))
