@@ -1,6 +1,6 @@
 //! Which line took a doubleword last.
-ghost use Rattle.std.specs.Prelude.{◌≡◌, ◌+◌, ◌^◌, ◌<◌, ◌≤◌, ℕ, IfOk, None, OnOk, if◌then◌else◌, nat_le, nat_lt, Some, ◌&&◌};
-ghost use Rattle.std.specs.Prelude.{◌==◌, length, slice_get, vec_len};
+ghost use Rattle.std.specs.Prelude.{◌≡◌, ◌+◌, ◌^◌, ◌<◌, ◌≤◌, ℕ, IfOk, None, OnOk, if◌then◌else◌, nat_le, nat_lt, Some};
+ghost use Rattle.std.specs.Prelude.{◌&&◌, ◌==◌, length, slice_get, vec_len};
 ghost use Rattle.vsm_model.specs.Search.{all_pass};
 ghost use Rattle.explain_findings.specs.LineMaps.{joined, line_in, on_page, page_line};
 ghost use Rattle.explain_findings.specs.Parts.{is_of_one, same_line};
