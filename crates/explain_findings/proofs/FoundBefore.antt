@@ -23,7 +23,7 @@ use Rattle.explain_findings.specs.Accesses.{outside_at}
 use Rattle.explain_findings.specs.Endings.{ended_by, machine_after, name_used, reply_to, stale_name}
 use Rattle.explain_findings.specs.Found.{finding_at, read_outside, reading_finding, released_part, stored_outside}
 use Rattle.explain_findings.specs.Homes.{home_after, home_at}
-use Rattle.explain_findings.specs.Judged.{finding_by, outside_by, part_by, read_by, reading_by, stale_by}
+use Rattle.explain_findings.specs.Judged.{finding_by, outside_by, part_by, read_by, reading_by}
 use Rattle.explain_findings.specs.LineMaps.{line_in}
 use Rattle.explain_findings.specs.NameEndings.{ending_kept}
 use Rattle.explain_findings.specs.Parts.{part_at}
@@ -67,7 +67,11 @@ module _ (settings : Settings) (older : List (ℕ × Act)) (b : Bench) (known : 
   outside_is (free name cell) = refl
   outside_is (delete name) = refl
 
-  stale_is : (name : Option (List ℕ)) → stale_name settings older name ≡ stale_by homes lines (ending_kept known.endings) name
+  abbrev ended : Option (List ℕ) → Option ℕ
+  ended None = None
+  ended (Some name) = ending_kept known.endings name
+
+  stale_is : (name : Option (List ℕ)) → stale_name settings older name ≡ ended name
   stale_is None = refl
   stale_is (Some name) = sym (knows.endings name)
 
@@ -137,7 +141,7 @@ module _ (settings : Settings) (older : List (ℕ × Act)) (b : Bench) (known : 
       })
       ∙ (λ i. record {
         outside = outside_is service i;
-        stale = stale_by homes lines (ending_kept known.endings) (name_used (act x));
+        stale = ended (name_used (act x));
         part = parts i;
       })
       ∙ ap (λ (f : Finding). record f { part = part_kept reply f.part }) (sym is)

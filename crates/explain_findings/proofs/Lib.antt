@@ -17,4 +17,5 @@ mod KeptLines
 mod Carried
 mod FoundBefore
 mod ReadInOrder
+mod Rising
 mod AllFound

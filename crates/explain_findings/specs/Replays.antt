@@ -1,5 +1,5 @@
 -- What is known after some statements in effect, and what was found of them.
-use Rattle.std.specs.Prelude.{◌≡◌, ℕ, Bool, true, false, ◌&&◌, ◌==◌, if◌then◌else◌, Option, Some, None, List, [], ◌∷◌, Ok}
+use Rattle.std.specs.Prelude.{◌≡◌, ℕ, ◌≤◌, Bool, true, false, ◌&&◌, ◌==◌, if◌then◌else◌, Option, Some, None, List, [], ◌∷◌, Ok}
 use Rattle.std.specs.Prelude.{map, reverse, take}
 use Rattle.std.specs.List.{list_any}
 use Rattle.bench_core.specs.Machine.{service_asked}
@@ -167,6 +167,15 @@ abbrev pub AreRead : Settings → List (ℕ × Act) → List ReadingKept → Lin
 AreRead settings xs readings t =
     (line : ℕ) → on_table t line ≡ on_line (judged_readings settings xs (reverse (map reading_in readings))) line
 
+-- The PEEKs come after as many statements as each says, in their order; none comes before as many as the first number,
+-- or after more than the last.
+abbrev pub Rises : ℕ → List ℕ → ℕ → Type 0
+Rises low [] high = Unit {0}
+Rises low (d ∷ ds) high = (low ≤ d) × (d ≤ high) × Rises d ds high
+
+abbrev pub depths : List ReadingKept → List ℕ
+depths = map (λ r. r.depth)
+
 -- All of them were judged from the start on.
 abbrev pub ReplaysAll : List (TrailEntry Statement) → List ReadingKept → Replay → Replay → Type 0
 ReplaysAll entries readings r s =
@@ -181,6 +190,10 @@ pub record IsNothingFound (r : Replay) : Type 0 where
   pub words : (name : List ℕ) → word_kept r.known.endings name ≡ None
   pub statements : (line : ℕ) → on_table r.found.statements line ≡ None
   pub readings : (line : ℕ) → on_table r.found.readings line ≡ None
+
+-- Some script was followed.
+abbrev pub FollowsSome : Followed → Type 0
+FollowsSome f = (settings : Settings) × (script : List ℕ) × IsFollowedBy settings script f
 
 -- All is found in a script that was followed, by a new bench.
 abbrev pub FindsIn : Followed → Bench → Findings → Type 0

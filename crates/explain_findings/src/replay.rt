@@ -8,8 +8,8 @@ ghost use Rattle.vsm_model.specs.Standing.{Accepted};
 ghost use Rattle.explain_areas.specs.Followed.{taken_in};
 ghost use Rattle.explain_findings.specs.Found.{AreFound};
 ghost use Rattle.explain_findings.specs.LineMaps.{line_in};
-ghost use Rattle.explain_findings.specs.Replays.{CarriesOut, FindsIn, Follows, GoesOn, GoesTo, IsGiven, IsNothingFound};
-ghost use Rattle.explain_findings.specs.Replays.{Judges, Reads, ReplaysAll};
+ghost use Rattle.explain_findings.specs.Replays.{CarriesOut, FindsIn, Follows, FollowsSome, GoesOn, GoesTo, IsGiven, IsNothingFound};
+ghost use Rattle.explain_findings.specs.Replays.{Judges, Reads, ReplaysAll, Rises, depths};
 ghost use Rattle.explain_findings.specs.Replays.{is_get, is_in, part_kept, with_finding, word_given};
 ghost use Rattle.explain_findings.specs.Tables.{on_table};
 
@@ -294,21 +294,18 @@ fn judge_reading(replay: &mut Replay, reading: &Reading) -> Result<(), AllocErro
     note(&mut replay.found.readings, reading.line, finding)
 }
 
-/// Judges these statements, and PEEKs after as many of them as each says, oldest first. `AllocError`, too, if the PEEKs
-/// aren't in order.
+/// Judges these statements, and PEEKs after as many of them as each says, oldest first.
 fn judge_all(
     alloc: Global,
     replay: &mut Replay,
     entries: &[TrailEntry<Statement>],
     readings: &[Reading],
 ) -> Result<(), AllocError>
+    requires { Rises 0 (depths readings.now) (length entries.now) }
     ensures { OnOk result (ReplaysAll entries.now readings.now replay.old replay.new) }
 {
     let mut done = 0;
     for reading in readings {
-        if reading.depth < done || entries.len() < reading.depth {
-            return Err(AllocError);
-        }
         judge_to(alloc, replay, entries, done, reading.depth)?;
         done = reading.depth;
         judge_reading(replay, reading)?;
@@ -337,6 +334,7 @@ fn start(alloc: Global, bench: Bench) -> Replay
 
 /// What is found in a script that was followed, on a new bench.
 fn find_in(alloc: Global, followed: &Followed, bench: Bench) -> Result<Findings, AllocError>
+    requires { FollowsSome followed.now }
     ensures { IfOk result (FindsIn followed.now bench) }
 {
     let mut replay = start(alloc, bench);
