@@ -1,6 +1,6 @@
 //! What is found.
-ghost use Rattle.std.specs.Prelude.{◌≡◌, ℕ, None, option_map};
-ghost use Rattle.explain_findings.specs.Found.{is_something, nothing_found};
+ghost use Rattle.std.specs.Prelude.{◌≡◌, ℕ, None, option_copied};
+ghost use Rattle.explain_findings.specs.Found.{is_something};
 ghost use Rattle.explain_findings.specs.Tables.{found_on};
 
 use crate::homes::Home;
@@ -65,7 +65,7 @@ impl Findings {
 
     /// What is found of the statement that begins on a line, if something is.
     pub fn on(&self, line: u32) -> Option<&Finding>
-        ensures { option_map (λ f. f.now) result ≡ found_on self.now line }
+        ensures { option_copied result ≡ found_on self.now line }
     {
         match self.statements.on(line) {
             Some(finding) => Some(finding),

@@ -1,6 +1,6 @@
 //! A table of what is found, by lines.
-ghost use Rattle.std.specs.Prelude.{◌≡◌, ◌==◌, ℕ, if◌then◌else◌, None, OnOk, Some};
-ghost use Rattle.explain_findings.specs.Tables.{found_in, on_table};
+ghost use Rattle.std.specs.Prelude.{◌≡◌, ◌==◌, ◌+◌, ◌≤◌, ℕ, if◌then◌else◌, None, OnOk, option_copied};
+ghost use Rattle.std.specs.Prelude.{slice_get, Some, unwrap_or, vec_len};
 
 use crate::findings::Finding;
 use std::alloc::{AllocError, Global};
@@ -10,9 +10,24 @@ use std::alloc::{AllocError, Global};
 pub(crate) struct LineTable {
     found: Vec<Finding>,
     places: Vec<usize>,
+    ghost within: { (line : ℕ) → unwrap_or (slice_get places.items line) 0 ≤ vec_len found },
+}
+
+/// Makes room for the places of a number of lines.
+fn lengthen(places: &mut Vec<usize>, count: usize) -> Result<(), AllocError>
+    ensures room { OnOk result (count ≤ vec_len places.new) }
+    ensures same { (line : ℕ) → unwrap_or (slice_get places.new.items line) 0
+        ≡ unwrap_or (slice_get places.old.items line) 0 }
+{
+    while places.len() < count {
+        places.push(0)?;
+    }
+    Ok(())
 }
 
 impl LineTable {
+    ghost use Rattle.explain_findings.specs.Tables.{on_table};
+
     /// Nothing is found. Takes no memory.
     pub(crate) fn new(alloc: Global) -> LineTable
         ensures { (line : ℕ) → on_table result line ≡ None }
@@ -29,9 +44,7 @@ impl LineTable {
             ≡ (if n == line then Some finding else on_table self.old n)) }
     {
         let at = line as usize;
-        while self.places.len() <= at {
-            self.places.push(0)?;
-        }
+        lengthen(&mut self.places, at + 1)?;
         self.found.push(finding)?;
         self.places[at] = self.found.len();
         Ok(())
@@ -39,7 +52,7 @@ impl LineTable {
 
     /// What is found on a line, if something is.
     pub(crate) fn on(&self, line: u32) -> Option<&Finding>
-        ensures { found_in result ≡ on_table self.now line }
+        ensures { option_copied result ≡ on_table self.now line }
     {
         let place = *self.places.get(line as usize)?;
         if place == 0 {
