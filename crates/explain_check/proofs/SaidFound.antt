@@ -52,10 +52,10 @@ before_next line index found = elim (leb_tells (suc line) index) [
   | inl e ↦ both_if (nat_lt line index) (line == index) (nat_lt line (index + 1)) found
       (inl (e.0, isnt_same line index (λ same. omega (arith, e.1, same)), is_below line (index + 1) (omega (arith, e.1))))
   | inr e ↦ elim (eqb_tells line index) [
-      | inl s ↦ both_if (nat_lt line index) (line == index) (nat_lt line (index + 1)) found (inr (inl (e.0, s.0, is_below line (index + 1) (omega (arith, s.1)))))
-      | inr s ↦ both_if (nat_lt line index) (line == index) (nat_lt line (index + 1)) found
-          (inr (inr (e.0, s.0, isnt_below line (index + 1) (above line index e.1 s.1))))
-    ]
+    | inl s ↦ both_if (nat_lt line index) (line == index) (nat_lt line (index + 1)) found (inr (inl (e.0, s.0, is_below line (index + 1) (omega (arith, s.1)))))
+    | inr s ↦ both_if (nat_lt line index) (line == index) (nat_lt line (index + 1)) found
+        (inr (inr (e.0, s.0, isnt_below line (index + 1) (above line index e.1 s.1))))
+  ]
 ]
 
 -- and if it's on none of them, it's said after them

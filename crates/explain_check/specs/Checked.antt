@@ -1,6 +1,6 @@
 -- What is checked without a listing: a line for each fault and each warning.
-use Rattle.std.specs.Prelude.{◌≡◌, ◌≤◌, ◌⊎◌, ◌||◌, Bool, true, false, List, ℕ, [], ◌∷◌, ◌++◌, length, map, take, nat_lt}
-use Rattle.std.specs.Prelude.{Option, None, Some, Result, Ok, Err}
+use Rattle.std.specs.Prelude.{◌≡◌, ◌≤◌, ◌⊎◌, ◌||◌, Bool, List, ℕ, [], ◌∷◌, ◌++◌, length, map, take, nat_lt}
+use Rattle.std.specs.Prelude.{Option, None, Result, Ok, Err}
 use Rattle.std.specs.Io.KnownBytes.{Appends}
 use Rattle.std.specs.List.{flat_map, AllByRecursion}
 use Rattle.macro_statements.specs.Requests.{Act, Asked}
@@ -69,13 +69,15 @@ AreSaid settings l (m ∷ ms) said =
 
 -- By what is found on lines: pages with exactly these answers and these lines, in their order; and all refusals are
 -- said, and no others.
-abbrev pub AreChecks : Settings → List ℕ → (ℕ → Option Finding) → List Marked → List SourceLine → List CheckPage → Type 0
+abbrev pub AreChecks : Settings → List ℕ → (ℕ → Option Finding) → List Marked → List SourceLine → List CheckPage
+    → Type 0
 AreChecks settings script found answers lines pages =
     (answers_checked pages ≡ answers) × (lines_checked pages ≡ lines)
     × AllByRecursion (IsCheckPage script found) pages
     × AreSaid settings nothing_stands answers (refusals_of (said_in pages))
 
-module _ (settings : Settings) (script name : List ℕ) (found : ℕ → Option Finding) (at_first now : Option (List ℕ)) where
+module _ (settings : Settings) (script name : List ℕ) (found : ℕ → Option Finding) (at_first now : Option (List ℕ))
+  where
   -- The writer holds what is said of these answers and lines, each time after this name and a place, except what is
   -- gathered;
   abbrev pub HoldsChecks : Gathered → List Marked → List SourceLine → Type 0

@@ -1,6 +1,6 @@
 -- What is found of a statement, as a check says it.
 use Rattle.std.specs.Prelude.{ℕ, Bool, false, ◌==◌, ◌||◌, if◌then◌else◌, is_some, nat_lt, List, [], ◌∷◌, ◌++◌, codes}
-use Rattle.std.specs.Prelude.{Option, Some, None, Result, Ok, Err, option_map, unwrap_or}
+use Rattle.std.specs.Prelude.{Option, Some, None, Result, Ok, Err, option_copied, unwrap_or}
 use Rattle.std.specs.Fmt.{decimal}
 use Rattle.vsm_model.specs.Texts.{hexadecimal}
 use Rattle.macro_operands.specs.declared.faults.FaultKind.{FaultKind}
@@ -95,7 +95,7 @@ name_told told asked = name_by (fault_told told) asked
 
 abbrev pub found_to : Answered → List Found
 found_to answered =
-    found_by (name_told answered.told.now (asked_in answered.request.now)) (option_map (λ f. f.now) answered.found)
+    found_by (name_told answered.told.now (asked_in answered.request.now)) (option_copied answered.found)
 
 -- What is found, if it's said on this line of a statement, or if it's said on none of this many.
 abbrev pub if_on : ℕ → ℕ → List Found → List Found

@@ -138,8 +138,9 @@ fn put_caret_check<W: Write>(
     caret: &Caret,
     kind: FaultKind,
 )
-    ensures { (line : SourceLine) → line.number ≡ number → PutsChecks name.now (mark_of line (caret.now, kind) ∷ []) [] []
-        (W.contents writer.old) (W.contents writer.new) gathered.old gathered.new }
+    ensures { (line : SourceLine) → line.number ≡ number
+        → PutsChecks name.now (mark_of line (caret.now, kind) ∷ []) [] [] (W.contents writer.old)
+        (W.contents writer.new) gathered.old gathered.new }
 {
     let mut words = Words::new();
     let hint = one_line(add_hint(&mut words, caret, kind));

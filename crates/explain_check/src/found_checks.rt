@@ -1,5 +1,5 @@
 //! What is found of a statement, a line for each.
-ghost use Rattle.std.specs.Prelude.{◌≡◌, [], ℕ, option_map, unwrap_or};
+ghost use Rattle.std.specs.Prelude.{◌≡◌, [], ℕ, option_copied, option_map, unwrap_or};
 ghost use Rattle.macro_statements.specs.Requests.{act, act_in, asked_in, peek, written_in};
 ghost use Rattle.explain_findings.specs.Endings.{name_used};
 ghost use Rattle.explain_check.specs.Findings.{found_to, found_told, is_wrong, name_told, outside_found};
@@ -24,7 +24,7 @@ pub(crate) fn found_told<'a>(
     findings: &'a Findings,
     told: &Option<(u32, Response)>,
 ) -> Option<&'a Finding>
-    ensures { option_map (λ f. f.now) result ≡ found_told (found_on findings.now) told.now }
+    ensures { option_copied result ≡ found_told (found_on findings.now) told.now }
 {
     match told {
         None => None,
@@ -34,7 +34,7 @@ pub(crate) fn found_told<'a>(
 
 /// Whether OUTSIDE or STALE is found.
 pub(crate) fn is_wrong(found: Option<&Finding>) -> bool
-    ensures { result ≡ is_wrong (option_map (λ f. f.now) found.entry) }
+    ensures { result ≡ is_wrong (option_copied found.entry) }
 {
     match found {
         None => false,

@@ -17,7 +17,7 @@ loop-index-init g c =
       e.1,
       subst (λ fs. PutsChecks c.args.name.now (marks_in [] c.args.page.now.fault) e.0 fs (g.W.Write.contents c.args.writer.now) (g.W.Write.contents c.put_answer_check.new.writer) c.args.gathered.now c.put_answer_check.new.gathered)
           (sym (before_none c.found_place.result.line (found_to c.args.answered.now)))
-      (subst (λ ms. PutsChecks c.args.name.now ms e.0 [] (g.W.Write.contents c.args.writer.now) (g.W.Write.contents c.put_answer_check.new.writer) c.args.gathered.now c.put_answer_check.new.gathered)
+          (subst (λ ms. PutsChecks c.args.name.now ms e.0 [] (g.W.Write.contents c.args.writer.now) (g.W.Write.contents c.put_answer_check.new.writer) c.args.gathered.now c.put_answer_check.new.gathered)
           (marks_none c.args.page.now.fault) e.2),
     )
 
