@@ -6,7 +6,8 @@ use Rattle.explain_list.proofs.pages.ListingPage.show_open.Goals as goal
 
 pub returns-after-as_slice-gt1 : goal.returns-after-as_slice-gt1
 returns-after-as_slice-gt1 c = record {
-  page = λ lines. subst (λ kind. IsPage c.args.script.now kind c.show.new.self) c.brought_by.ensures (c.show.ensures.page (c.hide.ensures.lines c.args.script.now lines));
+  page = λ lines. subst (λ kind. IsPage c.args.script.now kind c.show.new.self) c.brought_by.ensures.fault (c.show.ensures.page (c.hide.ensures.lines c.args.script.now lines));
   whole = shown_some c.show.new.self _ c.show.ensures.last ∙ ap (λ (ls : OpenLines). ls.lines.items) c.show.ensures.lines
       ∙ sym (open_none c.hide.new.self c.hide.ensures.last) ∙ c.hide.ensures.open;
+  carried = ?;
 }

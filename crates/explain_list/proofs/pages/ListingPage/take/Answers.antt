@@ -9,11 +9,25 @@ returns-then-shows c = record {
   page = λ at lines. c.show.ensures.page (c.keep.ensures.lines c.args.script.now at lines);
   whole = λ room. whole_of c.show.new.self ∙ ap (λ (ls : OpenLines). ls.lines.items) c.show.ensures.lines ∙ c.keep.ensures.whole room;
   room = subst (λ (ls : List SourceLine). length ls ≤ 9) (sym (open_some c.show.new.self _ c.show.ensures.last)) (omega arith);
+  keeps = record {
+    whole = λ room. ap (λ (ls : OpenLines). ls.lines.items) c.show.ensures.lines ∙ c.keep.ensures.whole room;
+    shows = λ ends. c.show.ensures.last;
+    goes_on = λ room ends. ?;
+    current = c.show.ensures.current ∙ c.keep.ensures.current;
+    before = c.show.ensures.before ∙ c.keep.ensures.before;
+  };
 }
 
 pub returns-else-shows : goal.returns-else-shows
 returns-else-shows c = record {
   page = λ at lines. plain_page c.args.script.now _ c.keep.new.self (c.keep.ensures.lines c.args.script.now at lines) c.keep.ensures.fault c.keep.ensures.last;
   whole = λ room. whole_of c.keep.new.self ∙ c.keep.ensures.whole room;
-  room = subst (λ (ls : List SourceLine). length ls ≤ 9) (sym (open_none c.keep.new.self c.keep.ensures.last)) (c.shows.ensures c.if-shows.false);
+  room = subst (λ (ls : List SourceLine). length ls ≤ 9) (sym (open_none c.keep.new.self c.keep.ensures.last)) (c.shows.ensures.room c.if-shows.false);
+  keeps = record {
+    whole = c.keep.ensures.whole;
+    shows = λ ends. ?;
+    goes_on = λ room ends. c.keep.ensures.last;
+    current = c.keep.ensures.current;
+    before = c.keep.ensures.before;
+  };
 }
