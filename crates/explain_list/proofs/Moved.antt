@@ -210,7 +210,7 @@ roles_push : (before : ℕ) (m : Mode) (lines : List Line) (l : Line)
 roles_push before m [] l = refl
 roles_push before m (x ∷ lines) l = ap (λ t. role m x ∷ t) (roles_push (before + 1) (moved (number_behind before) m x).0 lines l)
 
-append_same : {X : Type 0} (xs ys zs : List X) → xs ++ ys ≡ xs ++ zs → ys ≡ zs
+pub append_same : {X : Type 0} (xs ys zs : List X) → xs ++ ys ≡ xs ++ zs → ys ≡ zs
 append_same [] ys zs h = h
 append_same (x ∷ xs) ys zs h = append_same xs ys zs (cc)
 

@@ -119,7 +119,7 @@ stand_at_end (Some told) = stand.Gathering
 -- The last line is taken so; without one nothing changes, and nothing is shown.
 abbrev pub KeepsLast : List ℕ → SourceLine → ReaderState → ListingPage → ListingPage → Ending → Type 0
 KeepsLast script line before old new e =
-    ((length script ≤ line.start) × (new.last ≡ None) × (new.current ≡ old.current))
+    ((length script ≤ line.start) × (new.last ≡ None) × (open_of new ≡ open_of old) × (new.current ≡ old.current))
     ⊎ ((line.start < length script)
     × KeepsRole old new line before (stand_at_end e.open_statement) (brought_told e.last))
 

@@ -229,7 +229,7 @@ LacksMark script (line ∷ lines) (Some kind) =
 -- If there is a fault over these lines, there is its caret, and no other.
 abbrev pub AreMarksOf : List ℕ → List SourceLine → Option FaultKind → List Mark → Type 0
 AreMarksOf script lines None [] = Unit {0}
-AreMarksOf script lines kind (mark ∷ []) = (kind ≡ Some mark.kind) × IsMarkAt script lines mark
+AreMarksOf script lines (Some kind) (mark ∷ []) = (kind ≡ mark.kind) × IsMarkAt script lines mark
 AreMarksOf script lines _ _ = ⊥
 
 -- Rows were put in this form, with these lines of the script, of which these aren't carried out, and these carets among
