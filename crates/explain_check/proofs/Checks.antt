@@ -128,6 +128,6 @@ checks_page settings name script first old now before after answers more b told 
     let same = taken_is settings answers more told brings in
     let l = stands_all settings nothing_stands answers in
     subst (λ ms. HoldsChecks settings script name first now after (answers ++ ms) (lines ++ others)) same
-    (holds_checks settings name script first old now before after answers lines others (taken settings more) marks said
+    (holds_checks settings name script first old now before after answers lines others (taken more) marks said
     (subst (λ k. AreMarksOf script others k marks) (fault_is settings answers more told brings) are)
     (subst (λ ms. AreSaid settings l ms said) (sym same) (said_is settings answers more b told asked said brings asks led is)) p h)

@@ -16,7 +16,7 @@ use Rattle.text_output.specs.declared.writing.Gathered.{Gathered}
 use Rattle.explain_faults.specs.declared.lines.SourceLine.{SourceLine}
 use Rattle.explain_list.specs.Pages.{AreAllLines, AreFirstLines, AreLinesOf, Follow, IsLineStart, fault_of, one_of}
 use Rattle.explain_list.specs.Pages.{open_of}
-use Rattle.explain_list.specs.Listing.{AreAnswers, IsNewFault}
+use Rattle.explain_list.specs.Listing.{AreAnswers, Carries, IsNewFault}
 use Rattle.explain_list.specs.Rows.{AreMarksOf, IsLineAt, Mark}
 use Rattle.explain_check.specs.Lines.{CheckLine, IsCheckLine, Said, check_text, fault_at_mark, faults_of}
 use Rattle.explain_check.specs.Lines.{refusal_in, refusals_of}
@@ -117,6 +117,7 @@ pub record Checks (settings : Settings) (script name : List ℕ) (at_first now :
   pub starts : IsLineStart script at
   pub lines : AreLinesOf script page
   pub room : length (open_of page) ≤ 9
+  pub carries : Carries script listed page s.reader.mode
 
 -- It took all of the script, and this is its last line.
 pub record ChecksRest (settings : Settings) (script name : List ℕ) (at_first now : Option (List ℕ)) (g : Gathered)
@@ -130,6 +131,7 @@ pub record ChecksRest (settings : Settings) (script name : List ℕ) (at_first n
   pub ends : line.end ≡ length script
   pub lines : AreLinesOf script page
   pub room : length (open_of page) ≤ 9
+  pub carries : Carries script listed page s.reader.mode
 
 -- A byte of the script passes a bound; what is said of the answers before it is held.
 abbrev pub StopsCheck : Settings → List ℕ → List ℕ → Option (List ℕ) → Option (List ℕ) → Gathered → Type 0

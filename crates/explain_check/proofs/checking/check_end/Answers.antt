@@ -5,6 +5,7 @@ use Rattle.explain_list.specs.Pages.{fault_told, marks_in, shown_of}
 use Rattle.explain_list.proofs.Lines.{end_follow}
 use Rattle.explain_list.proofs.Marked.{page_marks}
 use Rattle.explain_check.proofs.Checks.{checks_page, page_under}
+use Rattle.explain_list.proofs.Steps.{end_page, open_page}
 use Rattle.explain_check.proofs.checking.check_end.Goals as goal
 
 pub returns-in-Ok : goal.returns-in-Ok
@@ -23,12 +24,14 @@ returns-in-Ok g c = λ settings first h.
     let shown = c.take_last.ensures.page h.last h.lines in
     let also = c.show_open.ensures.page shown.lines in
     let all = end_follow script c.args.line c.args.page.now last h.listed (shown_of rest) (c.take_last.ensures.whole h.room) c.show_open.ensures.whole h.follow h.ends h.last.order in
+    let paged = end_page settings script h.answers c.args.session h.listed c.args.page.now last c.args.line c.stand-before.result ending h.took e h.last h.ends h.follow h.carries h.room c.stand-before.ensures c.take_last.ensures.keeps in
+    let opens = open_page settings script h.answers (h.listed ++ shown_of last) last rest ending e paged.carries c.show_open.ensures.whole c.show_open.ensures.carried in
     let one = page_under settings its name (marks_in (shown_of last) last.fault) b b asked ending.last _ _ _ _ under refl c.put_end_checks.ensures in
     let two = page_under settings its name (marks_in (shown_of rest) rest.fault) b b asked ending.open_statement _ _ _ _ under refl c.put_end_checks-2.ensures in
     let held = checks_page settings name script first _ _ _ _ (h.answers ++ e.more) e.also b ending.open_statement asked (h.listed ++ shown_of last) (shown_of rest) (marks_in (shown_of rest) rest.fault)
-    e.unended asks.unended e.led_on (page_marks script (fault_told ending.open_statement) rest also) two
+    e.unended asks.unended e.led_on (page_marks script (fault_told ending.open_statement) rest also opens.1) two
     (checks_page settings name script first _ _ _ _ h.answers e.more b ending.last asked h.listed (shown_of last) (marks_in (shown_of last) last.fault) e.last asks.last e.led
-    (page_marks script (fault_told ending.last) last shown) one h.held) in
+    (page_marks script (fault_told ending.last) last shown paged.whole) one h.held) in
     ((h.answers ++ e.more) ++ e.also, (h.listed ++ shown_of last) ++ shown_of rest, e.ended, all, ap (nat_lt 0) e.counts.1, (held.0, held.1, c.in-Ok.ensures.writes first _ held.2))
 
 pub returns-in-Err : goal.returns-in-Err
@@ -47,11 +50,13 @@ returns-in-Err g c = λ settings first h.
     let shown = c.take_last.ensures.page h.last h.lines in
     let also = c.show_open.ensures.page shown.lines in
     let all = end_follow script c.args.line c.args.page.now last h.listed (shown_of rest) (c.take_last.ensures.whole h.room) c.show_open.ensures.whole h.follow h.ends h.last.order in
+    let paged = end_page settings script h.answers c.args.session h.listed c.args.page.now last c.args.line c.stand-before.result ending h.took e h.last h.ends h.follow h.carries h.room c.stand-before.ensures c.take_last.ensures.keeps in
+    let opens = open_page settings script h.answers (h.listed ++ shown_of last) last rest ending e paged.carries c.show_open.ensures.whole c.show_open.ensures.carried in
     let one = page_under settings its name (marks_in (shown_of last) last.fault) b b asked ending.last _ _ _ _ under refl c.put_end_checks.ensures in
     let two = page_under settings its name (marks_in (shown_of rest) rest.fault) b b asked ending.open_statement _ _ _ _ under refl c.put_end_checks-2.ensures in
     let held = checks_page settings name script first _ _ _ _ (h.answers ++ e.more) e.also b ending.open_statement asked (h.listed ++ shown_of last) (shown_of rest) (marks_in (shown_of rest) rest.fault)
-    e.unended asks.unended e.led_on (page_marks script (fault_told ending.open_statement) rest also) two
+    e.unended asks.unended e.led_on (page_marks script (fault_told ending.open_statement) rest also opens.1) two
     (checks_page settings name script first _ _ _ _ h.answers e.more b ending.last asked h.listed (shown_of last) (marks_in (shown_of last) last.fault) e.last asks.last e.led
-    (page_marks script (fault_told ending.last) last shown) one h.held) in
+    (page_marks script (fault_told ending.last) last shown paged.whole) one h.held) in
     c.write_fault.ensures settings script name first _
     ((h.answers ++ e.more) ++ e.also, (h.listed ++ shown_of last) ++ shown_of rest, inl e.ended, inl all, (held.0, held.1, c.in-Err.ensures.writes first _ held.2))
