@@ -8,7 +8,7 @@ use Rattle.std.proofs.lemmas.Option.{slice_get_past}
 use Rattle.std.specs.List.{AllByRecursion}
 use Rattle.macro_operands.specs.declared.faults.FaultKind.{FaultKind}
 use Rattle.script_steps.proofs.Feeds.{each_push}
-use Rattle.explain_faults.specs.Places.{first_card, further_cards, HasFault, IsCaretOf}
+use Rattle.explain_faults.specs.Places.{first_card, further_cards, HasFault, IsCaretOf, IsHeadPlace}
 use Rattle.explain_faults.specs.declared.carets.Caret.{Caret}
 use Rattle.explain_faults.specs.declared.lines.SourceLine.{SourceLine}
 use Rattle.explain_faults.specs.declared.roles.Role.{Role}
@@ -86,6 +86,7 @@ pub plain_page : (script : List ℕ) (kind : Option FaultKind) (page : ListingPa
 plain_page script kind page lines none last = record {
   lines = lines;
   on = subst (λ f. IfSome f (λ (x : Caret × FaultKind). 0 < length page.lines.lines.items → x.0.place.line < length page.lines.lines.items)) (sym none) tt;
+  head = subst (λ f. IfSome f (λ (x : Caret × FaultKind). IsHeadPlace (first_card script page.lines.lines.items) x.1 x.0.place)) (sym none) tt;
   lacks = λ e. subst (λ ls. LacksMark script ls kind) (sym (shown_none page last)) (none_lacks script kind);
   marks = subst (λ f. IfSome f (λ x. (kind ≡ Some x.1) × IsCaretOf (first_card script page.lines.lines.items) (further_cards script page.lines.lines.items) x.1 x.0)) (sym none) tt;
 }
@@ -150,10 +151,10 @@ got_inside (x ∷ xs) zero inside is = cc
 got_inside (x ∷ xs) (suc i) inside is = got_inside xs i (omega (arith, inside)) is
 
 mark_is : (script : List ℕ) (lines : List SourceLine) (kind : FaultKind) (f : Caret × FaultKind) (o : Option SourceLine) → kind ≡ f.1
-    → IsCaretOf (first_card script lines) (further_cards script lines) f.1 f.0 → f.0.place.line < length lines
+    → IsCaretOf (first_card script lines) (further_cards script lines) f.1 f.0 → IsHeadPlace (first_card script lines) f.1 f.0.place → f.0.place.line < length lines
     → slice_get lines f.0.place.line ≡ o → AreMarksOf script lines (Some kind) (mark_at f o)
-mark_is script lines kind f None its own within on = absurd (got_inside lines f.0.place.line within on)
-mark_is script lines kind f (Some line) its own within on = (its, record { caret = f.0; own = own; on = on; column = refl; width = refl })
+mark_is script lines kind f None its own head within on = absurd (got_inside lines f.0.place.line within on)
+mark_is script lines kind f (Some line) its own head within on = (its, record { caret = f.0; own = own; head = head; on = on; column = refl; width = refl })
 
 never_lacks : (script : List ℕ) (lines : List SourceLine) (kind : FaultKind) → 0 < length lines → HasFault (first_card script lines) (further_cards script lines) kind
     → LacksMark script lines (Some kind) → ⊥
@@ -165,12 +166,13 @@ HasIts script lines kind = IfSome kind (λ k. (0 < length lines) × HasFault (fi
 
 marks_are : (script : List ℕ) (lines : List SourceLine) (kind : Option FaultKind) (fault : Option (Caret × FaultKind)) → HasIts script lines kind
     → IfSome fault (λ f. (kind ≡ Some f.1) × IsCaretOf (first_card script lines) (further_cards script lines) f.1 f.0)
+    → IfSome fault (λ f. IsHeadPlace (first_card script lines) f.1 f.0.place)
     → IfSome fault (λ f. 0 < length lines → f.0.place.line < length lines) → (fault ≡ None → LacksMark script lines kind)
     → AreMarksOf script lines kind (marks_in lines fault)
-marks_are script lines None None has h within lacks = tt
-marks_are script lines None (Some f) has h within lacks = (let bad : None ≡ Some f.1 = h.0 in cc)
-marks_are script lines (Some k) None has h within lacks = absurd (never_lacks script lines k has.0 has.1 (lacks refl))
-marks_are script lines (Some k) (Some f) has h within lacks = (let same : k ≡ f.1 = (let e : Some k ≡ Some f.1 = h.0 in cc) in mark_is script lines k f (slice_get lines f.0.place.line) same h.1 (within has.0) refl)
+marks_are script lines None None has h head within lacks = tt
+marks_are script lines None (Some f) has h head within lacks = (let bad : None ≡ Some f.1 = h.0 in cc)
+marks_are script lines (Some k) None has h head within lacks = absurd (never_lacks script lines k has.0 has.1 (lacks refl))
+marks_are script lines (Some k) (Some f) has h head within lacks = (let same : k ≡ f.1 = (let e : Some k ≡ Some f.1 = h.0 in cc) in mark_is script lines k f (slice_get lines f.0.place.line) same h.1 head (within has.0) refl)
 
 no_marks : (script : List ℕ) (kind : Option FaultKind) (fault : Option (Caret × FaultKind)) → HasIts script [] kind → AreMarksOf script [] kind (marks_in [] fault)
 no_marks script None None has = tt
@@ -184,6 +186,7 @@ page_marks script kind page h w =
       | inl e ↦
           marks_are script (shown_of page) kind page.fault w.has
           (subst (λ ls. IfSome page.fault (λ f. (kind ≡ Some f.1) × IsCaretOf (first_card script ls) (further_cards script ls) f.1 f.0)) (sym e) h.marks)
+          (subst (λ ls. IfSome page.fault (λ f. IsHeadPlace (first_card script ls) f.1 f.0.place)) (sym e) h.head)
           (subst (λ (ls : List SourceLine). IfSome page.fault (λ f. 0 < length ls → f.0.place.line < length ls)) (sym e) h.on) h.lacks
       | inr e ↦
           subst (λ ls. AreMarksOf script ls kind (marks_in ls page.fault)) (sym e) (no_marks script kind page.fault (subst (λ ls. HasIts script ls kind) e w.has))

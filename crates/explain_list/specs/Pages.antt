@@ -15,7 +15,7 @@ use Rattle.script_steps.specs.declared.steps.Step.{Step}
 use Rattle.macro_reader.specs.Roles.{IsStand}
 use Rattle.macro_reader.specs.declared.reading.ReaderState.{ReaderState}
 use Rattle.macro_reader.specs.declared.reading.ReaderState.TheVariants as stand
-use Rattle.explain_faults.specs.Places.{first_card, further_cards, HasFault, IsCaretOf}
+use Rattle.explain_faults.specs.Places.{first_card, further_cards, HasFault, IsCaretOf, IsHeadPlace}
 use Rattle.explain_faults.specs.Roles.{role_in}
 use Rattle.explain_faults.specs.declared.carets.Caret.{Caret}
 use Rattle.explain_faults.specs.declared.lines.SourceLine.{SourceLine}
@@ -164,6 +164,7 @@ pub record IsPage (script : List ℕ) (kind : Option FaultKind) (page : ListingP
   pub marks :
       IfSome page.fault (λ f. (kind ≡ Some f.1)
       × IsCaretOf (first_card script page.lines.lines.items) (further_cards script page.lines.lines.items) f.1 f.0)
+  pub head : IfSome page.fault (λ f. IsHeadPlace (first_card script page.lines.lines.items) f.1 f.0.place)
   pub on :
       IfSome page.fault
       (λ f. 0 < length page.lines.lines.items → f.0.place.line < length page.lines.lines.items)

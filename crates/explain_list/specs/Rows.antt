@@ -13,7 +13,7 @@ use Rattle.macro_operands.specs.declared.faults.FaultKind.{FaultKind}
 use Rattle.script_steps.specs.Responses.{fault_word, response_text}
 use Rattle.script_steps.specs.Script.{NoFeed, with_feed}
 use Rattle.script_steps.specs.declared.responses.Response.{Response}
-use Rattle.explain_faults.specs.Places.{caret_width, first_card, further_cards, line_in, HasFault, IsCaretOf}
+use Rattle.explain_faults.specs.Places.{caret_width, first_card, further_cards, line_in, HasFault, IsCaretOf, IsHeadPlace}
 use Rattle.explain_faults.specs.declared.carets.Caret.{Caret}
 use Rattle.explain_faults.specs.declared.lines.SourceLine.{SourceLine}
 use Rattle.text_output.specs.Writing.{Puts}
@@ -215,6 +215,7 @@ marks_on line (Some f) = mark_of line f ∷ []
 pub record IsMarkAt (script : List ℕ) (lines : List SourceLine) (mark : Mark) : Type 0 where
   pub caret : Caret
   pub own : IsCaretOf (first_card script lines) (further_cards script lines) mark.kind caret
+  pub head : IsHeadPlace (first_card script lines) mark.kind caret.place
   pub on : slice_get lines caret.place.line ≡ Some mark.line
   pub column : mark.place ≡ caret.place.column
   pub width : mark.width ≡ caret_width mark.kind caret

@@ -7,7 +7,7 @@ ghost use Rattle.vsm_model.specs.declared.limits.Settings.{Settings};
 ghost use Rattle.script_steps.specs.Output.{Marked};
 ghost use Rattle.script_steps.specs.Steps.{AsksStep, StepsOver, TakesStep};
 ghost use Rattle.script_steps.specs.Taken.{Took};
-ghost use Rattle.explain_faults.specs.Places.{first_card, further_cards, IsCaretOf};
+ghost use Rattle.explain_faults.specs.Places.{first_card, further_cards, IsCaretOf, IsHeadPlace};
 ghost use Rattle.explain_list.specs.Pages.{AreLinesOf, IsPage, IsPageAfter, TakesLast, TakesLine, line_of};
 ghost use Rattle.explain_list.specs.Pages.{IsLineStart, fault_answered, fault_at, fault_in, fault_told, open_of};
 ghost use Rattle.explain_list.specs.Pages.{KeepsLast, KeepsLine, KeepsRole, KeepsStep, Precedes, brought_for};
@@ -113,6 +113,7 @@ pub fn rest_line(lines: u32, script: &[u8], at: usize) -> SourceLine
 fn place_of(script: &[u8], lines: &OpenLines, kind: FaultKind) -> Option<(Caret, FaultKind)>
     ensures own { IfSome result (λ f. (kind ≡ f.1) × IsCaretOf (first_card script.now lines.now.lines.items)
         (further_cards script.now lines.now.lines.items) f.1 f.0) }
+    ensures head { IfSome result (λ f. IsHeadPlace (first_card script.now lines.now.lines.items) f.1 f.0.place) }
     ensures on { IfSome result (λ f. 0 < length lines.now.lines.items
         → f.0.place.line < length lines.now.lines.items) }
     ensures lacks { result ≡ None → LacksMark script.now lines.now.lines.items (Some kind) }
@@ -127,6 +128,7 @@ fn place_of(script: &[u8], lines: &OpenLines, kind: FaultKind) -> Option<(Caret,
 fn fault_of(script: &[u8], lines: &OpenLines, brought: Brought) -> Option<(Caret, FaultKind)>
     ensures own { IfSome result (λ f. (fault_in brought ≡ Some f.1) × IsCaretOf
         (first_card script.now lines.now.lines.items) (further_cards script.now lines.now.lines.items) f.1 f.0) }
+    ensures head { IfSome result (λ f. IsHeadPlace (first_card script.now lines.now.lines.items) f.1 f.0.place) }
     ensures on { IfSome result (λ f. 0 < length lines.now.lines.items
         → f.0.place.line < length lines.now.lines.items) }
     ensures lacks { result ≡ None → LacksMark script.now lines.now.lines.items (fault_in brought) }
