@@ -1,6 +1,6 @@
 -- What a bench answers is the answer of the plain machine.
 use Rattle.std.proofs.Common.{◌≡◌, ℕ, List, [], ◌∷◌, ◌++◌, length, map, if◌then◌else◌, Bool, Option, Some, None, Result, Ok, Err, refl, sym, ap, ◌∙◌, subst}
-use Rattle.std.specs.List.{flat_map, AllByRecursion}
+use Rattle.std.specs.List.{flat_map}
 use Rattle.macro_operands.specs.declared.faults.FaultKind.{FaultKind}
 use Rattle.macro_statements.specs.Requests.{Act, Asked, IsValidAsked, act, peek, map_asked, back, forward}
 use Rattle.vsm_model.specs.declared.limits.Settings.{Settings}
@@ -28,7 +28,7 @@ use Rattle.explain_list.specs.Pages.{brought_for, brought_told, fault_answered, 
 use Rattle.explain_list.specs.Listing.{ArePageRows, AreNotesTo, IsNoted, paged, is_written, item_text, page_text, HoldsListing, IsItemOf, PutsPage}
 use Rattle.explain_list.specs.Answers.{AreNotes, AreNotesOf, Notes, answer_in}
 use Rattle.explain_list.specs.Causes.{IsCauseFor, IsCauseText}
-use Rattle.explain_list.specs.Rows.{Row, row_in, IsLineAt, IsRowOf}
+use Rattle.explain_list.specs.Rows.{Row, row_in, IsLineAt}
 use Rattle.explain_list.specs.declared.layouts.Layout.{Layout}
 use Rattle.macro_reader.specs.Roles.{Role}
 use Rattle.explain_list.specs.Groups.{IsGroup, is_lost, roles_in}

@@ -5,7 +5,6 @@ use Rattle.std.proofs.lemmas.List.Concat.{flat_map-cons}
 use Rattle.std.proofs.lemmas.Grind.{flat_map-append}
 use Rattle.std.specs.List.{flat_map, AllByRecursion}
 use Rattle.explain_text.specs.declared.json.Form.{Form}
-use Rattle.explain_text.specs.declared.json.Form.TheVariants as form
 use Rattle.macro_operands.specs.declared.faults.FaultKind.{FaultKind}
 use Rattle.script_steps.proofs.Feeds.{each_append}
 use Rattle.text_output.specs.Writing.{Puts}

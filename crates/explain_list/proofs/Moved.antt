@@ -1,5 +1,5 @@
 -- The state of a reader that was fed lines is the one that they move it to, and its answers are those that they make.
-use Rattle.std.proofs.Common.{◌≡◌, ℕ, ◌+◌, ◌-◌, ◌≤◌, ◌⊎◌, ◌==◌, map, Bool, true, false, List, [], ◌∷◌, ◌++◌, length, Option, Some, None, Err, refl, ap, sym, ◌∙◌, append_assoc, arith, inl, inr, add-zero, zero-add}
+use Rattle.std.proofs.Common.{◌≡◌, ℕ, ◌+◌, ◌≤◌, ◌⊎◌, ◌==◌, map, Bool, true, false, List, [], ◌∷◌, ◌++◌, length, Option, Some, None, Err, refl, ap, sym, ◌∙◌, append_assoc, arith, inl, inr, add-zero, zero-add}
 use Rattle.std.specs.List.{flat_map, AllByRecursion}
 use Rattle.std.proofs.lemmas.List.{append-nil}
 use Rattle.std.proofs.lemmas.Bool.{eq-eqb}
@@ -8,7 +8,7 @@ use Rattle.macro_reader.specs.Columns.{Line, used, is_continued, is_skipped}
 use Rattle.macro_reader.specs.Continuation.{Joined, begun, with_line, with_lines}
 use Rattle.macro_statements.specs.Statements.{statement_with}
 use Rattle.macro_operands.specs.declared.faults.FaultKind.TheVariants as kind
-use Rattle.macro_reader.specs.Roles.{Role, role, roles_after}
+use Rattle.macro_reader.specs.Roles.{role, roles_after}
 use Rattle.macro_reader.specs.Scripts.{Answer, number_behind, IsDropping, Part, skipped, whole, broken, IsPart, IsGroup, IsBreak, AllContinued, said_by, lines_of, answer_to, answers_behind, Reads, Between, Mode, awaiting, dropping, gathering, idle_with, gathered_with, behind_break, moved}
 
 abbrev pub mode_after : ℕ → Mode → List Line → Mode
@@ -162,7 +162,6 @@ parts_feed before (p ∷ ps) h =
 
 reads_feed : (lines : List Line) (answers : List Answer) (ps : List Part) → Reads lines answers ps → Feeds 0 awaiting lines awaiting answers
 reads_feed lines answers ps h = rw (h.split, h.told) (parts_feed 0 ps h.each)
-
 
 -- so each state between two lines is that one
 pub between_is : (m : Mode) (lines : List Line) (answers : List Answer) → Between m lines answers

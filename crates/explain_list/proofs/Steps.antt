@@ -1,15 +1,14 @@
 -- The pages of a line that was taken, and of the end of a script.
-use Rattle.std.proofs.Common.{◌≡◌, inl, inr, ℕ, zero, suc, ◌+◌, ◌-◌, ◌<◌, ◌≤◌, ◌&&◌, ◌||◌, ◌==◌, is_none, Bool, true, false, List, [], ◌∷◌, ◌++◌, length, map, replicate, take, drop, Option, Some, None, IfSome, Result, Ok, Err, refl, sym, ap, subst, ◌∙◌, arith}
+use Rattle.std.proofs.Common.{◌≡◌, inl, inr, ℕ, zero, suc, ◌+◌, ◌<◌, ◌≤◌, ◌&&◌, ◌||◌, ◌==◌, is_none, Bool, true, false, List, [], ◌∷◌, ◌++◌, length, map, replicate, take, drop, Option, Some, None, IfSome, Ok, Err, refl, sym, ap, subst, ◌∙◌, arith}
 use Rattle.std.proofs.lemmas.List.{append-nil, length-drop, map-append, map_push}
 use Rattle.std.specs.List.{AllByRecursion}
 use Rattle.script_steps.proofs.Feeds.{each_push}
 use Rattle.vsm_model.specs.declared.limits.Settings.{Settings}
 use Rattle.macro_operands.specs.declared.faults.FaultKind.{FaultKind}
 use Rattle.macro_operands.specs.declared.faults.FaultKind.TheVariants as kind
-use Rattle.macro_statements.specs.Requests.{Asked}
 use Rattle.macro_reader.specs.Columns.{Line, used, is_continued, is_skipped}
 use Rattle.macro_reader.specs.Continuation.{Joined, with_line}
-use Rattle.macro_reader.specs.Roles.{IsStand, Role, breaking, first, further, further_role, gone, role}
+use Rattle.macro_reader.specs.Roles.{IsStand, Role, breaking, first, further, further_role, role}
 use Rattle.macro_reader.specs.Scripts.{Answer, Answers, Between, Mode, awaiting, behind_break, dropping, gathered_with, gathering, idle_with, moved}
 use Rattle.macro_reader.specs.declared.reading.ReaderState.{ReaderState}
 use Rattle.macro_reader.specs.declared.reading.ReaderState.TheVariants as stand
@@ -22,14 +21,14 @@ use Rattle.script_steps.specs.declared.lines.Ending.{Ending}
 use Rattle.script_steps.specs.declared.responses.Response.{Response}
 use Rattle.script_steps.specs.declared.session.Session.{Session}
 use Rattle.script_steps.specs.declared.steps.Step.{Step}
-use Rattle.explain_faults.specs.Places.{first_card, further_cards, is_of_operand, HasFault}
+use Rattle.explain_faults.specs.Places.{first_card, further_cards, HasFault}
 use Rattle.explain_faults.specs.Roles.{brought_by, role_in}
 use Rattle.explain_faults.specs.declared.lines.SourceLine.{SourceLine}
 use Rattle.explain_faults.specs.declared.roles.Brought.{Brought}
 use Rattle.explain_faults.specs.declared.roles.Role as code
-use Rattle.explain_list.specs.Groups.{AreFurther, AreOpen, IsGroup, IsLastTaken, IsRoleBy, fed_of, is_lost, roles_in}
+use Rattle.explain_list.specs.Groups.{AreFurther, AreOpen, IsGroup, IsLastTaken, IsRoleBy, fed_of, roles_in}
 use Rattle.explain_list.specs.Listing.{Carries, Groups}
-use Rattle.explain_list.specs.Pages.{Follow, IsLineStart, IsWholePage, KeepsLast, KeepsLine, KeepsStep, Precedes, brought_told, ends_lost, fault_asked, fault_of, fault_told, line_of, lost_by, open_of, shown_of, stand_at_end}
+use Rattle.explain_list.specs.Pages.{Follow, IsLineStart, IsWholePage, KeepsLast, KeepsLine, KeepsStep, brought_told, ends_lost, fault_asked, fault_of, fault_told, line_of, lost_by, open_of, shown_of, stand_at_end}
 use Rattle.explain_list.specs.Rows.{IsLineAt}
 use Rattle.explain_list.specs.declared.pages.ListingPage.{ListingPage}
 use Rattle.explain_list.proofs.Answered.{brought_is, fault_is, taken}
@@ -37,7 +36,7 @@ use Rattle.explain_list.proofs.Fed.{fed_took, fed_whole, last_fed, no_line, numb
 use Rattle.explain_list.proofs.Lines.{each_plain, follow_more, step_line}
 use Rattle.explain_list.proofs.Marked.{shown_none}
 use Rattle.explain_list.proofs.Moved.{Moves, append_same, fed_none, line_moves, none_moves}
-use Rattle.explain_list.proofs.Turns.{Stepped, few_of, none_last, open_plain, stepped, whole_page}
+use Rattle.explain_list.proofs.Turns.{few_of, none_last, open_plain, stepped, whole_page}
 
 -- What is shown after a line, or at the end, and what is kept for the lines after it.
 pub record Paged (script : List ℕ) (listed : List SourceLine) (new : ListingPage) (mode : Mode) (told : Option (ℕ × Response)) (more : List Marked) : Type 0 where

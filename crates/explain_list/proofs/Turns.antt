@@ -1,5 +1,5 @@
 -- What a page shows after a line, by what the line is to the script's reader.
-use Rattle.std.proofs.Common.{◌≡◌, ◌⊎◌, inl, inr, ℕ, zero, suc, ◌+◌, ◌<◌, ◌≤◌, ◌&&◌, ◌||◌, ◌==◌, Bool, true, false, is_none, List, [], ◌∷◌, ◌++◌, length, map, drop, replicate, take, Option, Some, None, IfSome, Result, Ok, Err, refl, sym, ap, subst, ◌∙◌, arith, append_assoc, length-append, take-take, take_all}
+use Rattle.std.proofs.Common.{◌≡◌, ◌⊎◌, inl, inr, ℕ, zero, suc, ◌+◌, ◌<◌, ◌≤◌, ◌&&◌, ◌||◌, ◌==◌, Bool, true, false, is_none, List, [], ◌∷◌, ◌++◌, length, map, replicate, take, Option, Some, None, IfSome, Result, Ok, Err, refl, sym, ap, subst, ◌∙◌, arith, append_assoc, length-append, take-take, take_all}
 use Rattle.std.proofs.lemmas.Bool.{cases_lt}
 use Rattle.std.proofs.lemmas.Bool.Decides.{eqb_tells}
 use Rattle.std.proofs.lemmas.List.{append-nil, length_push, length-map, length-take-le, map-append, map_push, take-append-le}
@@ -10,8 +10,8 @@ use Rattle.macro_statements.specs.Requests.{Asked}
 use Rattle.macro_statements.specs.Statements.{statement_with}
 use Rattle.macro_reader.specs.Columns.{Line, used, is_continued, is_skipped}
 use Rattle.macro_reader.specs.Continuation.{Joined, begun, with_line, with_lines}
-use Rattle.macro_reader.specs.Roles.{Role, aside, first, further, breaking, gone, first_role, further_role, role, roles_after}
-use Rattle.macro_reader.specs.Scripts.{Answer, Between, Gathers, Mode, awaiting, dropping, gathering, gathered_with, idle_with, behind_break, lines_of, moved}
+use Rattle.macro_reader.specs.Roles.{Role, first, further, breaking, gone, first_role, further_role, role, roles_after}
+use Rattle.macro_reader.specs.Scripts.{Answer, Between, Mode, awaiting, dropping, gathering, gathered_with, idle_with, behind_break, lines_of, moved}
 use Rattle.script_steps.specs.Output.{Marked}
 use Rattle.script_steps.specs.Taken.{answers_of}
 use Rattle.script_steps.proofs.Feeds.{each_push}
@@ -22,12 +22,12 @@ use Rattle.explain_faults.specs.declared.roles.Brought.{Brought}
 use Rattle.explain_faults.specs.declared.roles.Role as code
 use Rattle.explain_list.specs.Groups.{AreFurther, AreOpen, IsGroup, IsLastTaken, brings, ends_by, fed_of, is_lost, roles_in}
 use Rattle.explain_list.specs.Listing.{Carries, Groups}
-use Rattle.explain_list.specs.Pages.{IsWholePage, KeepsLine, Precedes, ends_lost, fault_asked, fault_of, losses_shown, lost_by, open_of, shown_of}
+use Rattle.explain_list.specs.Pages.{IsWholePage, KeepsLine, Precedes, ends_lost, fault_asked, fault_of, lost_by, open_of, shown_of}
 use Rattle.explain_list.specs.Rows.{IsLineAt}
 use Rattle.explain_list.specs.declared.pages.ListingPage.{ListingPage}
 use Rattle.explain_list.proofs.Answered.{taken}
 use Rattle.explain_list.proofs.Marked.{lost_push, open_none, open_some, shown_none, shown_some}
-use Rattle.explain_list.proofs.Moved.{Moves, fed_none}
+use Rattle.explain_list.proofs.Moved.{Moves}
 
 -- ---- whether a line is the last that is listed together with others
 

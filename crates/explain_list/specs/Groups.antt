@@ -1,5 +1,5 @@
 -- What the lines of a script are to its reader, and which of them are listed together.
-use Rattle.std.specs.Prelude.{◌≡◌, ◌+◌, ℕ, Bool, true, false, List, [], ◌∷◌, ◌++◌, Option, Some, None, length, map}
+use Rattle.std.specs.Prelude.{◌≡◌, ◌+◌, ℕ, Bool, true, false, List, [], ◌∷◌, Option, Some, None, length, map}
 use Rattle.std.specs.Prelude.{replicate, take}
 use Rattle.macro_reader.specs.Columns.{Line}
 use Rattle.macro_reader.specs.Roles.{IsStand, Role, aside, breaking, first, further, gone, role, roles_after}

@@ -1,7 +1,7 @@
 -- The rows of a listing around its answers: each a line of text, or an object of JSON.
-use Rattle.std.specs.Prelude.{◌≡◌, ◌≤◌, ◌<◌, ◌⊎◌, ℕ, ◌+◌, ◌-◌, min, List, [], ◌∷◌, ◌++◌, length, take, drop, codes}
+use Rattle.std.specs.Prelude.{◌≡◌, ◌≤◌, ◌⊎◌, ℕ, ◌+◌, ◌-◌, min, List, [], ◌∷◌, ◌++◌, length, take, drop, codes}
 use Rattle.std.specs.Prelude.{if◌then◌else◌, nat_lt, slice_get, slice_index, slice_index_or, Some, None}
-use Rattle.std.specs.Prelude.{Bool, Option, false, map, replicate, true}
+use Rattle.std.specs.Prelude.{Bool, Option, false, replicate, true}
 use Rattle.std.specs.Fmt.{decimal}
 use Rattle.std.specs.List.{flat_map, AllByRecursion}
 use Rattle.explain_text.specs.Columns.{column}

@@ -1,4 +1,4 @@
-use Rattle.std.proofs.Common.{◌≡◌, ◌∙◌, [], ◌++◌, if◌then◌else◌, length, unwrap_or, sym, ap, subst}
+use Rattle.std.proofs.Common.{◌∙◌, [], ◌++◌, if◌then◌else◌, length, unwrap_or, sym, ap, subst}
 use Rattle.std.specs.List.{flat_map}
 use Rattle.bench_core.specs.Stands.{bench_of, settings_in}
 use Rattle.text_output.specs.Writing.{Puts}
