@@ -36,7 +36,7 @@ AreFurther (further ∷ roles) = AreFurther roles
 AreFurther (breaking ∷ []) = Unit {0}
 AreFurther _ = ⊥
 
--- What is listed together: the lines of a statement, and its answer; a comment, an empty line or a dropped line, without
+-- What is listed together: the lines of a statement, with its answer; one comment, empty line or dropped line, without
 -- an answer; or no line and no answer.
 abbrev pub IsGroup : List Role → Option Marked → Type 0
 IsGroup [] None = Unit {0}

@@ -1,6 +1,6 @@
 -- A listing: the lines of a script with what is said of them, and among them each answer of a run.
-use Rattle.std.specs.Prelude.{◌≡◌, ◌<◌, ◌≤◌, ◌⊎◌, ℕ, Bool, true, false, List, [], ◌∷◌, ◌++◌, length, map, take, drop, codes}
-use Rattle.std.specs.Prelude.{nat_lt, not, ◌||◌, if◌then◌else◌, Option, Some, None, Result, Ok, Err}
+use Rattle.std.specs.Prelude.{◌≡◌, ◌<◌, ◌≤◌, ◌⊎◌, ℕ, Bool, true, false, List, [], ◌∷◌, ◌++◌, length, map, take, drop}
+use Rattle.std.specs.Prelude.{codes, nat_lt, not, ◌||◌, if◌then◌else◌, Option, Some, None, Result, Ok, Err}
 use Rattle.std.specs.Io.KnownBytes.{Appends}
 use Rattle.std.specs.List.{flat_map, AllByRecursion}
 use Rattle.explain_text.specs.Json.{json_head}
@@ -275,8 +275,8 @@ Listed layout settings script at_first now (Err fault.Write) = ListsFront layout
 Listed layout settings script at_first now (Err fault.Memory) = ListsFront layout settings script at_first now
 Listed layout settings script at_first now (Err (fault.New f)) = IsNewFault settings f × Appends at_first now []
 
--- A page is put, with these lines of the script among its rows, of which these aren't carried out, and this answer, if any, to a statement that asked for
--- this, when these bytes are shown.
+-- A page is put, with these lines of the script among its rows, of which these aren't carried out, and this answer, if
+-- any, to a statement that asked for this, when these bytes are shown.
 abbrev pub PutsPage : Layout → List ℕ → Settings → Bench NamedState → List ℕ → List SourceLine → List Bool
     → Option (ℕ × Response) → Asked → Option (List ℕ) → Option (List ℕ) → Gathered → Gathered → Type 0
 PutsPage layout script settings b bytes lines losses told asked old new before after =

@@ -82,7 +82,8 @@ pub record KeepsLine (old new : ListingPage) (line : SourceLine) (its : Role) (b
   pub before : new.before ≡ old.current
 
 -- The role is the line's, by the reader's states before and after it.
-pub record KeepsRole (old new : ListingPage) (line : SourceLine) (before after : ReaderState) (b : Brought) : Type 0 where
+pub record KeepsRole (old new : ListingPage) (line : SourceLine) (before after : ReaderState) (b : Brought)
+    : Type 0 where
   pub its : Role
   pub own : IsRoleBy before after b its
   pub kept : KeepsLine old new line its b

@@ -13,7 +13,8 @@ use Rattle.macro_operands.specs.declared.faults.FaultKind.{FaultKind}
 use Rattle.script_steps.specs.Responses.{fault_word, response_text}
 use Rattle.script_steps.specs.Script.{NoFeed, with_feed}
 use Rattle.script_steps.specs.declared.responses.Response.{Response}
-use Rattle.explain_faults.specs.Places.{caret_width, first_card, further_cards, line_in, HasFault, IsCaretOf, IsHeadPlace}
+use Rattle.explain_faults.specs.Places.{caret_width, first_card, further_cards, line_in, HasFault, IsCaretOf}
+use Rattle.explain_faults.specs.Places.{IsHeadPlace}
 use Rattle.explain_faults.specs.declared.carets.Caret.{Caret}
 use Rattle.explain_faults.specs.declared.lines.SourceLine.{SourceLine}
 use Rattle.text_output.specs.Writing.{Puts}

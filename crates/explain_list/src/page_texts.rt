@@ -27,8 +27,9 @@ fn put_rows<W: Write>(
     script: &[u8],
 )
     ensures { (kind : Option FaultKind) → IsPage script.now kind page.now → IsWholePage script.now kind page.now
-        → PutsRows form script.now (shown_of page.now) (losses_shown page.now) (marks_in (shown_of page.now) page.now.fault)
-        (W.contents writer.old) (W.contents writer.new) gathered.old gathered.new }
+        → PutsRows form script.now (shown_of page.now) (losses_shown page.now)
+        (marks_in (shown_of page.now) page.now.fault) (W.contents writer.old) (W.contents writer.new) gathered.old
+        gathered.new }
 {
     let lines = page.lines();
     for index in 0..lines.len() {
@@ -58,8 +59,8 @@ pub(crate) fn put_page<W: Write>(
     ensures { IsPage script.now (fault_told answered.now.told.now) page.now
         → IsWholePage script.now (fault_told answered.now.told.now) page.now → IsLineAt script.now answered.now.last
         → PutsPage layout script.now (settings_in answered.now.bench.now) (bench_of answered.now.bench.now)
-        answered.now.shown.now (shown_of page.now) (losses_shown page.now) answered.now.told.now (asked_in answered.now.request.now)
-        (W.contents writer.old) (W.contents writer.new) gathered.old gathered.new }
+        answered.now.shown.now (shown_of page.now) (losses_shown page.now) answered.now.told.now
+        (asked_in answered.now.request.now) (W.contents writer.old) (W.contents writer.new) gathered.old gathered.new }
 {
     if is_written(layout, answered.told) {
         put_rows(layout.form, gathered, writer, page, script);
@@ -83,8 +84,8 @@ pub(crate) fn put_ending<W: Write>(
     ensures { IsPage script.now (fault_told told.now) page.now
         → IsWholePage script.now (fault_told told.now) page.now → IsLineAt script.now line
         → PutsPage layout script.now (settings_in ending.now.bench) (bench_of ending.now.bench)
-        ending.now.shown.items (shown_of page.now) (losses_shown page.now) told.now (asked_in request.now) (W.contents writer.old)
-        (W.contents writer.new) gathered.old gathered.new }
+        ending.now.shown.items (shown_of page.now) (losses_shown page.now) told.now (asked_in request.now)
+        (W.contents writer.old) (W.contents writer.new) gathered.old gathered.new }
 {
     let answered = Answered {
         alloc: page.alloc(),

@@ -168,8 +168,8 @@ fn put_own_text<W: Write>(
     lost: Option<SourceLine>,
 )
     ensures { IsLineAt script.now line.now → IfSome lost (IsLineBefore script.now line.now)
-        → PutsRows Form.Text script.now (line.now ∷ []) (is_some lost ∷ []) [] (W.contents writer.old) (W.contents writer.new) gathered.old
-        gathered.new }
+        → PutsRows Form.Text script.now (line.now ∷ []) (is_some lost ∷ []) []
+        (W.contents writer.old) (W.contents writer.new) gathered.old gathered.new }
 {
     match lost {
         Some(before) => put_lost(gathered, writer, script, line, &before),
@@ -186,8 +186,8 @@ fn put_own_object<W: Write>(
     lost: Option<SourceLine>,
 )
     ensures { IsLineAt script.now line.now → IfSome lost (IsLineBefore script.now line.now)
-        → PutsRows Form.Json script.now (line.now ∷ []) (is_some lost ∷ []) [] (W.contents writer.old) (W.contents writer.new) gathered.old
-        gathered.new }
+        → PutsRows Form.Json script.now (line.now ∷ []) (is_some lost ∷ []) []
+        (W.contents writer.old) (W.contents writer.new) gathered.old gathered.new }
 {
     if let Some(before) = lost {
         put_dropped_object(
@@ -210,8 +210,8 @@ fn put_own_row<W: Write>(
     lost: Option<SourceLine>,
 )
     ensures { IsLineAt script.now line.now → IfSome lost (IsLineBefore script.now line.now)
-        → PutsRows form script.now (line.now ∷ []) (is_some lost ∷ []) [] (W.contents writer.old) (W.contents writer.new) gathered.old
-        gathered.new }
+        → PutsRows form script.now (line.now ∷ []) (is_some lost ∷ []) []
+        (W.contents writer.old) (W.contents writer.new) gathered.old gathered.new }
 {
     match form {
         Form::Text => put_own_text(gathered, writer, script, line, lost),
@@ -357,7 +357,8 @@ pub(crate) fn put_line_rows<W: Write>(
     fault: Option<(&Caret, FaultKind)>,
 )
     ensures { IsLineAt script.now line.now → IfSome lost (IsLineBefore script.now line.now)
-        → PutsRows form script.now (line.now ∷ []) (is_some lost ∷ []) (marks_on line.now (option_map (λ f. (f.0.now, f.1)) fault.entry))
+        → PutsRows form script.now (line.now ∷ []) (is_some lost ∷ [])
+        (marks_on line.now (option_map (λ f. (f.0.now, f.1)) fault.entry))
         (W.contents writer.old) (W.contents writer.new) gathered.old gathered.new }
 {
     put_own_row(form, gathered, writer, script, line, lost);
