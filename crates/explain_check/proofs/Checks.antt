@@ -169,7 +169,7 @@ checks_page settings name script found first old now before after answers more b
     let same = taken_is settings answers more told brings in
     let l = stands_all settings nothing_stands answers in
     subst (λ ms. HoldsChecks settings script name found first now after (answers ++ ms) (lines ++ others)) same
-    (holds_checks settings name script found first old now before after answers lines others (taken settings more) marks said
+    (holds_checks settings name script found first old now before after answers lines others (taken more) marks said
     (subst (λ k. AreMarksOf script others k marks) (fault_is settings answers more told brings) are)
     (subst (λ ms. AreSaid settings l ms said) (sym same) (said_is settings answers more b told asked said brings asks led is))
     (subst (λ fs. PutsChecks name marks said fs old now before after) (found_is settings found answers more told asked brings asks) p) h)

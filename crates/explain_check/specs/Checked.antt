@@ -18,7 +18,7 @@ use Rattle.text_output.specs.declared.writing.Gathered.{Gathered}
 use Rattle.explain_faults.specs.declared.lines.SourceLine.{SourceLine}
 use Rattle.explain_list.specs.Pages.{AreAllLines, AreFirstLines, AreLinesOf, Follow, IsLineStart, fault_of, one_of}
 use Rattle.explain_list.specs.Pages.{open_of}
-use Rattle.explain_list.specs.Listing.{AreAnswers, IsNewFault}
+use Rattle.explain_list.specs.Listing.{AreAnswers, Carries, IsNewFault}
 use Rattle.explain_list.specs.Rows.{AreMarksOf, IsLineAt, Mark}
 use Rattle.explain_findings.specs.Found.{finding_on}
 use Rattle.explain_findings.specs.Tables.{found_on}
@@ -160,6 +160,7 @@ pub record Checks (settings : Settings) (script name : List ℕ) (found : ℕ �
   pub starts : IsLineStart script at
   pub lines : AreLinesOf script page
   pub room : length (open_of page) ≤ 9
+  pub carries : Carries script listed page s.reader.mode
 
 -- It took all of the script, and this is its last line.
 pub record ChecksRest (settings : Settings) (script name : List ℕ) (found : ℕ → Option Finding)
@@ -175,6 +176,7 @@ pub record ChecksRest (settings : Settings) (script name : List ℕ) (found : �
   pub ends : line.end ≡ length script
   pub lines : AreLinesOf script page
   pub room : length (open_of page) ≤ 9
+  pub carries : Carries script listed page s.reader.mode
 
 -- A byte of the script passes a bound; what is said of the answers before it is held.
 abbrev pub StopsCheck : Settings → List ℕ → List ℕ → (ℕ → Option Finding) → Option (List ℕ) → Option (List ℕ)

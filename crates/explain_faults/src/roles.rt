@@ -28,11 +28,6 @@ impl Role {
     pub fn is_of_statement(self) -> bool {
         !matches!(self, Role::Aside)
     }
-
-    /// Whether the line isn't carried out.
-    pub fn is_lost(self) -> bool {
-        matches!(self, Role::Breaking | Role::Gone)
-    }
 }
 
 /// What a line brings.

@@ -1,6 +1,6 @@
 -- What a bench answers is the answer of the plain machine.
-use Rattle.std.proofs.Common.{◌≡◌, ℕ, List, [], ◌∷◌, ◌++◌, length, if◌then◌else◌, Bool, Option, Some, None, Result, Ok, Err, refl, sym, ap, ◌∙◌, subst}
-use Rattle.std.specs.List.{flat_map, AllByRecursion}
+use Rattle.std.proofs.Common.{◌≡◌, ℕ, List, [], ◌∷◌, ◌++◌, length, map, if◌then◌else◌, Bool, Option, Some, None, Result, Ok, Err, refl, sym, ap, ◌∙◌, subst}
+use Rattle.std.specs.List.{flat_map}
 use Rattle.macro_operands.specs.declared.faults.FaultKind.{FaultKind}
 use Rattle.macro_statements.specs.Requests.{Act, Asked, IsValidAsked, act, peek, map_asked, back, forward}
 use Rattle.vsm_model.specs.declared.limits.Settings.{Settings}
@@ -22,12 +22,16 @@ use Rattle.script_steps.proofs.Standings.{stands_for, stands_push}
 use Rattle.text_output.specs.Writing.{Puts}
 use Rattle.text_output.specs.declared.writing.Gathered.{Gathered}
 use Rattle.explain_faults.specs.declared.lines.SourceLine.{SourceLine}
-use Rattle.explain_list.specs.Pages.{fault_answered, fault_asked, fault_of, fault_told, one_of}
+use Rattle.explain_faults.specs.Roles.{brought_as, brought_by}
+use Rattle.explain_faults.specs.declared.roles.Brought.TheVariants as brought
+use Rattle.explain_list.specs.Pages.{brought_for, brought_told, fault_answered, fault_asked, fault_of, fault_told, one_of}
 use Rattle.explain_list.specs.Listing.{ArePageRows, AreNotesTo, IsNoted, paged, is_written, item_text, page_text, HoldsListing, IsItemOf, PutsPage}
 use Rattle.explain_list.specs.Answers.{AreNotes, AreNotesOf, Notes, answer_in}
 use Rattle.explain_list.specs.Causes.{IsCauseFor, IsCauseText}
-use Rattle.explain_list.specs.Rows.{Row, row_in, IsLineAt, IsRowOf}
+use Rattle.explain_list.specs.Rows.{Row, row_in, IsLineAt}
 use Rattle.explain_list.specs.declared.layouts.Layout.{Layout}
+use Rattle.macro_reader.specs.Roles.{Role}
+use Rattle.explain_list.specs.Groups.{IsGroup, is_lost, roles_in}
 use Rattle.explain_list.proofs.Items.{holds_item}
 
 -- the text of a response to a call is the same whatever is shown
@@ -49,6 +53,11 @@ reading_text : (r : Result (List ℕ) Why) (bytes : List ℕ) → AreShown r byt
 reading_text (Ok read) bytes h = ap (λ xs. response_text xs response.Shown) h
 reading_text (Err why) bytes h = refl
 
+-- the answer that is reported
+abbrev pub taken : List Marked → Option Marked
+taken [] = None
+taken (m ∷ ms) = Some m
+
 module _ (settings : Settings) where
   shown_text_is : (l : Standing Act Reply) (unmet : Bool) (what : Result Asked FaultKind) (bytes : List ℕ) → ShowsRead settings l what bytes
       → response_text bytes (responded settings l unmet what) ≡ response_text (bytes_shown settings l what) (responded settings l unmet what)
@@ -58,11 +67,6 @@ module _ (settings : Settings) where
   shown_text_is l unmet (Ok map_asked) bytes h = refl
   shown_text_is l unmet (Ok (back n)) bytes h = call_text (Back n) _ _ bytes []
   shown_text_is l unmet (Ok (forward n)) bytes h = call_text (Forward n) _ _ bytes []
-
-  -- the answers that are reported
-  abbrev pub taken : List Marked → Option Marked
-  taken [] = None
-  taken (m ∷ ms) = Some m
 
   pub taken_is : (answers more : List Marked) (told : Option (ℕ × Response)) → Brings settings answers more told → one_of (taken more) ≡ more
   taken_is answers [] None brings = refl
@@ -135,6 +139,29 @@ module _ (settings : Settings) where
   fault_is answers (m ∷ []) None brings = absurd brings
   fault_is answers (m ∷ n ∷ ms) None brings = absurd brings
   fault_is answers (m ∷ n ∷ ms) (Some told) brings = absurd brings
+
+  -- and what its line brings
+  brought_other : (r : Response) → fault_answered r ≡ None → brought_for r ≡ brought.Answer
+  brought_other (response.Replied x) e = refl
+  brought_other (response.Refused x) e = refl
+  brought_other response.Shown e = refl
+  brought_other (response.Kept n) e = refl
+  brought_other (response.TooFar n) e = refl
+  brought_other (response.TooFarAhead n) e = refl
+  brought_other response.Map e = refl
+  brought_other (response.Fault k) e = cc
+
+  asked_brings : (l : Standing Act Reply) (unmet : Bool) (what : Result Asked FaultKind) → brought_for (responded settings l unmet what) ≡ brought_as what
+  asked_brings l unmet (Err kind) = refl
+  asked_brings l unmet (Ok x) = brought_other (responded settings l unmet (Ok x)) (asked_fault l unmet (Ok x))
+
+  pub brought_is : (answers more : List Marked) (told : Option (ℕ × Response)) → Brings settings answers more told → brought_told told ≡ brought_by (answers_of more)
+  brought_is answers [] None brings = refl
+  brought_is answers (m ∷ []) (Some told) brings = ap brought_for brings.1 ∙ asked_brings (stands_all settings nothing_stands answers) m.unmet m.answer.what
+  brought_is answers [] (Some told) brings = absurd brings
+  brought_is answers (m ∷ []) None brings = absurd brings
+  brought_is answers (m ∷ n ∷ ms) None brings = absurd brings
+  brought_is answers (m ∷ n ∷ ms) (Some told) brings = absurd brings
 
   -- ---- what a page says of its statement
 
@@ -219,21 +246,23 @@ module _ (settings : Settings) where
 
   -- A listing with the page of a line, or of the end of a script.
   pub holds_page : (layout : Layout) (script : List ℕ) (first old now : Option (List ℕ)) (before after : Gathered) (answers more : List Marked) (b : Bench NamedState) (bytes : List ℕ)
-      (told : Option (ℕ × Response)) (asked : Asked) (lines others : List SourceLine) → Brings settings answers more told → Shows settings answers more bytes
-      → AreAsked asked (answers_of more) → Led settings (answers ++ more) b → PutsPage layout script settings b bytes others told asked old now before after → HoldsListing layout settings script first old before answers lines
+      (told : Option (ℕ × Response)) (asked : Asked) (lines others : List SourceLine) (losses : List Bool) (roles : List Role) → IsGroup roles (taken more) → losses ≡ map is_lost roles
+      → roles_in script (lines ++ others) ≡ roles_in script lines ++ roles → Brings settings answers more told → Shows settings answers more bytes
+      → AreAsked asked (answers_of more) → Led settings (answers ++ more) b → PutsPage layout script settings b bytes others losses told asked old now before after → HoldsListing layout settings script first old before answers lines
       → HoldsListing layout settings script first now after (answers ++ more) (lines ++ others)
-  holds_page layout script first old now before after answers more b bytes told asked lines others brings shows asks led (rows, last, notes, are, have, at, noted, p) h =
-      let held = holds_item layout settings script first old now before after answers lines rows (taken more) last notes (item_is layout script rows last notes (taken more) (subst (λ k. ArePageRows script k rows) (fault_is answers more told brings) are) at)
+  holds_page layout script first old now before after answers more b bytes told asked lines others losses roles together gone split brings shows asks led (rows, last, notes, are, have, lost, at, noted, p) h =
+      let held = holds_item layout settings script first old now before after answers lines rows (taken more) last notes roles (together, lost ∙ gone)
+      (subst (λ ls. roles_in script (lines ++ ls) ≡ roles_in script lines ++ roles) (sym have) split) (item_is layout script rows last notes (taken more) (subst (λ k. ArePageRows script k rows) (fault_is answers more told brings) are) at)
       (noted_is layout.form answers more b told asked notes brings asks led noted)
       (subst (Puts old now before after) (page_is layout script rows last notes answers more b bytes told brings shows led) p) h in
       subst (λ ms. HoldsListing layout settings script first now after (answers ++ ms) (lines ++ others)) (taken_is answers more told brings)
       (subst (λ ls. HoldsListing layout settings script first now after (answers ++ one_of (taken more)) (lines ++ ls)) have held)
 
 -- A page of a bench, by what its functions return.
-pub page_of : (layout : Layout) (script : List ℕ) (lines : List SourceLine) (told : Option (ℕ × Response)) (asked : Asked) (old now : Option (List ℕ)) (before after : Gathered) (s t : Settings)
-    (b c : Bench NamedState) (xs ys : List ℕ) → s ≡ t → b ≡ c → xs ≡ ys → PutsPage layout script s b xs lines told asked old now before after
-    → PutsPage layout script t c ys lines told asked old now before after
-page_of layout script lines told asked old now before after s t b c xs ys e f h p =
-    subst (λ x. PutsPage layout script x c ys lines told asked old now before after) e
-    (subst (λ x. PutsPage layout script s x ys lines told asked old now before after) f
-    (subst (λ x. PutsPage layout script s b x lines told asked old now before after) h p))
+pub page_of : (layout : Layout) (script : List ℕ) (lines : List SourceLine) (losses : List Bool) (told : Option (ℕ × Response)) (asked : Asked) (old now : Option (List ℕ)) (before after : Gathered) (s t : Settings)
+    (b c : Bench NamedState) (xs ys : List ℕ) → s ≡ t → b ≡ c → xs ≡ ys → PutsPage layout script s b xs lines losses told asked old now before after
+    → PutsPage layout script t c ys lines losses told asked old now before after
+page_of layout script lines losses told asked old now before after s t b c xs ys e f h p =
+    subst (λ x. PutsPage layout script x c ys lines losses told asked old now before after) e
+    (subst (λ x. PutsPage layout script s x ys lines losses told asked old now before after) f
+    (subst (λ x. PutsPage layout script s b x lines losses told asked old now before after) h p))

@@ -47,13 +47,13 @@ none_behind script at front (r ∷ rs) inside start cut plain =
           ∙ at_front at (length front + length rs) script (omega (arith, total)) ∙ ap (λ k. get_or script k 0) (sym last) ∙ feed))
     ]
 
-each_plain : (lines : List (List ℕ)) → AllByRecursion IsLine lines → AllByRecursion NoFeed lines
+pub each_plain : (lines : List (List ℕ)) → AllByRecursion IsLine lines → AllByRecursion NoFeed lines
 each_plain [] h = tt
 each_plain (line ∷ lines) h = (h.0.0, each_plain lines h.1)
 
 module _ (settings : Settings) (script : List ℕ) (at : ℕ) (answers : List Marked) (s : Session) where
   -- whole lines precede a line that begins there
-  lines_before : (took : Took settings (take at script) answers s) → IsLineStart script at → at ≤ length script
+  pub lines_before : (took : Took settings (take at script) answers s) → IsLineStart script at → at ≤ length script
       → take at script ≡ flat_map with_feed took.lines
   lines_before took start inside =
       took.within.cut
@@ -93,7 +93,7 @@ module _ (settings : Settings) (script : List ℕ) (at : ℕ) (answers : List Ma
   }
 
 -- lines that follow one another, and another line
-follow_more : (from to next : ℕ) (xs : List SourceLine) (line : SourceLine) → Follow from xs to → line.start ≡ to → line.end + 1 ≡ next
+pub follow_more : (from to next : ℕ) (xs : List SourceLine) (line : SourceLine) → Follow from xs to → line.start ≡ to → line.end + 1 ≡ next
     → Follow from (xs ++ line ∷ []) next
 follow_more from to next [] line h begins ends = (begins ∙ sym h, ends)
 follow_more from to next (x ∷ xs) line h begins ends = (h.0, follow_more (x.end + 1) to next xs line h.1 begins ends)

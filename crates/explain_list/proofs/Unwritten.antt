@@ -1,6 +1,5 @@
 -- What is said of an answer that isn't written: it's no refusal.
 use Rattle.std.proofs.Common.{◌≡◌, ℕ, Bool, true, false, not, ◌||◌, [], Option, Some, None, refl}
-use Rattle.bench_core.specs.Refusal.TheVariants as refusal
 use Rattle.explain_text.specs.declared.json.Form.{Form}
 use Rattle.explain_text.specs.declared.json.Form.TheVariants as form
 use Rattle.macro_statements.specs.Requests.{Asked}

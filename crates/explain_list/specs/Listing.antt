@@ -1,12 +1,14 @@
 -- A listing: the lines of a script with what is said of them, and among them each answer of a run.
-use Rattle.std.specs.Prelude.{◌≡◌, ◌<◌, ◌≤◌, ◌⊎◌, ℕ, Bool, true, false, List, [], ◌∷◌, ◌++◌, length, take, drop, codes}
-use Rattle.std.specs.Prelude.{nat_lt, not, ◌||◌, if◌then◌else◌, Option, Some, None, Result, Ok, Err}
+use Rattle.std.specs.Prelude.{◌≡◌, ◌<◌, ◌≤◌, ◌⊎◌, ℕ, Bool, true, false, List, [], ◌∷◌, ◌++◌, length, map, take, drop}
+use Rattle.std.specs.Prelude.{codes, nat_lt, not, ◌||◌, if◌then◌else◌, Option, Some, None, Result, Ok, Err}
 use Rattle.std.specs.Io.KnownBytes.{Appends}
 use Rattle.std.specs.List.{flat_map, AllByRecursion}
 use Rattle.explain_text.specs.Json.{json_head}
 use Rattle.explain_text.specs.declared.json.Form.{Form}
 use Rattle.explain_text.specs.declared.json.Form.TheVariants as form
 use Rattle.macro_operands.specs.declared.faults.FaultKind.{FaultKind}
+use Rattle.macro_reader.specs.Roles.{Role}
+use Rattle.macro_reader.specs.Scripts.{Mode}
 use Rattle.macro_statements.specs.Requests.{Act, Asked}
 use Rattle.vsm_model.specs.declared.limits.Settings.{Settings}
 use Rattle.vsm_model.specs.declared.replies.Reply.{Reply}
@@ -26,9 +28,10 @@ use Rattle.text_output.specs.Writing.{AppendsFront, Holds, Puts}
 use Rattle.text_output.specs.declared.writing.Gathered.{Gathered}
 use Rattle.explain_faults.specs.declared.lines.SourceLine.{SourceLine}
 use Rattle.explain_list.specs.Pages.{AreAllLines, AreFirstLines, AreLinesOf, Follow, IsLineStart, fault_of, fault_told}
-use Rattle.explain_list.specs.Pages.{one_of, open_of}
+use Rattle.explain_list.specs.Pages.{losses_shown, one_of, open_of, shown_of}
 use Rattle.explain_list.specs.Answers.{AreNotes, AreNotesOf, Notes, told_in}
-use Rattle.explain_list.specs.Rows.{AreMarksOf, IsLineAt, IsRowOf, Row, lines_of, marks_of, row_in}
+use Rattle.explain_list.specs.Groups.{AreOpen, IsGroup, IsLastTaken, is_lost, roles_in}
+use Rattle.explain_list.specs.Rows.{AreMarksOf, IsLineAt, IsRowOf, Row, lines_of, losses_of, marks_of, row_in}
 use Rattle.explain_list.specs.declared.faults.ListFault.{ListFault}
 use Rattle.explain_list.specs.declared.faults.ListFault.TheVariants as fault
 use Rattle.explain_list.specs.declared.layouts.Layout.{Layout}
@@ -62,6 +65,20 @@ answers_in (paged rows m last notes ∷ items) = one_of m ++ answers_in items
 abbrev pub lines_in : List Item → List SourceLine
 lines_in [] = []
 lines_in (paged rows m last notes ∷ items) = lines_of rows ++ lines_in items
+
+-- The lines of a page are listed together, and exactly those that aren't carried out have an `x`.
+abbrev pub IsPageBy : List Role → Item → Type 0
+IsPageBy roles (paged rows m last notes) = IsGroup roles m × (losses_of rows ≡ map is_lost roles)
+
+abbrev pub ArePagesBy : List (List Role) → List Item → Type 0
+ArePagesBy [] [] = Unit {0}
+ArePagesBy (roles ∷ groups) (item ∷ items) = IsPageBy roles item × ArePagesBy groups items
+ArePagesBy _ _ = ⊥
+
+-- So it is of each page, by what the lines are to the script's reader.
+abbrev pub AreGrouped : List ℕ → List SourceLine → List Item → Type 0
+AreGrouped script lines items =
+    (groups : List (List Role)) × (flat_map (λ g. g) groups ≡ roles_in script lines) × ArePagesBy groups items
 
 -- The rows of a page, and the caret among them, if any: that of the fault that is answered, over the lines of the page.
 abbrev pub ArePageRows : List ℕ → Option FaultKind → List Row → Type 0
@@ -129,7 +146,7 @@ listing_text layout settings script items =
 abbrev pub IsListing : Form → Settings → List ℕ → List Marked → List SourceLine → List Item → Type 0
 IsListing f settings script answers lines items =
     (answers_in items ≡ answers) × (lines_in items ≡ lines) × AllByRecursion (IsItemOf script) items
-    × AreNoted settings f nothing_stands items
+    × AreNoted settings f nothing_stands items × AreGrouped script lines items
 
 -- The writer holds a listing of these answers, except what is gathered;
 abbrev pub HoldsListing : Layout → Settings → List ℕ → Option (List ℕ) → Option (List ℕ) → Gathered → List Marked
@@ -151,6 +168,22 @@ AppendsFrontOfListing layout settings script at_first now answers lines =
     (items : List Item) × IsListing layout.form settings script answers lines items
     × AppendsFront at_first now (listing_text layout settings script items)
 
+-- The lines that a page has are lines of the script after those that are listed; and those that aren't shown yet are
+-- those of the statement that is open to a reader in this state.
+pub record Carries (script : List ℕ) (listed : List SourceLine) (page : ListingPage) (mode : Mode) : Type 0 where
+  pub each : AllByRecursion (IsLineAt script) (listed ++ open_of page)
+  pub roles : List Role
+  pub opened : AreOpen mode (open_of page) roles
+  pub split : roles_in script (listed ++ open_of page) ≡ roles_in script listed ++ roles
+  pub current : IsLastTaken (length (listed ++ open_of page)) page.current
+
+-- Those that are shown are listed together with this answer, after those that are listed already.
+pub record Groups (script : List ℕ) (listed : List SourceLine) (page : ListingPage) (m : Option Marked) : Type 0 where
+  pub roles : List Role
+  pub together : IsGroup roles m
+  pub losses : losses_shown page ≡ map is_lost roles
+  pub split : roles_in script (listed ++ shown_of page) ≡ roles_in script listed ++ roles
+
 -- The session took the script up to a line that begins at this place, and its answers are listed.
 pub record Lists (layout : Layout) (settings : Settings) (script : List ℕ) (at_first now : Option (List ℕ))
     (g : Gathered) (page : ListingPage) (at : ℕ) (s : Session) : Type 0 where
@@ -162,6 +195,7 @@ pub record Lists (layout : Layout) (settings : Settings) (script : List ℕ) (at
   pub starts : IsLineStart script at
   pub lines : AreLinesOf script page
   pub room : length (open_of page) ≤ 9
+  pub carries : Carries script listed page s.reader.mode
 
 -- It took all of the script, and its answers are listed, except those that this last line and the end bring.
 pub record ListsRest (layout : Layout) (settings : Settings) (script : List ℕ) (at_first now : Option (List ℕ))
@@ -175,6 +209,7 @@ pub record ListsRest (layout : Layout) (settings : Settings) (script : List ℕ)
   pub ends : line.end ≡ length script
   pub lines : AreLinesOf script page
   pub room : length (open_of page) ≤ 9
+  pub carries : Carries script listed page s.reader.mode
 
 -- A byte of the script passes a bound; the answers to the lines before it are listed, with first lines of the script:
 -- those of a statement that is open then aren't.
@@ -240,13 +275,13 @@ Listed layout settings script at_first now (Err fault.Write) = ListsFront layout
 Listed layout settings script at_first now (Err fault.Memory) = ListsFront layout settings script at_first now
 Listed layout settings script at_first now (Err (fault.New f)) = IsNewFault settings f × Appends at_first now []
 
--- A page is put, with these lines of the script among its rows and this answer, if any, to a statement that asked for
--- this, when these bytes are shown.
-abbrev pub PutsPage : Layout → List ℕ → Settings → Bench NamedState → List ℕ → List SourceLine
+-- A page is put, with these lines of the script among its rows, of which these aren't carried out, and this answer, if
+-- any, to a statement that asked for this, when these bytes are shown.
+abbrev pub PutsPage : Layout → List ℕ → Settings → Bench NamedState → List ℕ → List SourceLine → List Bool
     → Option (ℕ × Response) → Asked → Option (List ℕ) → Option (List ℕ) → Gathered → Gathered → Type 0
-PutsPage layout script settings b bytes lines told asked old new before after =
+PutsPage layout script settings b bytes lines losses told asked old new before after =
     (rows : List Row) × (last : SourceLine) × (notes : Notes) × ArePageRows script (fault_told told) rows
-    × (lines_of rows ≡ lines) × IsLineAt script last
+    × (lines_of rows ≡ lines) × (losses_of rows ≡ losses) × IsLineAt script last
     × AreNotesOf layout.form settings b.present asked told notes
     × Puts old new before after
     (page_text layout script settings b.present (length b.past) bytes rows told last notes)
@@ -254,6 +289,6 @@ PutsPage layout script settings b bytes lines told asked old new before after =
 -- Warnings on the whole file are put, as a page without an answer.
 abbrev pub PutsFilePage : Layout → List ℕ → Option (List ℕ) → Option (List ℕ) → Gathered → Gathered → Type 0
 PutsFilePage layout script old new before after =
-    (rows : List Row) × ArePageRows script None rows × (lines_of rows ≡ [])
+    (rows : List Row) × ArePageRows script None rows × (lines_of rows ≡ []) × (losses_of rows ≡ [])
     × Puts old new before after
     (if is_written layout None then flat_map (row_in layout.form script) rows else [])

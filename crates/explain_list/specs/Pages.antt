@@ -1,25 +1,45 @@
 -- The lines of the statement that is open or shown.
 use Rattle.std.specs.Prelude.{◌≡◌, ◌==◌, ◌≤◌, ◌<◌, ◌⊎◌, List, [], ◌∷◌, ◌++◌, ℕ, ◌-◌, if◌then◌else◌, is_some, length}
-use Rattle.std.specs.Prelude.{◌+◌, slice_get, slice_index, IfSome, Option, Some, None, Result, Ok, Err}
+use Rattle.std.specs.Prelude.{◌+◌, slice_get, slice_index, Bool, IfSome, Option, Some, None, Result, Ok, Err}
+use Rattle.std.specs.Prelude.{false, true}
 use Rattle.std.specs.List.{AllByRecursion}
 use Rattle.macro_operands.specs.declared.faults.FaultKind.{FaultKind}
 use Rattle.macro_statements.specs.Requests.{Asked}
 use Rattle.script_steps.specs.Output.{Marked}
 use Rattle.script_steps.specs.declared.responses.Response.{Response}
 use Rattle.script_steps.specs.declared.responses.Response.TheVariants as response
+use Rattle.script_steps.specs.declared.lines.Ending.{Ending}
+use Rattle.script_steps.specs.declared.session.Session.{Session}
 use Rattle.script_steps.specs.declared.session.TooLong.{TooLong}
 use Rattle.script_steps.specs.declared.steps.Step.{Step}
-use Rattle.explain_faults.specs.Places.{first_card, further_cards, IsCaretOf}
+use Rattle.macro_reader.specs.Roles.{IsStand}
+use Rattle.macro_reader.specs.declared.reading.ReaderState.{ReaderState}
+use Rattle.macro_reader.specs.declared.reading.ReaderState.TheVariants as stand
+use Rattle.explain_faults.specs.Places.{first_card, further_cards, HasFault, IsCaretOf, IsHeadPlace}
+use Rattle.explain_faults.specs.Roles.{role_in}
 use Rattle.explain_faults.specs.declared.carets.Caret.{Caret}
 use Rattle.explain_faults.specs.declared.lines.SourceLine.{SourceLine}
 use Rattle.explain_faults.specs.declared.roles.Brought.{Brought}
 use Rattle.explain_faults.specs.declared.roles.Brought.TheVariants as brought
+use Rattle.explain_faults.specs.declared.roles.Role.{Role}
+use Rattle.explain_list.specs.Groups.{IsRoleBy, ends_by, is_lost}
 use Rattle.explain_list.specs.Rows.{IsLineAt, LacksMark, Mark, mark_of}
 use Rattle.explain_list.specs.declared.pages.ListingPage.{ListingPage}
 
 -- The line that was taken in a step, without its line feed.
 abbrev pub line_of : ℕ → Step → SourceLine
 line_of number step = record { number = number; start = step.start; end = step.next - 1 }
+
+-- Whether the last of the lines that are shown isn't carried out, by its role;
+abbrev pub ends_lost : Option Role → Bool
+ends_lost None = false
+ends_lost (Some last) = is_lost (role_in last)
+
+-- and whether each of them isn't: those before the last are.
+abbrev pub lost_by : Bool → List SourceLine → List Bool
+lost_by last [] = []
+lost_by last (line ∷ []) = last ∷ []
+lost_by last (line ∷ next ∷ lines) = false ∷ lost_by last (next ∷ lines)
 
 -- They are lines of the script, and so are the two that were taken last.
 pub record AreLinesOf (script : List ℕ) (page : ListingPage) : Type 0 where
@@ -33,6 +53,9 @@ shown_of page = if is_some page.last then page.lines.lines.items else []
 
 abbrev pub open_of : ListingPage → List SourceLine
 open_of page = if is_some page.last then [] else page.lines.lines.items
+
+abbrev pub losses_shown : ListingPage → List Bool
+losses_shown page = lost_by (ends_lost page.last) (shown_of page)
 
 -- A last line of the script follows them, if it has any bytes.
 abbrev pub TakesLast : List ℕ → SourceLine → ListingPage → ListingPage → Type 0
@@ -48,6 +71,58 @@ TakesLine old new (Ok (Some step)) =
     × (shown_of new ++ open_of new ≡ open_of old ++ line ∷ []))
 TakesLine old new (Ok None) = new ≡ old
 TakesLine old new (Err e) = Unit {0}
+
+-- A line of this role, which brings this, was taken after the lines that aren't shown yet. It's shown with them if it's
+-- the last that is listed together with them.
+pub record KeepsLine (old new : ListingPage) (line : SourceLine) (its : Role) (b : Brought) : Type 0 where
+  pub whole : length (open_of old) ≤ 9 → new.lines.lines.items ≡ open_of old ++ line ∷ []
+  pub shows : ends_by (role_in its) b ≡ true → new.last ≡ Some its
+  pub goes_on : length (open_of old) ≤ 8 → ends_by (role_in its) b ≡ false → new.last ≡ None
+  pub current : new.current ≡ Some line
+  pub before : new.before ≡ old.current
+
+-- The role is the line's, by the reader's states before and after it.
+pub record KeepsRole (old new : ListingPage) (line : SourceLine) (before after : ReaderState) (b : Brought)
+    : Type 0 where
+  pub its : Role
+  pub own : IsRoleBy before after b its
+  pub kept : KeepsLine old new line its b
+
+-- What a line brings, by the answer to it.
+abbrev pub brought_for : Response → Brought
+brought_for (response.Replied r) = brought.Answer
+brought_for (response.Refused r) = brought.Answer
+brought_for response.Shown = brought.Answer
+brought_for (response.Kept n) = brought.Answer
+brought_for (response.TooFar n) = brought.Answer
+brought_for (response.TooFarAhead n) = brought.Answer
+brought_for response.Map = brought.Answer
+brought_for (response.Fault kind) = brought.Fault kind
+
+abbrev pub brought_told : Option (ℕ × Response) → Brought
+brought_told None = brought.Nothing
+brought_told (Some told) = brought_for told.1
+
+-- A step takes a line of this session so, if it takes one.
+abbrev pub KeepsStep : Session → Session → ListingPage → ListingPage → Result (Option Step) TooLong → Type 0
+KeepsStep s t old new (Ok (Some step)) =
+    (number : ℕ) × (before : ReaderState) × (after : ReaderState) × (s.lines ≤ 1048576 → number ≡ s.lines + 1)
+    × IsStand s.reader.mode before × IsStand t.reader.mode after
+    × KeepsRole old new (line_of number step) before after (brought_told step.told)
+KeepsStep s t old new _ = Unit {0}
+
+-- The state of a reader at the end of a script, by whether a statement is open then; one that drops lines counts as one
+-- that awaits a statement.
+abbrev pub stand_at_end : Option (ℕ × Response) → ReaderState
+stand_at_end None = stand.Awaiting
+stand_at_end (Some told) = stand.Gathering
+
+-- The last line is taken so; without one nothing changes, and nothing is shown.
+abbrev pub KeepsLast : List ℕ → SourceLine → ReaderState → ListingPage → ListingPage → Ending → Type 0
+KeepsLast script line before old new e =
+    ((length script ≤ line.start) × (new.last ≡ None) × (open_of new ≡ open_of old) × (new.current ≡ old.current))
+    ⊎ ((line.start < length script)
+    × KeepsRole old new line before (stand_at_end e.open_statement) (brought_told e.last))
 
 -- The fault that a line brings,
 abbrev pub fault_in : Brought → Option FaultKind
@@ -90,10 +165,25 @@ pub record IsPage (script : List ℕ) (kind : Option FaultKind) (page : ListingP
   pub marks :
       IfSome page.fault (λ f. (kind ≡ Some f.1)
       × IsCaretOf (first_card script page.lines.lines.items) (further_cards script page.lines.lines.items) f.1 f.0)
+  pub head : IfSome page.fault (λ f. IsHeadPlace (first_card script page.lines.lines.items) f.1 f.0.place)
   pub on :
       IfSome page.fault
       (λ f. 0 < length page.lines.lines.items → f.0.place.line < length page.lines.lines.items)
   pub lacks : page.fault ≡ None → LacksMark script (shown_of page) kind
+
+-- The line before this one is kept if this is the last that is shown and isn't carried out.
+abbrev pub Precedes : ListingPage → SourceLine → Type 0
+Precedes page line =
+    ends_lost page.last ≡ true
+    → (before : SourceLine) × (page.before ≡ Some before) × (before.number + 1 ≡ line.number)
+
+-- The lines that are shown are those of the statement with this fault, if any.
+pub record IsWholePage (script : List ℕ) (kind : Option FaultKind) (page : ListingPage) : Type 0 where
+  pub has :
+      IfSome kind
+      (λ k. (0 < length (shown_of page))
+      × HasFault (first_card script (shown_of page)) (further_cards script (shown_of page)) k)
+  pub before : (front : List SourceLine) (line : SourceLine) → shown_of page ≡ front ++ line ∷ [] → Precedes page line
 
 -- The fault that is shown, if its caret is on the line at this place among them;
 abbrev pub fault_at : Option (Caret × FaultKind) → ℕ → Option (Caret × FaultKind)

@@ -1,7 +1,7 @@
 -- The rows of a listing around its answers: each a line of text, or an object of JSON.
-use Rattle.std.specs.Prelude.{◌≡◌, ◌≤◌, ◌<◌, ◌⊎◌, ℕ, ◌+◌, ◌-◌, min, List, [], ◌∷◌, ◌++◌, length, take, drop, codes}
+use Rattle.std.specs.Prelude.{◌≡◌, ◌≤◌, ◌⊎◌, ℕ, ◌+◌, ◌-◌, min, List, [], ◌∷◌, ◌++◌, length, take, drop, codes}
 use Rattle.std.specs.Prelude.{if◌then◌else◌, nat_lt, slice_get, slice_index, slice_index_or, Some, None}
-use Rattle.std.specs.Prelude.{Option, map, replicate}
+use Rattle.std.specs.Prelude.{Bool, Option, false, replicate, true}
 use Rattle.std.specs.Fmt.{decimal}
 use Rattle.std.specs.List.{flat_map, AllByRecursion}
 use Rattle.explain_text.specs.Columns.{column}
@@ -14,6 +14,7 @@ use Rattle.script_steps.specs.Responses.{fault_word, response_text}
 use Rattle.script_steps.specs.Script.{NoFeed, with_feed}
 use Rattle.script_steps.specs.declared.responses.Response.{Response}
 use Rattle.explain_faults.specs.Places.{caret_width, first_card, further_cards, line_in, HasFault, IsCaretOf}
+use Rattle.explain_faults.specs.Places.{IsHeadPlace}
 use Rattle.explain_faults.specs.declared.carets.Caret.{Caret}
 use Rattle.explain_faults.specs.declared.lines.SourceLine.{SourceLine}
 use Rattle.text_output.specs.Writing.{Puts}
@@ -176,6 +177,15 @@ lines_of (faulty line place width kind words hint ∷ rows) = lines_of rows
 lines_of (warned line place width words ∷ rows) = lines_of rows
 lines_of (on_file words ∷ rows) = lines_of rows
 
+-- Whether each of them isn't carried out.
+abbrev pub losses_of : List Row → List Bool
+losses_of [] = []
+losses_of (source line ∷ rows) = false ∷ losses_of rows
+losses_of (lost line before ∷ rows) = true ∷ losses_of rows
+losses_of (faulty line place width kind words hint ∷ rows) = losses_of rows
+losses_of (warned line place width words ∷ rows) = losses_of rows
+losses_of (on_file words ∷ rows) = losses_of rows
+
 -- A caret: the line that it's on, its column, how many bytes it marks there, and the fault.
 pub record Mark : Type 0 where
   pub line : SourceLine
@@ -206,6 +216,7 @@ marks_on line (Some f) = mark_of line f ∷ []
 pub record IsMarkAt (script : List ℕ) (lines : List SourceLine) (mark : Mark) : Type 0 where
   pub caret : Caret
   pub own : IsCaretOf (first_card script lines) (further_cards script lines) mark.kind caret
+  pub head : IsHeadPlace (first_card script lines) mark.kind caret.place
   pub on : slice_get lines caret.place.line ≡ Some mark.line
   pub column : mark.place ≡ caret.place.column
   pub width : mark.width ≡ caret_width mark.kind caret
@@ -217,15 +228,17 @@ LacksMark script [] (Some kind) = Unit {0}
 LacksMark script (line ∷ lines) (Some kind) =
     HasFault (first_card script (line ∷ lines)) (further_cards script (line ∷ lines)) kind → ⊥
 
--- Over lines with this fault, if any, there is its caret, and no other.
+-- If there is a fault over these lines, there is its caret, and no other.
 abbrev pub AreMarksOf : List ℕ → List SourceLine → Option FaultKind → List Mark → Type 0
-AreMarksOf script lines kind [] = LacksMark script lines kind
-AreMarksOf script lines kind (mark ∷ []) = (kind ≡ Some mark.kind) × IsMarkAt script lines mark
-AreMarksOf script lines kind _ = ⊥
+AreMarksOf script lines None [] = Unit {0}
+AreMarksOf script lines (Some kind) (mark ∷ []) = (kind ≡ mark.kind) × IsMarkAt script lines mark
+AreMarksOf script lines _ _ = ⊥
 
--- Rows were put in this form, with these lines of the script and these carets among them.
-abbrev pub PutsRows : Form → List ℕ → List SourceLine → List Mark → Option (List ℕ) → Option (List ℕ) → Gathered
-    → Gathered → Type 0
-PutsRows f script lines marks old new before after =
-    (rows : List Row) × AllByRecursion (IsRowOf script) rows × (lines_of rows ≡ lines) × (marks_of rows ≡ marks)
+-- Rows were put in this form, with these lines of the script, of which these aren't carried out, and these carets among
+-- them.
+abbrev pub PutsRows : Form → List ℕ → List SourceLine → List Bool → List Mark → Option (List ℕ) → Option (List ℕ)
+    → Gathered → Gathered → Type 0
+PutsRows f script lines losses marks old new before after =
+    (rows : List Row) × AllByRecursion (IsRowOf script) rows × (lines_of rows ≡ lines) × (losses_of rows ≡ losses)
+    × (marks_of rows ≡ marks)
     × Puts old new before after (flat_map (row_in f script) rows)

@@ -4,7 +4,7 @@ ghost use Rattle.macro_operands.specs.declared.faults.FaultKind.{FaultKind};
 ghost use Rattle.bench_core.specs.Stands.{bench_of, settings_in};
 ghost use Rattle.macro_statements.specs.Requests.{asked_in};
 ghost use Rattle.explain_list.specs.Listing.{PutsPage};
-ghost use Rattle.explain_list.specs.Pages.{IsPage, fault_told, marks_in, shown_of};
+ghost use Rattle.explain_list.specs.Pages.{IsPage, IsWholePage, fault_told, losses_shown, marks_in, shown_of};
 ghost use Rattle.explain_list.specs.Rows.{IsLineAt, PutsRows};
 
 use crate::answers::{Answered, put_answer};
@@ -26,9 +26,10 @@ fn put_rows<W: Write>(
     page: &ListingPage,
     script: &[u8],
 )
-    ensures { (kind : Option FaultKind) → IsPage script.now kind page.now
-        → PutsRows form script.now (shown_of page.now) (marks_in (shown_of page.now) page.now.fault)
-        (W.contents writer.old) (W.contents writer.new) gathered.old gathered.new }
+    ensures { (kind : Option FaultKind) → IsPage script.now kind page.now → IsWholePage script.now kind page.now
+        → PutsRows form script.now (shown_of page.now) (losses_shown page.now)
+        (marks_in (shown_of page.now) page.now.fault) (W.contents writer.old) (W.contents writer.new) gathered.old
+        gathered.new }
 {
     let lines = page.lines();
     for index in 0..lines.len() {
@@ -55,10 +56,11 @@ pub(crate) fn put_page<W: Write>(
     script: &[u8],
     answered: &Answered,
 )
-    ensures { IsPage script.now (fault_told answered.now.told.now) page.now → IsLineAt script.now answered.now.last
+    ensures { IsPage script.now (fault_told answered.now.told.now) page.now
+        → IsWholePage script.now (fault_told answered.now.told.now) page.now → IsLineAt script.now answered.now.last
         → PutsPage layout script.now (settings_in answered.now.bench.now) (bench_of answered.now.bench.now)
-        answered.now.shown.now (shown_of page.now) answered.now.told.now (asked_in answered.now.request.now)
-        (W.contents writer.old) (W.contents writer.new) gathered.old gathered.new }
+        answered.now.shown.now (shown_of page.now) (losses_shown page.now) answered.now.told.now
+        (asked_in answered.now.request.now) (W.contents writer.old) (W.contents writer.new) gathered.old gathered.new }
 {
     if is_written(layout, answered.told) {
         put_rows(layout.form, gathered, writer, page, script);
@@ -79,10 +81,11 @@ pub(crate) fn put_ending<W: Write>(
     request: &Request,
     line: SourceLine,
 )
-    ensures { IsPage script.now (fault_told told.now) page.now → IsLineAt script.now line
+    ensures { IsPage script.now (fault_told told.now) page.now
+        → IsWholePage script.now (fault_told told.now) page.now → IsLineAt script.now line
         → PutsPage layout script.now (settings_in ending.now.bench) (bench_of ending.now.bench)
-        ending.now.shown.items (shown_of page.now) told.now (asked_in request.now) (W.contents writer.old)
-        (W.contents writer.new) gathered.old gathered.new }
+        ending.now.shown.items (shown_of page.now) (losses_shown page.now) told.now (asked_in request.now)
+        (W.contents writer.old) (W.contents writer.new) gathered.old gathered.new }
 {
     let answered = Answered {
         alloc: page.alloc(),

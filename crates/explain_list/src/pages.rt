@@ -1,17 +1,20 @@
 //! The lines of the statement that is shown, and what each of them is.
 ghost use Rattle.std.specs.Prelude.{◌≡◌, ◌≤◌, ◌<◌, ◌+◌, ◌∷◌, ◌++◌, ℕ, List, [], None, Some, true, false};
 ghost use Rattle.std.specs.Prelude.{IfSome};
-ghost use Rattle.std.specs.Prelude.{length, option_map, take};
+ghost use Rattle.std.specs.Prelude.{is_some, length, option_map, take};
 ghost use Rattle.macro_statements.specs.Requests.{asked_in};
 ghost use Rattle.vsm_model.specs.declared.limits.Settings.{Settings};
 ghost use Rattle.script_steps.specs.Output.{Marked};
 ghost use Rattle.script_steps.specs.Steps.{AsksStep, StepsOver, TakesStep};
 ghost use Rattle.script_steps.specs.Taken.{Took};
-ghost use Rattle.explain_faults.specs.Places.{first_card, further_cards, IsCaretOf};
+ghost use Rattle.explain_faults.specs.Places.{first_card, further_cards, IsCaretOf, IsHeadPlace};
 ghost use Rattle.explain_list.specs.Pages.{AreLinesOf, IsPage, IsPageAfter, TakesLast, TakesLine, line_of};
 ghost use Rattle.explain_list.specs.Pages.{IsLineStart, fault_answered, fault_at, fault_in, fault_told, open_of};
-ghost use Rattle.explain_list.specs.Pages.{shown_of};
+ghost use Rattle.explain_list.specs.Pages.{KeepsLast, KeepsLine, KeepsRole, KeepsStep, Precedes, brought_for};
+ghost use Rattle.explain_list.specs.Pages.{brought_told, ends_lost, shown_of};
+ghost use Rattle.explain_list.specs.Groups.{brings, ends_by, is_lost};
 ghost use Rattle.explain_list.specs.Rows.{IsLineAt, IsLineBefore, LacksMark};
+ghost use Rattle.explain_faults.specs.Roles.{role_in};
 
 use crate::options::other_option;
 use explain_faults::carets::{Caret, own_caret};
@@ -25,7 +28,8 @@ use vsm_model::Settings;
 
 /// What a line with this answer brings.
 fn answer_of(response: &Response) -> Brought
-    ensures { fault_in result ≡ fault_answered response.now }
+    ensures its { result ≡ brought_for response.now }
+    ensures fault { fault_in result ≡ fault_answered response.now }
 {
     match response {
         Response::Fault(kind) => Brought::Fault(*kind),
@@ -41,7 +45,8 @@ fn answer_of(response: &Response) -> Brought
 
 /// What a line brings, by the answer to it.
 fn brought_by(told: &Option<(u32, Response)>) -> Brought
-    ensures { fault_in result ≡ fault_told told.now }
+    ensures its { result ≡ brought_told told.now }
+    ensures fault { fault_in result ≡ fault_told told.now }
 {
     match told {
         None => Brought::Nothing,
@@ -49,8 +54,21 @@ fn brought_by(told: &Option<(u32, Response)>) -> Brought
     }
 }
 
+/// Whether a line brings an answer.
+fn brings(brought: Brought) -> bool
+    ensures { result ≡ brings brought }
+{
+    match brought {
+        Brought::Nothing => false,
+        Brought::Answer | Brought::Fault(_) => true,
+    }
+}
+
 /// What a line of a statement is, by its place among the statement's lines.
-fn role_at(index: usize, count: usize, last: Role) -> Role {
+fn role_at(index: usize, count: usize, last: Role) -> Role
+    ensures last { index + 1 ≡ count → result ≡ last }
+    ensures other { index + 1 < count → is_lost (role_in result) ≡ false }
+{
     if index.saturating_add(1) == count {
         last
     } else if index == 0 {
@@ -60,9 +78,20 @@ fn role_at(index: usize, count: usize, last: Role) -> Role {
     }
 }
 
+/// Whether a line with this role isn't carried out.
+fn is_lost(role: Role) -> bool
+    ensures { result ≡ is_lost (role_in role) }
+{
+    match role {
+        Role::Breaking | Role::Gone => true,
+        Role::Aside | Role::First | Role::Further => false,
+    }
+}
+
 /// Whether a line has the number after that of another.
 fn is_next(before: &SourceLine, line: &SourceLine) -> bool
-    ensures { result ≡ true → before.now.number + 1 ≡ line.now.number }
+    ensures next { result ≡ true → before.now.number + 1 ≡ line.now.number }
+    ensures found { before.now.number + 1 ≡ line.now.number → result ≡ true }
 {
     before.number < line.number && line.number - before.number == 1
 }
@@ -84,6 +113,7 @@ pub fn rest_line(lines: u32, script: &[u8], at: usize) -> SourceLine
 fn place_of(script: &[u8], lines: &OpenLines, kind: FaultKind) -> Option<(Caret, FaultKind)>
     ensures own { IfSome result (λ f. (kind ≡ f.1) × IsCaretOf (first_card script.now lines.now.lines.items)
         (further_cards script.now lines.now.lines.items) f.1 f.0) }
+    ensures head { IfSome result (λ f. IsHeadPlace (first_card script.now lines.now.lines.items) f.1 f.0.place) }
     ensures on { IfSome result (λ f. 0 < length lines.now.lines.items
         → f.0.place.line < length lines.now.lines.items) }
     ensures lacks { result ≡ None → LacksMark script.now lines.now.lines.items (Some kind) }
@@ -98,6 +128,7 @@ fn place_of(script: &[u8], lines: &OpenLines, kind: FaultKind) -> Option<(Caret,
 fn fault_of(script: &[u8], lines: &OpenLines, brought: Brought) -> Option<(Caret, FaultKind)>
     ensures own { IfSome result (λ f. (fault_in brought ≡ Some f.1) × IsCaretOf
         (first_card script.now lines.now.lines.items) (further_cards script.now lines.now.lines.items) f.1 f.0) }
+    ensures head { IfSome result (λ f. IsHeadPlace (first_card script.now lines.now.lines.items) f.1 f.0.place) }
     ensures on { IfSome result (λ f. 0 < length lines.now.lines.items
         → f.0.place.line < length lines.now.lines.items) }
     ensures lacks { result ≡ None → LacksMark script.now lines.now.lines.items (fault_in brought) }
@@ -134,6 +165,7 @@ impl ListingPage {
     pub fn new(alloc: Global, settings: Settings) -> ListingPage
         ensures lines { (script : List ℕ) → AreLinesOf script result }
         ensures open { open_of result ≡ [] }
+        ensures current { result.current ≡ None }
     {
         ListingPage {
             lines: OpenLines::new(),
@@ -158,6 +190,7 @@ impl ListingPage {
         ensures open { open_of self.new ≡ open_of self.old }
         ensures last { self.new.last ≡ None }
         ensures fault { self.new.fault ≡ None }
+        ensures current { self.new.current ≡ self.old.current }
     {
         if self.last.is_some() {
             self.lines.clear();
@@ -171,6 +204,8 @@ impl ListingPage {
         ensures page { AreLinesOf script.now self.old → IsPage script.now (fault_in brought) self.new }
         ensures lines { self.new.lines ≡ self.old.lines }
         ensures last { self.new.last ≡ Some last }
+        ensures current { self.new.current ≡ self.old.current }
+        ensures before { self.new.before ≡ self.old.before }
     {
         self.last = Some(last);
         self.fault = fault_of(script, &self.lines, brought);
@@ -184,6 +219,8 @@ impl ListingPage {
             → self.new.lines.lines.items ≡ open_of self.old ++ line ∷ [] }
         ensures last { self.new.last ≡ None }
         ensures fault { self.new.fault ≡ None }
+        ensures current { self.new.current ≡ Some line }
+        ensures before { self.new.before ≡ self.old.current }
     {
         self.hide();
         self.lines.push(line);
@@ -194,18 +231,22 @@ impl ListingPage {
 
     /// Whether there is no room for another line.
     fn is_full(&self) -> bool
-        ensures { result ≡ false → length self.now.lines.lines.items ≤ 9 }
+        ensures room { result ≡ false → length self.now.lines.lines.items ≤ 9 }
+        ensures full { length self.now.lines.lines.items ≤ 9 → result ≡ false }
     {
         self.lines.as_slice().len() > 9
     }
 
     /// Whether the lines are shown after one of this role, which brings this.
     fn shows(&self, role: Role, brought: Brought) -> bool
-        ensures { result ≡ false → length self.now.lines.lines.items ≤ 9 }
+        ensures room { result ≡ false → length self.now.lines.lines.items ≤ 9 }
+        ensures ends { ends_by (role_in role) brought ≡ true → result ≡ true }
+        ensures goes_on { length self.now.lines.lines.items ≤ 9 → ends_by (role_in role) brought ≡ false
+            → result ≡ false }
     {
         match role {
             Role::Aside | Role::Gone => true,
-            _ => brought != Brought::Nothing || self.is_full(),
+            Role::First | Role::Further | Role::Breaking => brings(brought) || self.is_full(),
         }
     }
 
@@ -217,6 +258,7 @@ impl ListingPage {
         ensures whole { length (open_of self.old) ≤ 9
             → shown_of self.new ++ open_of self.new ≡ open_of self.old ++ line ∷ [] }
         ensures room { length (open_of self.new) ≤ 9 }
+        ensures keeps { KeepsLine self.old self.new line role brought }
     {
         self.keep(line, role);
         if self.shows(role, brought) {
@@ -238,6 +280,8 @@ impl ListingPage {
         ensures whole { length (open_of self.old) ≤ 9
             → shown_of self.new ++ open_of self.new ≡ open_of self.old ++ line_of number step.now ∷ [] }
         ensures room { length (open_of self.new) ≤ 9 }
+        ensures keeps { KeepsRole self.old self.new (line_of number step.now) before after
+            (brought_told step.now.told) }
     {
         let line = SourceLine {
             number,
@@ -269,7 +313,11 @@ impl ListingPage {
     }
 
     /// What one of these lines is.
-    pub(crate) fn role(&self, index: usize) -> Role {
+    pub(crate) fn role(&self, index: usize) -> Role
+        ensures last { (last : Role) → self.now.last ≡ Some last → index + 1 ≡ length (shown_of self.now)
+            → result ≡ last }
+        ensures other { index + 1 < length (shown_of self.now) → is_lost (role_in result) ≡ false }
+    {
         match self.last {
             Some(last) => role_at(index, self.lines.as_slice().len(), last),
             None => Role::Aside,
@@ -293,10 +341,13 @@ impl ListingPage {
 
     /// Why this one of the lines isn't carried out, if it isn't: the line before it.
     pub fn lost(&self, index: usize, line: &SourceLine) -> Option<SourceLine>
-        ensures { (script : List ℕ) → AreLinesOf script self.now
+        ensures line { (script : List ℕ) → AreLinesOf script self.now
             → IfSome result (IsLineBefore script line.now) }
+        ensures last { index + 1 ≡ length (shown_of self.now) → Precedes self.now line.now
+            → is_some result ≡ ends_lost self.now.last }
+        ensures other { index + 1 < length (shown_of self.now) → is_some result ≡ false }
     {
-        if self.role(index).is_lost() {
+        if is_lost(self.role(index)) {
             self.line_before(line)
         } else {
             None
@@ -321,8 +372,10 @@ impl ListingPage {
 
     /// The line before this one, which was taken last.
     fn line_before(&self, line: &SourceLine) -> Option<SourceLine>
-        ensures { (script : List ℕ) → AreLinesOf script self.now
+        ensures line { (script : List ℕ) → AreLinesOf script self.now
             → IfSome result (IsLineBefore script line.now) }
+        ensures found { (before : SourceLine) → self.now.before ≡ Some before
+            → before.number + 1 ≡ line.now.number → is_some result ≡ true }
     {
         match self.before {
             Some(before) if is_next(&before, line) => Some(before),
@@ -341,6 +394,7 @@ impl ListingPage {
         ensures page { IsLineAt script.now line → AreLinesOf script.now self.old
             → IsPage script.now (fault_told ending.now.last) self.new }
         ensures whole { length (open_of self.old) ≤ 9 → TakesLast script.now line self.old self.new }
+        ensures keeps { KeepsLast script.now line before self.old self.new ending.now }
     {
         if line.start >= script.len() {
             self.hide();
@@ -360,6 +414,7 @@ impl ListingPage {
         ensures page { AreLinesOf script.now self.old
             → IsPage script.now (fault_told ending.now.open_statement) self.new }
         ensures whole { shown_of self.new ≡ open_of self.old }
+        ensures carried { ends_lost self.new.last ≡ false }
     {
         self.hide();
         if !self.lines.as_slice().is_empty() {
@@ -393,6 +448,7 @@ impl ListingPage {
             → Took settings (take at script.now) answers session.old → IsLineStart script.now at
             → AreLinesOf script.now self.old → IsPageAfter script.now result self.new }
         ensures whole { TakesLine self.old self.new result }
+        ensures keeps { KeepsStep session.old session.new self.old self.new result }
     {
         let before = session.stand();
         let number = session.lines().saturating_add(1);

@@ -1,5 +1,5 @@
 //! What is in a listing around the answers: lines of the script, carets and warnings.
-ghost use Rattle.std.specs.Prelude.{◌≡◌, ◌≤◌, ℕ, List, [], ◌∷◌, IfSome, codes, length, option_map, take};
+ghost use Rattle.std.specs.Prelude.{◌≡◌, ◌≤◌, ℕ, List, [], ◌∷◌, IfSome, codes, is_some, length, option_map, take};
 ghost use Rattle.explain_text.specs.Columns.{column};
 ghost use Rattle.explain_text.specs.Letters.{shown};
 ghost use Rattle.explain_faults.specs.Places.{caret_width, line_in};
@@ -168,8 +168,8 @@ fn put_own_text<W: Write>(
     lost: Option<SourceLine>,
 )
     ensures { IsLineAt script.now line.now → IfSome lost (IsLineBefore script.now line.now)
-        → PutsRows Form.Text script.now (line.now ∷ []) [] (W.contents writer.old) (W.contents writer.new) gathered.old
-        gathered.new }
+        → PutsRows Form.Text script.now (line.now ∷ []) (is_some lost ∷ []) []
+        (W.contents writer.old) (W.contents writer.new) gathered.old gathered.new }
 {
     match lost {
         Some(before) => put_lost(gathered, writer, script, line, &before),
@@ -186,8 +186,8 @@ fn put_own_object<W: Write>(
     lost: Option<SourceLine>,
 )
     ensures { IsLineAt script.now line.now → IfSome lost (IsLineBefore script.now line.now)
-        → PutsRows Form.Json script.now (line.now ∷ []) [] (W.contents writer.old) (W.contents writer.new) gathered.old
-        gathered.new }
+        → PutsRows Form.Json script.now (line.now ∷ []) (is_some lost ∷ []) []
+        (W.contents writer.old) (W.contents writer.new) gathered.old gathered.new }
 {
     if let Some(before) = lost {
         put_dropped_object(
@@ -210,8 +210,8 @@ fn put_own_row<W: Write>(
     lost: Option<SourceLine>,
 )
     ensures { IsLineAt script.now line.now → IfSome lost (IsLineBefore script.now line.now)
-        → PutsRows form script.now (line.now ∷ []) [] (W.contents writer.old) (W.contents writer.new) gathered.old
-        gathered.new }
+        → PutsRows form script.now (line.now ∷ []) (is_some lost ∷ []) []
+        (W.contents writer.old) (W.contents writer.new) gathered.old gathered.new }
 {
     match form {
         Form::Text => put_own_text(gathered, writer, script, line, lost),
@@ -252,7 +252,7 @@ fn put_warned<W: Write>(
     warned: Warned,
 )
     ensures { IsLineAt script.now line.now
-        → PutsRows form script.now [] [] (W.contents writer.old) (W.contents writer.new) gathered.old gathered.new }
+        → PutsRows form script.now [] [] [] (W.contents writer.old) (W.contents writer.new) gathered.old gathered.new }
 {
     if let Some((place, warning)) = warned {
         let words = one_line(warning.text());
@@ -270,7 +270,7 @@ fn put_warnings<W: Write>(
     stand: &LineStand,
 )
     ensures { IsLineAt script.now line.now
-        → PutsRows form script.now [] [] (W.contents writer.old) (W.contents writer.new) gathered.old gathered.new }
+        → PutsRows form script.now [] [] [] (W.contents writer.old) (W.contents writer.new) gathered.old gathered.new }
 {
     for kind in 0..KINDS {
         let warned = warning_in(line.bytes(script), stand, kind);
@@ -314,7 +314,7 @@ fn put_caret<W: Write>(
     kind: FaultKind,
 )
     ensures { IsLineAt script.now line.now
-        → PutsRows form script.now [] (mark_of line.now (caret.now, kind) ∷ []) (W.contents writer.old)
+        → PutsRows form script.now [] [] (mark_of line.now (caret.now, kind) ∷ []) (W.contents writer.old)
         (W.contents writer.new) gathered.old gathered.new }
 {
     let mut words = Words::new();
@@ -336,7 +336,7 @@ fn put_fault_row<W: Write>(
     fault: Option<(&Caret, FaultKind)>,
 )
     ensures { IsLineAt script.now line.now
-        → PutsRows form script.now [] (marks_on line.now (option_map (λ f. (f.0.now, f.1)) fault.entry))
+        → PutsRows form script.now [] [] (marks_on line.now (option_map (λ f. (f.0.now, f.1)) fault.entry))
         (W.contents writer.old) (W.contents writer.new) gathered.old gathered.new }
 {
     match fault {
@@ -357,7 +357,8 @@ pub(crate) fn put_line_rows<W: Write>(
     fault: Option<(&Caret, FaultKind)>,
 )
     ensures { IsLineAt script.now line.now → IfSome lost (IsLineBefore script.now line.now)
-        → PutsRows form script.now (line.now ∷ []) (marks_on line.now (option_map (λ f. (f.0.now, f.1)) fault.entry))
+        → PutsRows form script.now (line.now ∷ []) (is_some lost ∷ [])
+        (marks_on line.now (option_map (λ f. (f.0.now, f.1)) fault.entry))
         (W.contents writer.old) (W.contents writer.new) gathered.old gathered.new }
 {
     put_own_row(form, gathered, writer, script, line, lost);
@@ -383,7 +384,7 @@ pub(crate) fn put_file_row<W: Write>(
     writer: &mut W,
     script: &[u8],
 )
-    ensures { PutsRows form script.now [] [] (W.contents writer.old) (W.contents writer.new) gathered.old
+    ensures { PutsRows form script.now [] [] [] (W.contents writer.old) (W.contents writer.new) gathered.old
         gathered.new }
 {
     if let Some(warning) = warning_on(script) {

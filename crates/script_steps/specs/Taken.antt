@@ -119,7 +119,7 @@ Counts settings answers totals =
     (totals.statements ≡ length answers) × (totals.refused ≡ refusals settings nothing_stands answers)
 
 -- What the end of a script gives: the answers to a last line without a line feed, and then to an open statement, which
--- leaves the bench as it was.
+-- leaves the bench as it was; and what the reader keeps between the two.
 pub record EndBrings (settings : Settings) (given : List ℕ) (answers : List Marked) (e : Ending) : Type 0 where
   pub more : List Marked
   pub also : List Marked
@@ -130,6 +130,8 @@ pub record EndBrings (settings : Settings) (given : List ℕ) (answers : List Ma
   pub led : Led settings (answers ++ more) (bench_of e.bench)
   pub led_on : Led settings ((answers ++ more) ++ also) (bench_of e.bench)
   pub ended : Ended settings given ((answers ++ more) ++ also)
+  pub reader : grammar.Kept
+  pub read : grammar.IsBehind (map columns ended.lines ++ last_line ended.rest) (answers_of (answers ++ more)) reader
   pub counts : Counts settings ((answers ++ more) ++ also) e.totals
 
 -- And what their statements asked for.

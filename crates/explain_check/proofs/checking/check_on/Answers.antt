@@ -5,6 +5,7 @@ use Rattle.explain_faults.specs.declared.lines.SourceLine.{SourceLine}
 use Rattle.explain_findings.specs.Tables.{found_on}
 use Rattle.explain_list.specs.Pages.{Follow}
 use Rattle.explain_check.proofs.Checks.{holds_file}
+use Rattle.explain_list.proofs.Steps.{first_page}
 use Rattle.explain_check.proofs.checking.check_on.Goals as goal
 
 pub returns-in-Ok : goal.returns-in-Ok
@@ -25,6 +26,7 @@ returns-in-Ok g c = λ new.
       starts = inl refl;
       lines = c.new-page.ensures.lines script;
       room = subst (λ (ls : List SourceLine). length ls ≤ 9) (sym c.new-page.ensures.open) (omega arith);
+      carries = first_page settings script c.new-page.result c.new-session.result c.new-page.ensures.open c.new-page.ensures.current (c.new-session.ensures settings new);
     }) in
     c.check_rest.ensures settings first checks
 
@@ -46,5 +48,6 @@ returns-in-Err g c = λ new.
       starts = inl refl;
       lines = c.new-page.ensures.lines script;
       room = subst (λ (ls : List SourceLine). length ls ≤ 9) (sym c.new-page.ensures.open) (omega arith);
+      carries = first_page settings script c.new-page.result c.new-session.result c.new-page.ensures.open c.new-page.ensures.current (c.new-session.ensures settings new);
     }) in
     c.stop.ensures settings script name found first checks

@@ -5,6 +5,7 @@ use Rattle.explain_findings.specs.Tables.{found_on}
 use Rattle.explain_list.specs.Pages.{Follow, open_of}
 use Rattle.explain_list.proofs.Lines.{first_lines, rest_line}
 use Rattle.explain_list.proofs.Rests.{whole_script, script_past}
+use Rattle.explain_list.proofs.Steps.{rest_page}
 use Rattle.explain_check.proofs.checking.check_rest.Goals as goal
 
 pub take_bytes-requires : goal.take_bytes-requires
@@ -28,6 +29,8 @@ returns-in-Ok g c = λ settings first h.
       ends = c.rest_line-line.ensures.end;
       lines = h.lines;
       room = h.room;
+      carries = rest_page settings script c.args.at h.answers c.args.session c.take_bytes.new.self h.listed c.args.page.now c.rest_line-line.result h.took took h.starts c.requires.within
+          c.rest_line-line.ensures.start line c.rest_line-line.ensures.end h.follow h.carries;
     })
 
 pub returns-in-Err : goal.returns-in-Err

@@ -1,4 +1,4 @@
-use Rattle.std.proofs.Common.{◌≡◌, [], Option, None, length, sym, subst}
+use Rattle.std.proofs.Common.{[], length, sym, subst}
 use Rattle.bench_core.specs.Stands.{bench_of, settings_in}
 use Rattle.macro_statements.specs.Requests.{asked_in}
 use Rattle.text_output.specs.Writing.{Puts}

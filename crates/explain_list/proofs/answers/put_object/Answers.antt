@@ -1,4 +1,4 @@
-use Rattle.std.proofs.Common.{ℕ, List, [], ◌++◌, length, refl, subst}
+use Rattle.std.proofs.Common.{ℕ, List, ◌++◌, length, subst}
 use Rattle.bench_core.specs.Stands.{bench_of}
 use Rattle.explain_text.specs.Json.{object_end}
 use Rattle.script_steps.specs.Responses.{response_text}

@@ -1,4 +1,4 @@
-use Rattle.std.proofs.Common.{◌≡◌, [], List, length, sym, subst}
+use Rattle.std.proofs.Common.{[], length, sym, subst}
 use Rattle.bench_core.specs.Stands.{bench_of, settings_in}
 use Rattle.macro_statements.specs.Requests.{IsValidAsked, asked_in}
 use Rattle.script_steps.specs.Responses.{response_text}

@@ -1,4 +1,4 @@
-use Rattle.std.proofs.Common.{◌≡◌, List, ℕ, [], ◌++◌, ◌∙◌, Some, sym, ap, subst}
+use Rattle.std.proofs.Common.{List, ℕ, [], ◌++◌, ◌∙◌, Some, sym, ap, subst}
 use Rattle.std.proofs.KnownBytes.{Appends-nil}
 use Rattle.macro_statements.specs.Requests.{IsValidAsked, asked_in}
 use Rattle.bench_core.specs.Stands.{bench_of, settings_in}

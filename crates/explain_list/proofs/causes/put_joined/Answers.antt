@@ -1,10 +1,9 @@
-use Rattle.std.proofs.Common.{◌≡◌, ◌+◌, ◌++◌, ◌∙◌, [], append_assoc, drop, get_or, refl, sym, ap, subst}
+use Rattle.std.proofs.Common.{◌+◌, ◌++◌, ◌∙◌, [], append_assoc, drop, get_or, refl, sym, ap, subst}
 use Rattle.std.proofs.lemmas.List.{append-nil, at_drop_all, at_drop_more}
 use Rattle.text_output.proofs.Gathering.{puts_both, puts_none}
 use Rattle.text_output.specs.Writing.{Puts}
 use Rattle.explain_list.specs.Causes.{joined, joint_after, joint_text}
 use Rattle.explain_list.specs.declared.causes.Joint.{Joint}
-use Rattle.explain_list.specs.declared.causes.Joint.TheVariants as joint
 use Rattle.explain_list.proofs.causes.put_joined.Goals as goal
 
 pub loop-at-init : goal.loop-at-init

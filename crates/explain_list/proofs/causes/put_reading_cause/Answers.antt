@@ -1,4 +1,4 @@
-use Rattle.std.proofs.Common.{◌≡◌, ℕ, [], Option, Some, None, sym, ap, ◌∙◌}
+use Rattle.std.proofs.Common.{[], sym}
 use Rattle.storage_core.specs.Meaning.{state_of}
 use Rattle.explain_reasons.specs.Pages.{pages_text}
 use Rattle.text_output.proofs.Gathering.{puts_none}

@@ -4,6 +4,7 @@ use Rattle.text_output.proofs.Gathering.{empty_holds}
 use Rattle.explain_faults.specs.declared.lines.SourceLine.{SourceLine}
 use Rattle.explain_list.specs.Pages.{Follow}
 use Rattle.explain_list.proofs.Items.{holds_file, holds_head}
+use Rattle.explain_list.proofs.Steps.{first_page}
 use Rattle.explain_list.proofs.listing.list_on.Goals as goal
 
 pub returns-in-Ok : goal.returns-in-Ok
@@ -24,6 +25,7 @@ returns-in-Ok g c = λ new.
       starts = inl refl;
       lines = c.new-page.ensures.lines c.args.script.now;
       room = subst (λ (ls : List SourceLine). length ls ≤ 9) (sym c.new-page.ensures.open) (omega arith);
+      carries = first_page settings script c.new-page.result c.new-session.result c.new-page.ensures.open c.new-page.ensures.current (c.new-session.ensures settings new);
     }))
 
 pub returns-in-Err : goal.returns-in-Err
@@ -44,4 +46,5 @@ returns-in-Err g c = λ new.
       starts = inl refl;
       lines = c.new-page.ensures.lines c.args.script.now;
       room = subst (λ (ls : List SourceLine). length ls ≤ 9) (sym c.new-page.ensures.open) (omega arith);
+      carries = first_page settings script c.new-page.result c.new-session.result c.new-page.ensures.open c.new-page.ensures.current (c.new-session.ensures settings new);
     }))

@@ -8,5 +8,5 @@ pub returns : goal.returns
 returns g c = λ line.
     let caret = c.args.caret.now in
     let kind = c.args.kind in
-    row_one c.args.form c.args.script.now [] (mark_of c.args.line.now (caret, kind) ∷ []) _ _ _ _ (faulty c.args.line.now caret.place.column (caret_width kind caret) kind c.one_line.result.now c.one_line-hint.result.now) refl refl
+    row_one c.args.form c.args.script.now [] [] (mark_of c.args.line.now (caret, kind) ∷ []) _ _ _ _ (faulty c.args.line.now caret.place.column (caret_width kind caret) kind c.one_line.result.now c.one_line-hint.result.now) refl refl refl
     (line, c.one_line.ensures, c.one_line-hint.ensures) c.put_faulty_row.ensures

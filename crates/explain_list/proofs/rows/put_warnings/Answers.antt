@@ -7,4 +7,4 @@ loop-kind-init g c = λ line. rows_no c.args.form c.args.script.now _ _
 
 pub loop-kind-preserved : goal.loop-kind-preserved
 loop-kind-preserved g c = λ line.
-    rows_both c.args.form c.args.script.now [] [] [] [] _ _ _ _ _ _ (c.loop-kind.invariant line) (c.put_warned.ensures line)
+    rows_both c.args.form c.args.script.now [] [] [] [] [] [] _ _ _ _ _ _ (c.loop-kind.invariant line) (c.put_warned.ensures line)

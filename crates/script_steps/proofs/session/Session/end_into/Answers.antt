@@ -2,7 +2,7 @@ use Rattle.std.proofs.Common.{◌≡◌, ◌∙◌, ◌++◌, map, ap, sym, subs
 use Rattle.std.proofs.lemmas.List.{length-append, map-append}
 use Rattle.vsm_model.specs.Standing.{nothing_stands}
 use Rattle.macro_statements.specs.Requests.{asked_in}
-use Rattle.macro_reader.specs.Scripts.{Answers, told_at_end}
+use Rattle.macro_reader.specs.Scripts.{Answers, IsBehind, told_at_end}
 use Rattle.script_steps.specs.Answers.{Tells, told_text}
 use Rattle.script_steps.specs.Output.{AllMet, refusals}
 use Rattle.script_steps.specs.Script.{columns, last_line}
@@ -84,6 +84,9 @@ returns-clause-asks c = λ settings given answers h.
           told = subst (Answers (map columns h.lines ++ last_line h.rest)) all (c.finish.ensures.answers _ _ last.1);
           met = u.led.met;
         };
+        reader = c.take_last-last.new.reader;
+        read = subst (λ said. IsBehind (map columns h.lines ++ last_line h.rest) said c.take_last-last.new.reader)
+            (ap (λ x. answers_of answers ++ x) (sym t.answers) ∙ sym (map-append _ answers t.more)) last.1;
         counts = (
           omega (arith, size, size2, h.statements, t.count, u.count, c.told_count.ensures.count, c.told_count-2.ensures.count),
           omega (arith, refused, h.refused, t.refused, u.refused, c.told_refused.ensures.count, c.told_refused-2.ensures.count),
