@@ -29,7 +29,7 @@ returns-in-Ok g c = λ settings first h.
       ends = c.rest_line-line.ensures.end;
       lines = h.lines;
       room = h.room;
-      carries = rest_page settings script c.args.at h.answers c.args.session c.take_bytes.new.self h.listed c.args.page.now c.rest_line-line.result h.took took h.starts c.requires.within
+      carries = rest_page settings script c.args.checked.at h.answers c.args.session c.take_bytes.new.self h.listed c.args.page.now c.rest_line-line.result h.took took h.starts c.requires.within
           c.rest_line-line.ensures.start line c.rest_line-line.ensures.end h.follow h.carries;
     })
 
