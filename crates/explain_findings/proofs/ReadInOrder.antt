@@ -65,7 +65,7 @@ module _ (settings : Settings) (entries : List (TrailEntry Statement)) where
       noted n
       ∙ (λ j. with_finding r.line (reading_finding settings (sym (firsts_of_all line_act r.depth entries) j) (written_in r.address) r.count) (on_table t) n)
       ∙ ap (λ o. if (r.line == n) && is_something (reading_finding settings (drop (length all - r.depth) all) (written_in r.address) r.count)
-          then Some (reading_finding settings (drop (length all - r.depth) all) (written_in r.address) r.count) else o) (before n)
+      then Some (reading_finding settings (drop (length all - r.depth) all) (written_in r.address) r.count) else o) (before n)
       ∙ ap (λ qs. on_line (judged_readings settings all qs) n)
       (ap (λ (q : ReadingKept). reading_in q ∷ reverse (map reading_in (take i rs))) is ∙ sym (firsts_more reading_in rs i r low))
 

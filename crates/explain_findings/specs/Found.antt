@@ -1,7 +1,7 @@
 -- What is found in a script: of each statement in effect at its end, judged on the state before it, and of each PEEK
 -- whose state isn't undone later.
-use Rattle.std.specs.Prelude.{◌≡◌, ℕ, ◌-◌, ◌/◌, ◌==◌, ◌&&◌, ◌||◌, Bool, if◌then◌else◌, Option, Some, None, is_some, option_map}
-use Rattle.std.specs.Prelude.{unwrap_or, List, [], ◌∷◌, drop, filter, length, map, Result, Ok, Err}
+use Rattle.std.specs.Prelude.{◌≡◌, ℕ, ◌-◌, ◌/◌, ◌==◌, ◌&&◌, ◌||◌, Bool, if◌then◌else◌, Option, Some, None, is_some}
+use Rattle.std.specs.Prelude.{List, [], ◌∷◌, drop, length, map, Result, Ok, Err}
 use Rattle.bench_core.specs.Machine.{looked_up, service_asked}
 use Rattle.macro_statements.specs.Requests.{Act, Written, act, peek}
 use Rattle.vsm_model.specs.declared.limits.Settings.{Settings}
@@ -100,5 +100,6 @@ module _ (settings : Settings) where
   -- Exactly that is found in a script, or it can't be followed.
   abbrev pub AreFound : List ℕ → Result Findings WhoFault → Type 0
   AreFound script (Ok found) =
-      (answers : List Marked) × Ended settings script answers × ((line : ℕ) → found_on found line ≡ finding_on answers line)
+      (answers : List Marked) × Ended settings script answers
+      × ((line : ℕ) → found_on found line ≡ finding_on answers line)
   AreFound script (Err fault) = FollowsNot settings script fault

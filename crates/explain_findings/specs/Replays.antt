@@ -1,6 +1,6 @@
 -- What is known after some statements in effect, and what was found of them.
-use Rattle.std.specs.Prelude.{◌≡◌, ℕ, ◌≤◌, Bool, true, false, ◌&&◌, ◌==◌, if◌then◌else◌, Option, Some, None, List, [], ◌∷◌, Ok}
-use Rattle.std.specs.Prelude.{map, reverse, take}
+use Rattle.std.specs.Prelude.{◌≡◌, ℕ, ◌≤◌, Bool, true, false, ◌&&◌, ◌==◌, if◌then◌else◌, Option, Some, None, Ok}
+use Rattle.std.specs.Prelude.{List, [], ◌∷◌, map, reverse, take}
 use Rattle.std.specs.List.{list_any}
 use Rattle.bench_core.specs.Machine.{service_asked}
 use Rattle.bench_core.specs.Stands.{IsNew, bench_of, settings_in}
@@ -17,7 +17,8 @@ use Rattle.vsm_model.specs.Services.{Service}
 use Rattle.explain_areas.specs.Since.{taken_since}
 use Rattle.explain_who.specs.declared.trail.TrailEntry.{TrailEntry}
 use Rattle.explain_findings.specs.Endings.{can_end, ended_by, gives, machine_after, reply_to}
-use Rattle.explain_findings.specs.Found.{AreFound, finding_at, is_something, judged, judged_readings, on_line, reading_finding}
+use Rattle.explain_findings.specs.Found.{AreFound, finding_at, is_something, judged, judged_readings, on_line}
+use Rattle.explain_findings.specs.Found.{reading_finding}
 use Rattle.explain_findings.specs.LineMaps.{line_in}
 use Rattle.explain_findings.specs.NameEndings.{can_end_in, ending_kept, word_kept}
 use Rattle.explain_findings.specs.Standings.{IsFollowedBy, acts_in, reading_in}
@@ -132,8 +133,8 @@ CarriesOut b known e ends gets reply c after =
     Knows settings (line_act e ∷ older) c after × (reply_to settings older (act_in e.seen) ≡ Some reply)
 
 -- or both.
-abbrev pub Follows : Bench → Known → TrailEntry Statement → Finding → Bench → Known → Type 0
-Follows b known e f c after =
+abbrev pub JudgesNext : Bench → Known → TrailEntry Statement → Finding → Bench → Known → Type 0
+JudgesNext b known e f c after =
     (settings : Settings) (older : List (ℕ × Act)) → Knows settings older b known →
     Knows settings (line_act e ∷ older) c after × (finding_at settings older (act_in e.seen) ≡ f)
 

@@ -8,8 +8,8 @@ ghost use Rattle.vsm_model.specs.Standing.{Accepted};
 ghost use Rattle.explain_areas.specs.Followed.{taken_in};
 ghost use Rattle.explain_findings.specs.Found.{AreFound};
 ghost use Rattle.explain_findings.specs.LineMaps.{line_in};
-ghost use Rattle.explain_findings.specs.Replays.{CarriesOut, FindsIn, Follows, FollowsSome, GoesOn, GoesTo, IsGiven, IsNothingFound};
-ghost use Rattle.explain_findings.specs.Replays.{Judges, Reads, ReplaysAll, Rises, depths};
+ghost use Rattle.explain_findings.specs.Replays.{CarriesOut, FindsIn, FollowsSome, GoesOn, GoesTo, IsGiven};
+ghost use Rattle.explain_findings.specs.Replays.{IsNothingFound, Judges, JudgesNext, Reads, ReplaysAll, Rises, depths};
 ghost use Rattle.explain_findings.specs.Replays.{is_get, is_in, part_kept, with_finding, word_given};
 ghost use Rattle.explain_findings.specs.Tables.{on_table};
 
@@ -151,7 +151,11 @@ fn is_get(service: &Service<'_>) -> bool
 fn taken_bytes(bench: &Bench, asked: bool) -> u64
     ensures { result ≡ (if asked then taken_in bench.now else 0) }
 {
-    if asked { totals(bench.storage()).taken } else { 0 }
+    if asked {
+        totals(bench.storage()).taken
+    } else {
+        0
+    }
 }
 
 /// Carries out a statement that was accepted before. `AllocError` if it's refused now.
@@ -186,7 +190,9 @@ fn carry_out(
     let runs = taken_by(reply, before, after);
     take_runs(&mut known.lines, alloc, runs.as_slice(), entry.line)?;
     let guess = known.guess;
-    known.endings.end(bench.storage(), can_end, entry.line, guess);
+    known
+        .endings
+        .end(bench.storage(), can_end, entry.line, guess);
     give(&mut known.endings, &entry.seen, reply)?;
     Ok(reply)
 }
@@ -230,7 +236,7 @@ fn judge(
     known: &mut Known,
     entry: &TrailEntry<Statement>,
 ) -> Result<Finding, AllocError>
-    ensures { IfOk result (λ f. Follows bench.old known.old entry.now f bench.new known.new) }
+    ensures { IfOk result (λ f. JudgesNext bench.old known.old entry.now f bench.new known.new) }
 {
     if !entry.seen.valid() {
         return Err(AllocError);
@@ -238,14 +244,7 @@ fn judge(
     let Some(judged) = judge_before(bench, known, &entry.seen) else {
         return Err(AllocError);
     };
-    let reply = carry_out(
-        alloc,
-        bench,
-        known,
-        entry,
-        judged.can_end,
-        judged.is_get,
-    )?;
+    let reply = carry_out(alloc, bench, known, entry, judged.can_end, judged.is_get)?;
     let mut finding = judged.finding;
     finding.part = part_kept(reply, finding.part);
     Ok(finding)
@@ -339,7 +338,8 @@ fn find_in(alloc: Global, followed: &Followed, bench: Bench) -> Result<Findings,
 {
     let mut replay = start(alloc, bench);
     let entries = followed.trail.standing();
-    judge_all(alloc, &mut replay, entries, followed.readings.as_slice())?;
+    let readings = followed.readings.as_slice();
+    judge_all(alloc, &mut replay, entries, readings)?;
     Ok(replay.found)
 }
 

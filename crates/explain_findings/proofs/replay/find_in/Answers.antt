@@ -6,8 +6,8 @@ use Rattle.explain_findings.proofs.replay.find_in.Goals as goal
 
 pub returns : goal.returns
 returns c = λ settings script new followed.
-    everything_found settings script c.args.followed.now c.start-replay.result c.judge_all.new.replay c.standing-entries.result.now c.as_slice.result.now
-    (subst (λ b. IsNew settings (Ok b)) (sym c.start-replay.ensures.bench) new) followed c.standing-entries.ensures c.as_slice.ensures.value c.start-replay.ensures.nothing c.in_ok-judge_all.ensures
+    everything_found settings script c.args.followed.now c.start-replay.result c.judge_all.new.replay c.standing-entries.result.now c.as_slice-readings.result.now
+    (subst (λ b. IsNew settings (Ok b)) (sym c.start-replay.ensures.bench) new) followed c.standing-entries.ensures c.as_slice-readings.ensures.value c.start-replay.ensures.nothing c.in_ok-judge_all.ensures
 
 pub judge_all-requires : goal.judge_all-requires
-judge_all-requires c = readings_rise c.requires.0 c.requires.1 c.args.followed.now c.requires.2 c.standing-entries.result.now c.as_slice.result.now c.standing-entries.ensures c.as_slice.ensures.value
+judge_all-requires c = readings_rise c.requires.0 c.requires.1 c.args.followed.now c.requires.2 c.standing-entries.result.now c.as_slice-readings.result.now c.standing-entries.ensures c.as_slice-readings.ensures.value
