@@ -43,7 +43,7 @@ low_taken b d e =
     let low = low_page (settings_of b) (d / 512) b.held.valid (sound.well_formed.pages.in_region (d / 512) at.0 at.1) in
     omega (arith, low))
 
--- What a service takes is told by its reply.
+-- The reply of a service says what it takes.
 taken_is : (b : Storage) (names_full : Bool) (m t : State) (x : Service) (r : Reply) → TakenByTheReply → state_of b ≡ m → step (settings_of b) names_full m x ≡ Accepted t r →
     taken_by r (total_bytes (settings_of b) m true) (total_bytes (settings_of b) t true) ≡ newly_between m t
 taken_is b names_full m t x r law is e =

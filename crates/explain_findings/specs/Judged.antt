@@ -40,7 +40,7 @@ module _ (homes : ℕ → Home) (lines : ℕ → Option ℕ) (ended : List ℕ �
   part_by (Some (services.release r)) = part_at homes lines (r.address / 8) (doublewords r.length)
   part_by _ = None
 
-  -- of a statement that asks for this service; of a release, whatever it's answered
+  -- of a statement that asks for this service; of a release, whatever its answer is
   abbrev pub finding_by : Option Service → Act → Finding
   finding_by service x =
       record { outside = outside_by service; stale = stale_by ended (name_used (act x)); part = part_by service }

@@ -37,7 +37,7 @@ use Rattle.explain_findings.specs.declared.tables.LineTable.{LineTable}
 
 -- ---- one statement
 
--- a GET of a cell, which alone may make an extent that its reply doesn't tell
+-- a GET of a cell: only that may make an extent that isn't in its reply
 abbrev pub is_get : Service → Bool
 is_get (services.get name operands) = true
 is_get (services.obtain o) = false
