@@ -85,7 +85,7 @@ def test_faults_are_at_the_columns_that_check_says(client: Edited, explain: str,
         words = [explain, "check", *options_for("", text), str(path)]
         said = bench.run_anyhow(words[0], words[1:], b"").output.decode()
         lines, wanted = text.split(b"\n"), set()
-        for line, column, rest in re.findall(r":(\d+):(\d+): (?!NOT CARRIED OUT|ABEND|REFUSED)(.*)", said):
+        for line, column, rest in re.findall(r":(\d+):(\d+): (?!NOT CARRIED OUT|ABEND|REFUSED|OUTSIDE|STALE|PART)(.*)", said):
             # An editor has no columns after a line's end, and none within a letter.
             before = lines[int(line) - 1][:int(column) - 1].decode("utf-8", "ignore").encode()
             wanted.add("%s:%d: %s" % (line, len(before) + 1, rest))

@@ -120,10 +120,10 @@ wrong_of settings found answers (m ∷ []) None brings = absurd brings
 wrong_of settings found answers (m ∷ n ∷ ms) None brings = absurd brings
 wrong_of settings found answers (m ∷ n ∷ ms) (Some told) brings = absurd brings
 
-pub wrong_more : (settings : Settings) (found : ℕ → Option Finding) (answers more : List Marked) (told : Option (ℕ × Response)) (wrong its : Bool) → Brings settings answers more told
-    → wrong ≡ finds_wrong found answers → its ≡ is_wrong (found_told found told) → (wrong || its) ≡ finds_wrong found (answers ++ more)
-wrong_more settings found answers more told wrong its brings before is =
-    (λ i. before i || (is ∙ wrong_of settings found answers more told brings) i) ∙ sym (wrong_push found answers more)
+pub wrong_more : (settings : Settings) (found : ℕ → Option Finding) (answers more : List Marked) (told : Option (ℕ × Response)) (wrong its both : Bool) → Brings settings answers more told
+    → wrong ≡ finds_wrong found answers → its ≡ is_wrong (found_told found told) → both ≡ (wrong || its) → both ≡ finds_wrong found (answers ++ more)
+wrong_more settings found answers more told wrong its both brings before is either =
+    either ∙ (λ i. before i || (is ∙ wrong_of settings found answers more told brings) i) ∙ sym (wrong_push found answers more)
 
 -- another page
 pub holds_checks : (settings : Settings) (name script : List ℕ) (found : ℕ → Option Finding) (first old now : Option (List ℕ)) (before after : Gathered) (answers : List Marked) (lines shown : List SourceLine)

@@ -78,44 +78,44 @@ AreChecks settings script found answers lines pages =
 
 module _ (settings : Settings) (script name : List ℕ) (found : ℕ → Option Finding) (at_first now : Option (List ℕ))
   where
-  -- The writer holds what is said of these answers and lines, each time after this name and a place, except what is
-  -- gathered;
-  abbrev pub HoldsChecks : Gathered → List Marked → List SourceLine → Type 0
-  HoldsChecks g answers lines =
-      (pages : List CheckPage) × AreChecks settings script found answers lines pages
-      × Holds at_first now g (flat_map (check_text name) (said_in pages))
+    -- The writer holds what is said of these answers and lines, each time after this name and a place, except what is
+    -- gathered;
+    abbrev pub HoldsChecks : Gathered → List Marked → List SourceLine → Type 0
+    HoldsChecks g answers lines =
+        (pages : List CheckPage) × AreChecks settings script found answers lines pages
+        × Holds at_first now g (flat_map (check_text name) (said_in pages))
 
-  -- this follows what it held at first, or a prefix of it does.
-  abbrev pub AppendsChecks : List Marked → List SourceLine → Type 0
-  AppendsChecks answers lines =
-      (pages : List CheckPage) × AreChecks settings script found answers lines pages
-      × Appends at_first now (flat_map (check_text name) (said_in pages))
+    -- this follows what it held at first, or a prefix of it does.
+    abbrev pub AppendsChecks : List Marked → List SourceLine → Type 0
+    AppendsChecks answers lines =
+        (pages : List CheckPage) × AreChecks settings script found answers lines pages
+        × Appends at_first now (flat_map (check_text name) (said_in pages))
 
-  abbrev pub AppendsFrontOfChecks : List Marked → List SourceLine → Type 0
-  AppendsFrontOfChecks answers lines =
-      (pages : List CheckPage) × AreChecks settings script found answers lines pages
-      × AppendsFront at_first now (flat_map (check_text name) (said_in pages))
+    abbrev pub AppendsFrontOfChecks : List Marked → List SourceLine → Type 0
+    AppendsFrontOfChecks answers lines =
+        (pages : List CheckPage) × AreChecks settings script found answers lines pages
+        × AppendsFront at_first now (flat_map (check_text name) (said_in pages))
 
-  -- A prefix of what is said of all answers and lines, or of first ones, went out.
-  abbrev pub ChecksFront : Type 0
-  ChecksFront =
-      (answers : List Marked) × (lines : List SourceLine) × AreAnswers settings script answers
-      × (AreAllLines script lines ⊎ AreFirstLines lines) × AppendsFrontOfChecks answers lines
+    -- A prefix of what is said of all answers and lines, or of first ones, went out.
+    abbrev pub ChecksFront : Type 0
+    ChecksFront =
+        (answers : List Marked) × (lines : List SourceLine) × AreAnswers settings script answers
+        × (AreAllLines script lines ⊎ AreFirstLines lines) × AppendsFrontOfChecks answers lines
 
-  -- It says whether an answer of the script is a refusal, or something wrong is found; and what goes out is said of all
-  -- answers and all lines; if a byte passes a bound, of all answers before it and of first lines. After a write fault,
-  -- or if memory runs out for the reason of a refusal, a prefix of it went out.
-  abbrev pub ChecksAll : Result Bool ListFault → Type 0
-  ChecksAll (Ok wrong) =
-      (answers : List Marked) × (lines : List SourceLine) × Ended settings script answers × AreAllLines script lines
-      × (wrong ≡ (nat_lt 0 (refusals settings nothing_stands answers) || finds_wrong found answers))
-      × AppendsChecks answers lines
-  ChecksAll (Err fault.TooLong) =
-      (answers : List Marked) × (lines : List SourceLine) × PassesBound settings script answers × AreFirstLines lines
-      × AppendsChecks answers lines
-  ChecksAll (Err fault.Write) = ChecksFront
-  ChecksAll (Err fault.Memory) = ChecksFront
-  ChecksAll (Err (fault.New f)) = IsNewFault settings f × Appends at_first now []
+    -- It says whether an answer of the script is a refusal, or something wrong is found; and what goes out is said of all
+    -- answers and all lines; if a byte passes a bound, of all answers before it and of first lines. After a write fault,
+    -- or if memory runs out for the reason of a refusal, a prefix of it went out.
+    abbrev pub ChecksAll : Result Bool ListFault → Type 0
+    ChecksAll (Ok wrong) =
+        (answers : List Marked) × (lines : List SourceLine) × Ended settings script answers × AreAllLines script lines
+        × (wrong ≡ (nat_lt 0 (refusals settings nothing_stands answers) || finds_wrong found answers))
+        × AppendsChecks answers lines
+    ChecksAll (Err fault.TooLong) =
+        (answers : List Marked) × (lines : List SourceLine) × PassesBound settings script answers × AreFirstLines lines
+        × AppendsChecks answers lines
+    ChecksAll (Err fault.Write) = ChecksFront
+    ChecksAll (Err fault.Memory) = ChecksFront
+    ChecksAll (Err (fault.New f)) = IsNewFault settings f × Appends at_first now []
 
 -- What is found on lines: by a run of the whole script, in which memory may run out at other statements; nothing, if a
 -- byte of the script passes a bound.

@@ -203,7 +203,7 @@ fn address_keywords(request: &Request) -> &'static [&'static [u8]] {
     }
 }
 
-/// The place at which the findings of an answer's statement are reported, by the lines of the statement.
+/// The place among these lines at which what is found of their statement is reported.
 pub(crate) fn found_place(script: &[u8], lines: &[SourceLine], answered: &Answered) -> TextPlace {
     match answered.found {
         Some(_) => operand_place(script, lines, address_keywords(answered.request)),

@@ -34,10 +34,8 @@ returns-in-Ok g c = λ settings first h.
     let opens = open_page settings script h.answers (h.listed ++ shown_of last) last rest ending e paged.carries c.show_open.ensures.whole c.show_open.ensures.carried in
     let one = page_under settings its name found (marks_in (shown_of last) last.fault) b b asked ending.last _ _ _ _ under refl c.put_page-one.ensures.puts in
     let two = page_under settings its name found (marks_in (shown_of rest) rest.fault) b b asked ending.open_statement _ _ _ _ under refl c.put_page-two.ensures.puts in
-    let some : c.either-some.result ≡ finds_wrong found (h.answers ++ e.more) =
-    c.either-some.ensures ∙ wrong_more settings found h.answers e.more ending.last c.args.last.wrong c.put_page-one.result e.last h.wrongs c.put_page-one.ensures.wrong in
-    let finds : c.either-finds.result ≡ finds_wrong found ((h.answers ++ e.more) ++ e.also) =
-    c.either-finds.ensures ∙ wrong_more settings found (h.answers ++ e.more) e.also ending.open_statement c.either-some.result c.put_page-two.result e.unended some c.put_page-two.ensures.wrong in
+    let some = wrong_more settings found h.answers e.more ending.last c.args.last.wrong c.put_page-one.result c.either-some.result e.last h.wrongs c.put_page-one.ensures.wrong c.either-some.ensures in
+    let finds = wrong_more settings found (h.answers ++ e.more) e.also ending.open_statement c.either-some.result c.put_page-two.result c.either-finds.result e.unended some c.put_page-two.ensures.wrong c.either-finds.ensures in
     let wrongs : c.either-wrong.result ≡ (nat_lt 0 (refusals settings nothing_stands ((h.answers ++ e.more) ++ e.also)) || finds_wrong found ((h.answers ++ e.more) ++ e.also)) =
     c.either-wrong.ensures ∙ (λ i. nat_lt 0 (e.counts.1 i) || finds i) in
     let held = checks_page settings name script found first _ _ _ _ (h.answers ++ e.more) e.also b ending.open_statement asked (h.listed ++ shown_of last) (shown_of rest) (marks_in (shown_of rest) rest.fault)

@@ -44,7 +44,7 @@ loop-at-preserved g c =
                 (marks_in (shown_of its) its.fault) e.1 e.3 e.4.led (page_marks script (fault_told told) its shown paged.whole)
                 (page_under settings (settings_in c.bench-bench.result.now) name found (marks_in (shown_of its) its.fault) (bench_of c.bench-bench.result.now) (bench_of c.take_line.new.session.bench) asked told _ _ _ _
                 (ap settings_in c.bench-bench.ensures ∙ e.4.under) (ap bench_of c.bench-bench.ensures) c.put_page-its.ensures.puts) h.held;
-            wrongs = c.either-wrong.ensures ∙ wrong_more settings found h.answers e.0 told c.loop-at.wrong c.put_page-its.result e.1 h.wrongs c.put_page-its.ensures.wrong;
+            wrongs = wrong_more settings found h.answers e.0 told c.loop-at.wrong c.put_page-its.result c.either-wrong.result e.1 h.wrongs c.put_page-its.ensures.wrong c.either-wrong.ensures;
             follow = step_follow h.listed (shown_of its) (open_of its) (open_of c.loop-at.page) more.0 c.loop-at.at c.in-Ok-Some.step.next more.3 (more.1 ∙ place.0)
                 (ap (λ k. k + 1) more.2 ∙ next) h.follow;
             starts = inr place.1.feed;

@@ -1,4 +1,4 @@
-use Rattle.std.proofs.Common.{List, ℕ, Option, ◌∙◌, ap, subst}
+use Rattle.std.proofs.Common.{Option, ◌∙◌, ap, subst}
 use Rattle.macro_statements.specs.Requests.{asked_in}
 use Rattle.explain_findings.specs.declared.findings.Finding.{Finding}
 use Rattle.explain_list.specs.Pages.{marks_in, shown_of}

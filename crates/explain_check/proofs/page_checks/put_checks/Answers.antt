@@ -1,4 +1,4 @@
-use Rattle.std.proofs.Common.{◌≡◌, ◌≤◌, [], ◌++◌, ◌+◌, ◌∙◌, ap, length, take, get_or, subst, sym, arith}
+use Rattle.std.proofs.Common.{◌≡◌, [], ◌++◌, ◌+◌, ◌∙◌, ap, length, take, get_or, subst, sym, arith}
 use Rattle.std.proofs.lemmas.List.{append-nil, take_all}
 use Rattle.explain_list.specs.Pages.{fault_at, marks_in, shown_of}
 use Rattle.explain_list.specs.Rows.{marks_on}

@@ -1,4 +1,4 @@
-use Rattle.std.proofs.Common.{[], ◌++◌, Option, ◌∙◌, subst}
+use Rattle.std.proofs.Common.{[], ◌++◌, Option, subst}
 use Rattle.std.proofs.lemmas.List.{append-nil}
 use Rattle.macro_operands.specs.declared.faults.FaultKind.{FaultKind}
 use Rattle.explain_faults.specs.declared.carets.Caret.{Caret}
