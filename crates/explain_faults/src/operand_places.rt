@@ -47,11 +47,7 @@ fn further_lines(lines: &[SourceLine]) -> &[SourceLine]
 
 /// Where the first operand begins that has one of these keywords, or the first of all if there are none, in a statement
 /// of these lines; its operation, if it has no such operand.
-pub fn operand_place(
-    script: &[u8],
-    lines: &[SourceLine],
-    keywords: &[&'static [u8]],
-) -> TextPlace {
+pub fn operand_place(script: &[u8], lines: &[SourceLine], keywords: &[&'static [u8]]) -> TextPlace {
     let card = first_card(script, lines);
     let (field, _) = field_over(script, &card, further_lines(lines));
     match operand_start(field.text(), keywords) {
