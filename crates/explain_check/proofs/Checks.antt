@@ -92,7 +92,7 @@ name_is (Err kind) asked is = refl
 
 -- and so what is found of it is that of its line
 found_is : (settings : Settings) (found : ℕ → Option Finding) (answers more : List Marked) (told : Option (ℕ × Response)) (asked : Asked) → Brings settings answers more told
-    → AreAsked asked (answers_of more) → found_by (name_told told asked) (found_told found told) ≡ found_of found (taken settings more)
+    → AreAsked asked (answers_of more) → found_by (name_told told asked) (found_told found told) ≡ found_of found (taken more)
 found_is settings found answers [] None asked brings asks = refl
 found_is settings found answers (m ∷ []) (Some told) asked brings asks =
     let named : name_told (Some told) asked ≡ name_of m.answer.what =
