@@ -220,8 +220,10 @@ def same_objects(script: Any, answers_of: Callable[[bytes], list[Any]]) -> Calla
             programs.explained([*words, *script.options, file])
             for words in (["list"], ["check"], ["list", "--json"], ["list", "--json", "--refused"],
                           ["list", "--refused"]))
-        for it in (check, whole, some, some_text):
+        for it in (whole, some, some_text):
             compare("status and standard error", (it.status, it.errors), (text.status, text.errors))
+        is_found = text.status == 0 and re.search(rb":\d+: (?:OUTSIDE|STALE): ", check.output)
+        compare("status and standard error of check", (check.status, check.errors), (4 if is_found else text.status, text.errors))
         if text.status > 4:
             return
         found, pages = objects(whole.output), pages_of(text.output)
