@@ -115,7 +115,7 @@ def test_neovim(trial: Callable[..., None], vsm: str, tmp_path: Path) -> None:
         path.write_bytes(data)
         words = ["check", *options_for("", data), str(path)]
         said = bench.run_anyhow(bench.find_explain(vsm), words, b"").output.decode()
-        found = re.findall(r"(?m)^.*?\.vsm:(\d+:\d+: (?!NOT CARRIED OUT|WARNING|ABEND|REFUSED).*)", said)
+        found = re.findall(r"(?m)^.*?\.vsm:(\d+:\d+: (?!NOT CARRIED OUT|WARNING|ABEND|REFUSED|OUTSIDE|STALE|PART).*)", said)
         path.with_suffix(".vsm.wanted").write_text("".join(it + "\n" for it in found))
         files.append(str(path))
     words = ["nvim", "--headless", "-u", configuration("init.lua", tmp_path), "-i", "NONE", "-c", "luafile neovim.lua"]
