@@ -35,7 +35,7 @@ fn is_deeper(readings: &[Reading], standing: usize) -> bool
 }
 
 /// The newest PEEKs, in whose states more statements than these are in effect, go.
-fn forget(readings: &mut Vec<Reading>, standing: usize)
+fn forget_undone(readings: &mut Vec<Reading>, standing: usize)
     ensures { readings_in readings.new.items ≡ fallen standing (readings_in readings.old.items) }
 {
     while is_deeper(readings.as_slice(), standing) {
@@ -134,7 +134,7 @@ impl Followed {
     {
         self.trail.stepped(before, after);
         let standing = self.trail.standing().len();
-        forget(&mut self.readings, standing);
+        forget_undone(&mut self.readings, standing);
     }
 
     /// Notes what a line did: it added a statement in effect, showed bytes, or stepped over statements, before which
