@@ -19,6 +19,7 @@ import facts
 import manual
 import wheel
 from facts import Commit, Refusal
+from kit import logic_of
 
 # What of tools/ and page/ isn't put with the tools: tests, what bench.html is made from, and the library, which has
 # places of its own.
@@ -148,7 +149,7 @@ def put_programs(release: Release, root: Path) -> None:
         (root / "bin" / name).symlink_to(Path("..") / "share" / "nilbozad" / "tools" / name)
     for name in facts.BENCH:
         copy(release.top / "dist" / name, share / name)
-    put(share / "VERSION", f"nilbozad {release.version} ({release.kit})\n")
+    put(share / "VERSION", f"nilbozad {release.version} ({logic_of(release.kit)})\n")
 
 
 def put_library(release: Release, root: Path) -> None:
