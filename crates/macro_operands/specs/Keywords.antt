@@ -22,6 +22,10 @@ value_text text = after_first (λ c. c == 61) text
 abbrev pub is_keyword_operand : List ℕ → Bool
 is_keyword_operand text = has_equals text && is_name (key_text text)
 
+-- How long the keyword of a keyword operand is.
+abbrev pub keyword_len : List ℕ → Option ℕ
+keyword_len text = if is_keyword_operand text then Some (position_or_len (λ c. c == 61) text) else None
+
 -- An operand's key, and the text of its value.
 pub record Operand : Type 0 where
   pub key : Key

@@ -1,12 +1,12 @@
 //! The operands of a statement, read by its row.
 
-ghost use Rattle.std.specs.Prelude.{◌≡◌, ◌==◌, ◌<◌, IsTrue, IfSome, IfOk, IfErr, OnOk, Some, None};
-ghost use Rattle.std.specs.Prelude.{is_some, length, map, position};
+ghost use Rattle.std.specs.Prelude.{◌≡◌, ◌<◌, IsTrue, IfSome, IfOk, IfErr, OnOk, Some, None};
+ghost use Rattle.std.specs.Prelude.{is_some, length, map};
 ghost use Rattle.std.specs.Option.{option_copied, option_map};
 ghost use Rattle.operand_texts.specs.Field.{outside, operands, operands_from, operands_behind};
 ghost use Rattle.macro_operands.specs.Rows.{same_key};
 ghost use Rattle.macro_operands.specs.Operands.{is_left_out, unknown_fault, first_fault};
-ghost use Rattle.macro_operands.specs.Keywords.{operand_at};
+ghost use Rattle.macro_operands.specs.Keywords.{keyword_len, operand_at};
 ghost use Rattle.macro_operands.specs.Slots.{key_in, upper_key, entry_in, row_in, operand_in, slots_in, found};
 ghost use Rattle.macro_operands.specs.Slots.{slot, is_barred, filled, with_operand, with_operands, answered};
 ghost use Rattle.macro_operands.specs.Slots.{are_apart, no_slots, readings};
@@ -16,7 +16,7 @@ use crate::faults::FaultKind;
 use crate::rows::{Entry, Key, Kind, OperandRow};
 use crate::said::{Said, said_of, unsaid_fault};
 use operand_texts::nesting::split;
-use operand_texts::words::{is_name, is_word};
+use operand_texts::words::{is_word, name_len};
 
 /// An operand's key, its keyword in either case, and the text of its value.
 #[derive(Clone, Copy)]
@@ -25,25 +25,30 @@ pub struct Operand<'a> {
     pub text: &'a [u8],
 }
 
-/// The place of an operand's equals sign.
-fn equals_at(text: &[u8]) -> Option<usize>
-    ensures { result ≡ position (λ c. c == 61) text.now }
+/// How long the keyword of an operand is, if it has one: a name that an equals sign follows.
+fn keyword_len(text: &[u8]) -> Option<usize>
+    ensures value { result ≡ keyword_len text.now }
+    ensures within { IfSome result (λ n. n < length text.now) }
 {
-    text.iter().position(|byte| *byte == b'=')
+    let Some(n) = name_len(text) else {
+        return None;
+    };
+    if n < text.len() && text[n] == b'=' {
+        Some(n)
+    } else {
+        None
+    }
 }
 
 /// The operand that a text at this place among the operands is. An empty text is none.
 pub fn operand_at(place: usize, text: &[u8]) -> Option<Operand<'_>>
     ensures { option_map operand_in result ≡ operand_at place text.now }
 {
-    if let Some(i) = equals_at(text) {
-        let name = &text[..i];
-        if is_name(name) {
-            return Some(Operand {
-                key: Key::Keyword(name),
-                text: &text[i + 1..],
-            });
-        }
+    if let Some(i) = keyword_len(text) {
+        return Some(Operand {
+            key: Key::Keyword(&text[..i]),
+            text: &text[i + 1..],
+        });
     }
     if text.is_empty() {
         return None;

@@ -1,5 +1,5 @@
 -- The blanks that fill a line are no part of what it says: a line is skipped by its own columns.
-use Rattle.std.proofs.Common.{◌≡◌, ◌≤◌, ◌+◌, ◌-◌, ◌==◌, ◌&&◌, ℕ, zero, suc, List, [], ◌∷◌, length, min, take, drop, replicate, ◌++◌, Bool, true, false, arith, sym, ap, refl, ◌∙◌, inl, inr, append-nil}
+use Rattle.std.proofs.Common.{◌≡◌, ◌+◌, ◌-◌, ◌==◌, ◌&&◌, ℕ, zero, suc, List, [], ◌∷◌, length, min, take, drop, replicate, ◌++◌, Bool, true, false, arith, sym, ap, refl, ◌∙◌, inl, inr, append-nil}
 use Rattle.std.proofs.Math.Seq.{take-append-add}
 use Rattle.std.proofs.lemmas.List.{take_all, take-append-le, take-replicate, drop-replicate}
 use Rattle.std.proofs.lemmas.List.Folds.{list_all-append}

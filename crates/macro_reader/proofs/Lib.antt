@@ -5,4 +5,5 @@ pub mod WrittenLines
 pub mod ReadRequests
 pub mod Above
 pub mod Blanks
+mod OneLine
 mod LineRoles

@@ -1,12 +1,12 @@
 -- What each line is, by the parts of a script, the way Readings.antt goes through its answers.
-use Rattle.std.proofs.Common.{◌≡◌, ℕ, ◌+◌, ◌≤◌, ◌⊎◌, ◌&&◌, ◌||◌, ◌==◌, map, Bool, true, false, List, [], ◌∷◌, ◌++◌, length, Option, Some, None, is_none, refl, ap, sym, ◌∙◌, append_assoc, arith, inl, inr, add-zero, zero-add}
+use Rattle.std.proofs.Common.{◌≡◌, ℕ, ◌+◌, ◌≤◌, ◌⊎◌, ◌&&◌, ◌||◌, ◌==◌, map, Bool, true, false, List, [], ◌∷◌, ◌++◌, length, Option, Some, None, is_none, refl, ap, sym, ◌∙◌, arith, inl, inr, add-zero, zero-add}
 use Rattle.std.specs.List.{flat_map, AllByRecursion}
 use Rattle.std.proofs.lemmas.Bool.{eq-eqb}
 use Rattle.std.proofs.lemmas.Bool.Decides.{eqb_tells}
 use Rattle.macro_reader.specs.Columns.{Line, used, is_continued, is_skipped}
 use Rattle.macro_reader.specs.Continuation.{Joined, begun, with_line, with_lines}
 use Rattle.macro_statements.specs.Statements.{statement_with}
-use Rattle.macro_reader.specs.Scripts.{Answer, number_behind, Part, skipped, whole, broken, IsPart, IsGroup, IsBreak, AllContinued, lines_of, IsDropping, Reads, Drops, Gathers, Mode, awaiting, dropping, gathering, idle_with, gathered_with, behind_break, moved}
+use Rattle.macro_reader.specs.Scripts.{Answer, number_behind, Part, skipped, whole, broken, IsPart, IsGroup, AllContinued, lines_of, IsDropping, Mode, awaiting, dropping, gathering, idle_with, gathered_with, behind_break, moved}
 use Rattle.macro_reader.specs.Roles.{Role, aside, first, further, breaking, gone, first_role, further_role, role, roles_after, roles_of, RolesAreOfParts, RolesAreOfBroken, RolesAreOfOpen}
 
 abbrev mode_after : ℕ → Mode → List Line → Mode

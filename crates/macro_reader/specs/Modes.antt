@@ -1,6 +1,6 @@
 -- The state of the code's reader, as the grammar sees it.
 use Rattle.std.specs.Prelude.{ℕ, List, [], ◌∷◌, Err}
-use Rattle.macro_reader.specs.Continuation.{Joined}
+use Rattle.macro_reader.specs.Continuation.{Joined, begun}
 use Rattle.macro_reader.specs.Scripts as grammar
 use Rattle.macro_reader.specs.Scripts.{Answer}
 use Rattle.macro_statements.specs.Statements.{statement_with}
@@ -25,6 +25,7 @@ mode_of Gathering o = grammar.gathering o.number o.first (joined o.gathered) o.g
 -- The answers that are due, by the statement as the line leaves it.
 abbrev pub due_of : Due → OpenStatement → List Answer
 due_of due.Nothing o = []
+due_of due.Line o = record { line = o.number; what = statement_with o.first (begun o.first).text } ∷ []
 due_of due.Whole o = record { line = o.number; what = statement_with o.first (joined o.gathered).text } ∷ []
 due_of due.Broken o = record { line = o.number; what = Err kind.Continuation } ∷ []
 

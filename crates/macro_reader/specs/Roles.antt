@@ -3,7 +3,7 @@ use Rattle.std.specs.Prelude.{◌≡◌, ℕ, ◌+◌, Bool, ◌&&◌, ◌||◌,
 use Rattle.std.specs.List.{flat_map}
 use Rattle.macro_reader.specs.Columns.{Line, used, is_continued, is_skipped}
 use Rattle.macro_reader.specs.Continuation.{Joined, with_line}
-use Rattle.macro_reader.specs.Scripts.{Answer, Part, skipped, whole, broken, lines_of, number_behind, Reads, Drops}
+use Rattle.macro_reader.specs.Scripts.{Answer, Part, skipped, whole, broken, number_behind, Reads, Drops}
 use Rattle.macro_reader.specs.Scripts.{Gathers, Mode, awaiting, dropping, gathering, moved}
 use Rattle.macro_reader.specs.declared.reading.ReaderState.{ReaderState}
 use Rattle.macro_reader.specs.declared.reading.ReaderState.TheVariants as stand

@@ -12,12 +12,14 @@ ghost use Rattle.macro_reader.specs.Modes.{joined};
 use crate::columns::is_blank;
 use crate::modes::{FIELD_BYTES, OpenField};
 use arrayvec::ArrayVec;
-use macro_statements::{Head, head_of};
+use macro_statements::head_of;
 use operand_texts::nesting::Nesting;
+use operand_texts::runs::end_of_run;
 
 /// How many bytes of a text, whose first byte has this nesting, belong to the field, those up to the first blank
 /// outside apostrophes or all, and the nesting of the byte after them. No byte above a parenthesis changes that.
-fn field_part(start: Nesting, text: &[u8]) -> (usize, Nesting)
+#[inline(always)]
+pub(crate) fn field_part(start: Nesting, text: &[u8]) -> (usize, Nesting)
     requires { start.depth + length text.now < 2 ^ 64 }
     ensures len { result.0 ≡ field_len start text.now }
     ensures within { result.0 ≤ length text.now }
@@ -25,14 +27,18 @@ fn field_part(start: Nesting, text: &[u8]) -> (usize, Nesting)
     ensures depth { result.1.depth ≤ start.depth + result.0 }
 {
     let mut at = start;
-    for (i, byte) in text.iter().enumerate() {
-        if *byte > b')' {
-            continue;
+    let mut i = 0;
+    'marks: while i < text.len() {
+        let mark = end_of_run(text, i, b')');
+        if mark == text.len() {
+            return (mark, at);
         }
-        if *byte == b' ' && !at.quoted {
-            return (i, at);
+        let byte = text[mark];
+        if byte == b' ' && !at.quoted {
+            return (mark, at);
         }
-        at = at.past(*byte);
+        at = at.past(byte);
+        i = mark + 1;
     }
     (text.len(), at)
 }
@@ -69,11 +75,9 @@ fn is_indented(card: &[u8]) -> bool
 }
 
 impl OpenField {
-    /// Takes the field's part on a first line, columns 1 to 71 of it, in place of what was gathered, and says what
-    /// precedes it.
-    pub(crate) fn begin(&mut self, card: &[u8]) -> Head
+    /// Takes the field's part on a first line, columns 1 to 71 of it, in place of what was gathered.
+    pub(crate) fn begin(&mut self, card: &[u8])
         requires { length card.now ≡ 71 }
-        ensures head { IsHead result card.now }
         ensures joined { joined self.new ≡ begun card.now }
         ensures lines { self.new.lines ≡ 0 }
     {
@@ -85,7 +89,6 @@ impl OpenField {
         if !head.misplaced && !rest.is_empty() {
             self.take_part(rest);
         }
-        head
     }
 
     /// Takes the field's part of a line.

@@ -3,10 +3,8 @@
 ghost use Rattle.std.specs.Prelude.{◌≡◌, ◌+◌, ◌*◌, ◌≤◌};
 ghost use Rattle.arrayvec.specs.ArrayVec.{array_vec_len};
 ghost use Rattle.operand_texts.specs.Field.{outside, nesting_after};
-ghost use Rattle.macro_statements.specs.Statements.{IsHead};
 
 use arrayvec::ArrayVec;
-use macro_statements::Head;
 use operand_texts::nesting::Nesting;
 
 /// The most bytes of a field that a first line and nine continuation lines hold: 71 and 9 times 56.
@@ -36,10 +34,7 @@ pub struct OpenStatement {
     pub number: u32,
     /// Columns 1 to 71 of its first line, or of a line after it that was skipped.
     pub first: [u8; 71],
-    /// What that line says before its operand field.
-    pub head: Head,
     pub gathered: OpenField,
-    ghost is_head: { IsHead head first },
 }
 
 impl OpenStatement {
@@ -48,10 +43,6 @@ impl OpenStatement {
         OpenStatement {
             number: 0,
             first: [b' '; 71],
-            head: Head {
-                misplaced: false,
-                operation: None,
-            },
             gathered: OpenField {
                 text: ArrayVec::new(),
                 at: Nesting::outside(),
@@ -67,7 +58,9 @@ impl OpenStatement {
 pub enum Due {
     /// None.
     Nothing,
-    /// What the statement that the line ends asks for.
+    /// What the statement that is this line asks for.
+    Line,
+    /// What the open statement that the line ends asks for.
     Whole,
     /// The fault of the statement: the line breaks a rule of continuation.
     Broken,

@@ -1,19 +1,24 @@
 //! A reader that is fed line by line.
 
-ghost use Rattle.std.specs.Prelude.{◌≡◌, ◌≤◌, [], ◌∷◌, ◌++◌, List};
+ghost use Rattle.std.specs.Prelude.{◌≡◌, ◌≤◌, [], ◌∷◌, ◌++◌, List, OnOk};
 ghost use Rattle.macro_reader.specs.Columns.{Line, is_continued};
 ghost use Rattle.macro_reader.specs.Scripts.{Answer, Answers, IsBehind, IsValidFed, told_by, told_at_end, moved};
 ghost use Rattle.macro_reader.specs.Scripts.{behind_break, awaiting};
 ghost use Rattle.macro_reader.specs.Rooms.{told_with, IsValidWith};
-ghost use Rattle.macro_statements.specs.Requests.{asked_in};
+ghost use Rattle.macro_statements.specs.Requests.{asked_in, IsValidAsked};
+ghost use Rattle.macro_statements.specs.Rooms.{left};
+ghost use Rattle.macro_statements.specs.Statements.{statement_with};
+ghost use Rattle.macro_reader.specs.Continuation.{begun};
 ghost use Rattle.macro_reader.specs.Modes.{mode_of, due_of, most_lines};
 ghost use Rattle.macro_reader.specs.Roles.{IsStand};
 ghost use Rattle.macro_reader.specs.declared.modes.OpenStatement.{OpenStatement};
 ghost use Rattle.macro_reader.specs.declared.modes.Mode.TheVariants.{Awaiting, Gathering};
 
 use crate::columns::{is_continued, is_skipped, put_used};
+use crate::continuation::field_part;
 use crate::modes::{Due, Mode, OpenStatement};
-use macro_statements::{FaultKind, Request, statement_into};
+use macro_statements::{FaultKind, Request, head_of, statement_into};
+use operand_texts::nesting::Nesting;
 use std::marker::Model;
 use std::mem;
 
@@ -77,12 +82,12 @@ fn start(number: u32, mode: &mut Mode, statement: &mut OpenStatement, line: &[u8
     }
     put_used(&mut statement.first, line);
     statement.number = number;
-    statement.head = statement.gathered.begin(&statement.first);
     if is_continued(line) {
+        statement.gathered.begin(&statement.first);
         *mode = Mode::Gathering;
         return Due::Nothing;
     }
-    Due::Whole
+    Due::Line
 }
 
 /// The state of a reader after a line that breaks a rule of continuation or is dropped, whatever statement it has.
@@ -139,6 +144,27 @@ fn move_on(number: u32, mode: &mut Mode, statement: &mut OpenStatement, line: &[
     }
 }
 
+/// Puts the request of a statement on one line, columns 1 to 71 of it, into a room, or returns its first fault.
+fn line_into(card: &[u8], request: &mut Request) -> Result<(), FaultKind>
+    ensures value { left result request.new ≡ statement_with card.now (begun card.now).text }
+    ensures valid { OnOk result (IsValidAsked (asked_in request.new)) }
+{
+    let (head, rest) = head_of(card);
+    let (n, at) = field_part(Nesting::outside(), rest);
+    statement_into(head, &rest[..n], at.is_closed(), request)
+}
+
+/// Puts the request of a statement that was gathered into a room, or returns its first fault.
+fn lines_into(statement: &OpenStatement, request: &mut Request) -> Result<(), FaultKind>
+    ensures value { left result request.new
+        ≡ statement_with statement.now.first statement.now.gathered.text.items }
+    ensures valid { OnOk result (IsValidAsked (asked_in request.new)) }
+{
+    let (head, _) = head_of(&statement.first);
+    let field = &statement.gathered;
+    statement_into(head, field.text.as_slice(), field.at.is_closed(), request)
+}
+
 impl Reader {
     /// A reader that was fed no line.
     pub fn new() -> Reader
@@ -185,18 +211,14 @@ impl Reader {
         let open = &self.statement;
         let kind = match due {
             Due::Nothing => return Ok(None),
-            Due::Whole => {
-                let field = &open.gathered;
-                match statement_into(
-                    open.head,
-                    field.text.as_slice(),
-                    field.at.is_closed(),
-                    request,
-                ) {
-                    Ok(()) => return Ok(Some(open.number)),
-                    Err(kind) => kind,
-                }
-            }
+            Due::Line => match line_into(&open.first, request) {
+                Ok(()) => return Ok(Some(open.number)),
+                Err(kind) => kind,
+            },
+            Due::Whole => match lines_into(open, request) {
+                Ok(()) => return Ok(Some(open.number)),
+                Err(kind) => kind,
+            },
             Due::Broken => FaultKind::Continuation,
         };
         let line = open.number;

@@ -165,6 +165,7 @@ fn is_misplaced(card: &[u8]) -> bool
 /// What a first line, columns 1 to 71 of it, says before its operand field, and its text from the operands on: what
 /// follows the blanks after the operation. That may be empty, and is so if an operation has no operands but only
 /// remarks.
+#[inline(always)]
 pub fn head_of(card: &[u8]) -> (Head, &[u8])
     ensures head { IsHead result.0 card.now }
     ensures rest { result.1.now ≡ from_operands card.now }

@@ -1,9 +1,11 @@
 -- A text is scanned byte by byte; bytes above those that delimit a field change nothing.
 use Rattle.std.proofs.Common.{◌≡◌, ℕ, ◌+◌, ◌<◌, ◌≤◌, ◌==◌, Bool, true, false, not, ◌&&◌, List, ◌∷◌, length, drop, get_or, if◌then◌else◌, arith, refl, sym, ap, ◌∙◌}
-use Rattle.std.proofs.lemmas.List.{drop_more}
+use Rattle.std.proofs.lemmas.List.{drop_more, at_drop_all}
 use Rattle.std.proofs.lemmas.Bool.Decides.{nat_tests}
 use Rattle.operand_texts.specs.declared.nesting.Nesting.{Nesting}
 use Rattle.operand_texts.specs.Field.{past, field_len, is_balanced, operand_len}
+use Rattle.operand_texts.specs.Runs.{AreAbove}
+use Rattle.operand_texts.proofs.RunBytes.{handed_on}
 
 apart : (c d : ℕ) → d < c → (c == d) ≡ false
 apart c d h = grind (arith, nat_tests)
@@ -87,3 +89,19 @@ operand_goes_on n m t i all h p k e =
 pub operand_ends : (n : Nesting) (t : List ℕ) (i all : ℕ) → i < length t → (get_or t i 0 == 44 && not n.quoted && (n.depth == 0)) ≡ true → i + operand_len n (drop i t) ≡ all → i ≡ all
 operand_ends n t i all h k e =
     ended i _ all (ap (operand_len n) (drop_more t i 0 h) ∙ ap (λ b. if b then 0 else 1 + operand_len (past n (get_or t i 0)) (drop (i + 1) t)) k) e
+
+-- bytes above at once
+pub field_skips : (n : Nesting) (t : List ℕ) (i j all : ℕ) → i ≤ j → j ≤ length t → AreAbove 41 t i j → i + field_len n (drop i t) ≡ all → j + field_len n (drop j t) ≡ all
+field_skips n t i j all h within above e =
+    handed_on (λ k. k + field_len n (drop k t) ≡ all) i j h (λ k from below q. field_passes n t k all (omega arith) (above k from below) q) e
+
+pub operand_skips : (n : Nesting) (t : List ℕ) (i j all : ℕ) → i ≤ j → j ≤ length t → AreAbove 44 t i j → i + operand_len n (drop i t) ≡ all → j + operand_len n (drop j t) ≡ all
+operand_skips n t i j all h within above e =
+    handed_on (λ k. k + operand_len n (drop k t) ≡ all) i j h (λ k from below q. operand_passes n t k all (omega arith) (above k from below) q) e
+
+-- no byte is left
+pub field_over : (n : Nesting) (t : List ℕ) (i all : ℕ) → length t ≤ i → i + field_len n (drop i t) ≡ all → i ≡ all
+field_over n t i all h e = ended i _ all (at_drop_all (field_len n) t i h) e
+
+pub operand_over : (n : Nesting) (t : List ℕ) (i all : ℕ) → length t ≤ i → i + operand_len n (drop i t) ≡ all → i ≡ all
+operand_over n t i all h e = ended i _ all (at_drop_all (operand_len n) t i h) e

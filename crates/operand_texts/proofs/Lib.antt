@@ -1,3 +1,4 @@
+pub mod RunBytes
 pub mod Above
 mod ClassTable
 mod DigitTable

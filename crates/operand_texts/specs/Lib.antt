@@ -3,3 +3,4 @@ pub mod Words
 pub mod Field
 pub mod Written
 pub mod Values
+pub mod Runs

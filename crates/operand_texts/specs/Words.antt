@@ -1,5 +1,6 @@
 -- Names and the words of a line.
-use Rattle.std.specs.Prelude.{ℕ, Bool, ◌&&◌, ◌||◌, ◌==◌, nat_le, List, length, map, take, drop, slice_index}
+use Rattle.std.specs.Prelude.{ℕ, Bool, ◌&&◌, ◌||◌, ◌==◌, nat_le, if◌then◌else◌, List, length, map, take, drop, slice_index}
+use Rattle.std.specs.Prelude.{Option, Some, None}
 use Rattle.std.specs.List.{list_all, prefix_len, position_or_len}
 use Rattle.std.specs.Str.{bytes_eq}
 use Rattle.std.specs.Char.{to_ascii_uppercase}
@@ -17,6 +18,14 @@ is_name_byte c = is_letter c || (nat_le 48 c && nat_le c 57)
 abbrev pub is_name : List ℕ → Bool
 is_name text =
     nat_le 1 (length text) && nat_le (length text) 63 && is_letter (slice_index text 0) && list_all is_name_byte text
+
+-- How many letters and digits of names a text begins with.
+abbrev pub name_bytes : List ℕ → ℕ
+name_bytes text = prefix_len is_name_byte text
+
+-- How many these are, if they are a name.
+abbrev pub name_len : List ℕ → Option ℕ
+name_len text = if is_name (take (name_bytes text) text) then Some (name_bytes text) else None
 
 -- A text is this word if it is so in upper case, bytes above 127 as they are.
 abbrev pub is_word : List ℕ → List ℕ → Bool

@@ -7,6 +7,7 @@ pub mod contents;
 mod laws;
 pub mod nesting;
 pub mod numbers;
+pub mod runs;
 pub mod values;
 pub mod words;
 

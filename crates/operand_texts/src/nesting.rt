@@ -5,6 +5,8 @@ ghost use Rattle.std.specs.Option.{option_copied};
 ghost use Rattle.operand_texts.specs.Field.{outside, past, field_len, is_closed, is_balanced, operand_len};
 ghost use Rattle.operand_texts.specs.Field.{operands_from, operands_behind};
 
+use crate::runs::end_of_run;
+
 /// Where a byte of a field is: between apostrophes or not, and in how many parentheses; and whether one was closed too
 /// often before it.
 #[derive(Clone, Copy)]
@@ -46,18 +48,21 @@ impl Nesting {
                 depth,
                 overclosed,
             },
-            _ if quoted => self,
-            b'(' => Nesting {
+            b'(' if !quoted => Nesting {
                 quoted,
                 depth: depth + 1,
                 overclosed,
             },
-            b')' => Nesting {
+            b')' if !quoted => Nesting {
                 quoted,
                 depth: depth.saturating_sub(1),
                 overclosed: overclosed || depth == 0,
             },
-            _ => self,
+            _ => Nesting {
+                quoted,
+                depth,
+                overclosed,
+            },
         }
     }
 
@@ -69,7 +74,7 @@ impl Nesting {
     }
 }
 
-// Apostrophes, parentheses, commas and blanks are bytes up to a comma, so loops skip those above at once.
+// Apostrophes, parentheses, commas and blanks are bytes up to a comma, so those above are skipped at once.
 
 /// How many bytes of a text, whose first byte has this nesting, belong to the field: those up to the first blank
 /// outside apostrophes, or all.
@@ -111,14 +116,18 @@ fn operand_len(text: &[u8]) -> usize
     ensures within { result ≤ length text.now }
 {
     let mut at = Nesting::outside();
-    for (i, byte) in text.iter().enumerate() {
-        if *byte > b',' {
-            continue;
+    let mut i = 0;
+    'marks: while i < text.len() {
+        let mark = end_of_run(text, i, b',');
+        if mark == text.len() {
+            return mark;
         }
-        if *byte == b',' && !at.quoted && at.depth == 0 {
-            return i;
+        let byte = text[mark];
+        if byte == b',' && !at.quoted && at.depth == 0 {
+            return mark;
         }
-        at = at.past(*byte);
+        at = at.past(byte);
+        i = mark + 1;
     }
     text.len()
 }

@@ -1,11 +1,11 @@
 //! Names and the words of a line.
 
-ghost use Rattle.std.specs.Prelude.{◌≡◌, ◌==◌, ◌≤◌, IsTrue, length, map};
+ghost use Rattle.std.specs.Prelude.{◌≡◌, ◌==◌, ◌≤◌, IsTrue, IfSome, length, map};
 ghost use Rattle.std.specs.List.{list_all};
 ghost use Rattle.std.specs.Char.{to_ascii_uppercase};
 ghost use Rattle.std.specs.Str.{IsAscii};
 ghost use Rattle.operand_texts.specs.Words.{is_letter, is_name_byte, is_name, is_word, word_len, blank_len, word};
-ghost use Rattle.operand_texts.specs.Words.{after_word, after_blanks};
+ghost use Rattle.operand_texts.specs.Words.{after_word, after_blanks, name_bytes, name_len};
 
 use crate::characters::{Classes, classes_of, upper_of};
 use arrayvec::ArrayString;
@@ -37,6 +37,32 @@ pub fn is_name(text: &[u8]) -> bool
     ensures { result ≡ is_name text.now }
 {
     !text.is_empty() && text.len() <= 63 && is_letter(text[0]) && all_name_bytes(text)
+}
+
+/// How many letters and digits of names a text begins with.
+fn name_bytes(text: &[u8]) -> usize
+    ensures value { result ≡ name_bytes text.now }
+    ensures within { result ≤ length text.now }
+{
+    for (i, byte) in text.iter().enumerate() {
+        if !is_name_byte(*byte) {
+            return i;
+        }
+    }
+    text.len()
+}
+
+/// How long the letters and digits are that a text begins with, if they are a name.
+pub fn name_len(text: &[u8]) -> Option<usize>
+    ensures value { result ≡ name_len text.now }
+    ensures within { IfSome result (λ n. n ≤ length text.now) }
+{
+    let n = name_bytes(text);
+    if n >= 1 && n <= 63 && is_letter(text[0]) {
+        Some(n)
+    } else {
+        None
+    }
 }
 
 /// A name in upper case. The text has to be a name.
