@@ -1,17 +1,26 @@
--- Lemmas on what a service takes, on areas by lines, and on a script that is followed.
+-- Lemmas on what a service takes, on areas and cells by lines, and on a script that is followed.
 mod SingleRun
 mod Grown
 mod ByReply
-mod Merging
-mod SameLines
+mod Effects
+mod UsedCells
+mod CellsByReply
+mod TasksByReply
+mod NumberMaps
+mod NewRuns
+mod Served
+pub mod Firsts
+mod Kept
 mod Joining
 mod Walking
 mod Bounds
-mod Following
-mod Whole
-mod Newest
 mod Lines
-mod Left
+mod PoolWalks
+mod CellWalks
 mod Told
 mod Stops
 mod Ordering
+mod KeptReadings
+mod StandingNotes
+mod StandingFollowed
+mod StandingWhole

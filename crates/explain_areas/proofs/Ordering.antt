@@ -1,5 +1,5 @@
 -- Areas, the longest first.
-use Rattle.std.proofs.Common.{◌≡◌, ℕ, Bool, true, false, List, Result, Ok, Err, OnOk, refl, sym, ap, subst, ◌∙◌}
+use Rattle.std.proofs.Common.{◌≡◌, ℕ, Bool, true, false, List, Result, Ok, Err, OnOk, refl, ap, subst, ◌∙◌}
 use Rattle.std.specs.Prelude.{nat_lt, ◌==◌, if◌then◌else◌}
 use Rattle.std.specs.Cmp.{IsStrictWeakOrder}
 use Rattle.std.specs.Fn.{Called, ComparesAs}
@@ -12,7 +12,7 @@ use Rattle.std.proofs.lemmas.Fn.{always_returns_same}
 use Rattle.std.proofs.lemmas.List.MinMax.{IsStrictWeakOrder-by_number, IsStrictWeakOrder-flip}
 use denote.Param.Members.{Mut}
 use denote.Ref.{Bor}
-use Rattle.explain_areas.specs.Orders.{IsInOrder, IsLongestFirst, is_longer}
+use Rattle.explain_areas.specs.Orders.{IsInOrder, is_longer}
 use Rattle.explain_areas.specs.declared.parts.LineArea.{LineArea}
 use Rattle.explain_areas.specs.declared.orders.AreaOrder.{AreaOrder}
 use Rattle.explain_areas.specs.declared.orders.AreaOrder.TheVariants as order

@@ -1,5 +1,5 @@
 -- Where the statement of a line ends, or why it ends nowhere.
-use Rattle.std.proofs.Common.{◌≡◌, ℕ, List, Option, Some, None, Err, inl, sym, subst}
+use Rattle.std.proofs.Common.{◌≡◌, ℕ, List, Some, Err, inl, sym, subst}
 use Rattle.vsm_model.specs.declared.limits.Settings.{Settings}
 use Rattle.macro_reader.specs.Scripts.{Mode, awaiting, dropping, gathering}
 use Rattle.script_steps.specs.declared.session.Session.{Session}

@@ -8,8 +8,8 @@ use Rattle.storage_core.specs.declared.walks.ExtentPlace.{ExtentPlace}
 use Rattle.storage_core.specs.declared.walks.FreeAreaPlace.{FreeAreaPlace}
 use Rattle.storage_core.specs.Meaning.{state_in_place}
 use Rattle.storage_core.specs.Walks.{IsExtentPlace, IsFreeAreaPlace}
-use Rattle.explain_areas.specs.LinesAt.{line_at}
-use Rattle.explain_areas.specs.declared.lines_at.Taking.{Taking}
+use Rattle.explain_areas.specs.NumberMaps.{number_in}
+use Rattle.explain_areas.specs.declared.number_map.NumberMap.{NumberMap}
 
 -- From a number on the set has exactly these runs, none of which begins before it.
 pub record IsAhead (set : ℕ → Bool) (rs : List Run) (low : ℕ) : Type 0 where
@@ -35,11 +35,10 @@ IsExtentFrom s p place k =
     (i : ℕ) × IsExtentPlace s p place i
     × IsAhead ((state_in_place s).subpools.pages p) (drop i (extents (state_in_place s).subpools p)) k
 
--- Each taken doubleword of a subpool has the line of the first of these takings that has it, and no other doubleword
--- has a line.
-pub record AreLinesOf (takings : List Taking) (s : Storage) (p : Subpool) (line_of : ℕ → Option ℕ) : Type 0 where
+-- Each taken doubleword of a subpool has the line that a map has there, and no other doubleword has a line.
+pub record AreLinesOf (lines : NumberMap) (s : Storage) (p : Subpool) (line_of : ℕ → Option ℕ) : Type 0 where
   pub elsewhere : (d : ℕ) → (state_in_place s).subpools.pages p (d / 512) ≡ false → line_of d ≡ None
   pub free : (d : ℕ) → (state_in_place s).subpools.free p d ≡ true → line_of d ≡ None
   pub taken :
       (d : ℕ) → (state_in_place s).subpools.pages p (d / 512) ≡ true →
-      (state_in_place s).subpools.free p d ≡ false → line_of d ≡ line_at takings d
+      (state_in_place s).subpools.free p d ≡ false → line_of d ≡ number_in lines d

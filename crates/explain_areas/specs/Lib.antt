@@ -1,11 +1,12 @@
+pub mod Since
 pub mod Newly
-pub mod LinesAt
-pub mod Rising
+pub mod NumberMaps
+pub mod Carried
+pub mod Cells
 pub mod Areas
 pub mod Ahead
-pub mod Since
-pub mod Takings
-pub mod Followed
+pub mod Readings
+pub mod Standings
 pub mod Ends
 pub mod Orders
 pub mod Texts

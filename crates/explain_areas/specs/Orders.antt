@@ -1,5 +1,5 @@
 -- The order in which areas are shown.
-use Rattle.std.specs.Prelude.{◌≡◌, ℕ, Bool, nat_lt, List}
+use Rattle.std.specs.Prelude.{◌≡◌, Bool, nat_lt, List}
 use Rattle.std.specs.List.Sorted.{IsPermutation, IsSortedBy, IsStableBy}
 use Rattle.explain_areas.specs.declared.parts.LineArea.{LineArea}
 use Rattle.explain_areas.specs.declared.orders.AreaOrder.{AreaOrder}

@@ -13,10 +13,12 @@ use Rattle.explain_who.specs.Lined.{lined_all}
 use Rattle.explain_who.specs.declared.faults.WhoFault.{WhoFault}
 use Rattle.explain_who.specs.declared.faults.WhoFault.TheVariants as fault
 use Rattle.explain_areas.specs.declared.parts.LineArea.{LineArea}
+use Rattle.explain_areas.specs.Carried.{IsCarried}
 use Rattle.explain_areas.specs.Ends.{IsEndOf, LacksEndOf}
 use Rattle.explain_areas.specs.Forms.{areas_in}
 use Rattle.explain_areas.specs.Orders.{IsInOrder}
 use Rattle.explain_areas.specs.Since.{acts, storage_after, taken_areas}
+use Rattle.explain_areas.specs.declared.carried.Carried.{Carried}
 use Rattle.explain_areas.specs.declared.faults.AreasFault.{AreasFault}
 use Rattle.explain_areas.specs.declared.faults.AreasFault.TheVariants as not_written
 use Rattle.explain_areas.specs.declared.orders.AreaOrder.{AreaOrder}
@@ -24,6 +26,12 @@ use Rattle.explain_areas.specs.declared.orders.AreaOrder.{AreaOrder}
 -- the statements in effect after these answers, each with its line, the newest first
 abbrev pub standing : Settings → List Marked → List (ℕ × Act)
 standing settings answers = map (λ x. x.statement) (lined_all settings nothing_stands answers).stood
+
+-- The statements of a script in effect at its end are carried out, or the script can't be followed.
+abbrev pub IsCarriedOut : Settings → List ℕ → Result Carried WhoFault → Type 0
+IsCarriedOut settings script (Ok carried) =
+    (answers : List Marked) × Ended settings script answers × IsCarried settings (standing settings answers) carried
+IsCarriedOut settings script (Err fault) = FollowsNot settings script fault
 
 module _ (settings : Settings) where
   -- The text is the whole one of a script with these answers: all areas that are taken after the statements in effect.

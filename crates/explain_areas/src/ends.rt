@@ -7,7 +7,7 @@ ghost use Rattle.script_steps.specs.Taken.{Took};
 ghost use Rattle.explain_report.specs.Reports.{HasLine, IsRestAt, StaysTo};
 ghost use Rattle.explain_areas.specs.Ends.{EndsAs, EndsAt};
 
-use crate::tracing::rest_from;
+use crate::standing::rest_from;
 use explain_report::{
     LastAnswer, ReportFault, TakenTo, lacks_answer, lines_with, take_to, unanswered,
 };

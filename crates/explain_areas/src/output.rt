@@ -4,23 +4,25 @@ ghost use Rattle.text_output.specs.Writing.{Puts};
 ghost use Rattle.storage_core.specs.Meaning.{settings_of, state_of};
 ghost use Rattle.vsm_model.specs.declared.limits.Settings.{Settings as SettingsIn};
 ghost use Rattle.explain_who.specs.ScriptLines.{LinesBegin};
-ghost use Rattle.explain_areas.specs.Followed.{IsFollowedBy};
+ghost use Rattle.macro_statements.specs.Requests.{Act};
+ghost use Rattle.explain_areas.specs.Carried.{IsCarried};
 ghost use Rattle.explain_areas.specs.Forms.{area_in, areas_in};
 ghost use Rattle.explain_areas.specs.Orders.{IsInOrder};
 ghost use Rattle.explain_areas.specs.Since.{taken_areas};
-ghost use Rattle.explain_areas.specs.Told.{TellsAreas, TellsPart, standing};
+ghost use Rattle.explain_areas.specs.Told.{IsCarriedOut, TellsAreas, TellsPart};
 
+use crate::carried::Carried;
 use crate::ends::end_of;
 use crate::faults::AreasFault;
 use crate::forms::{put_area, put_head, put_sum};
 use crate::orders::{AreaOrder, put_in_order};
 use crate::parts::LineArea;
-use crate::takings::takings;
-use crate::tracing::{Followed, follow};
-use crate::walks::areas_of;
+use crate::standing::follow;
+use crate::starts::line_starts;
+use crate::walks::areas_left;
 use explain_text::Form;
 use explain_who::WhoFault;
-use script_steps::Watch;
+use script_steps::{Bench, Watch};
 use std::alloc::{AllocError, Global};
 use std::io::Write;
 use storage_core::Storage;
@@ -67,29 +69,58 @@ fn put_all<W: Write>(
     put_sum(gathered, writer, form, areas.len(), totals(storage).taken);
 }
 
-/// What a script that was followed left taken.
-fn left(alloc: Global, followed: &Followed) -> Result<Vec<LineArea>, AllocError>
-    ensures { (settings : SettingsIn) (script : List ℕ) (h : IsFollowedBy settings script followed.now)
-        → IfOk result (λ areas. areas.items ≡ taken_areas settings (standing settings h.answers)) }
+/// The statements of a script in effect at its end, carried out once more.
+fn carried_out<P: Watch>(
+    alloc: Global,
+    script: &[u8],
+    settings: Settings,
+    watch: &mut P,
+) -> Result<Carried, WhoFault>
+    ensures { IsCarriedOut settings script.now result }
 {
-    let takings = takings(alloc, followed.trail.standing())?;
-    let areas = areas_of(alloc, followed.bench.storage(), takings.as_slice());
-    drop(takings);
-    areas
+    let followed = match follow(alloc, script, settings, watch) {
+        Ok(followed) => followed,
+        Err(fault) => return Err(fault),
+    };
+    let bench = match Bench::new(alloc, settings) {
+        Ok(bench) => bench,
+        Err(fault) => return Err(WhoFault::New(fault)),
+    };
+    let mut carried = Carried::new(alloc, bench);
+    match carried.carry_out_all(alloc, followed.trail.standing()) {
+        Ok(()) => Ok(carried),
+        Err(_) => Err(WhoFault::Memory),
+    }
 }
 
-/// The same in an order.
+/// What is left taken, in an order.
 fn left_in_order(
     alloc: Global,
-    followed: &Followed,
+    carried: &Carried,
     order: AreaOrder,
 ) -> Result<Vec<LineArea>, AllocError>
-    ensures { (settings : SettingsIn) (script : List ℕ) (h : IsFollowedBy settings script followed.now)
-        → IfOk result (λ areas. IsInOrder order (taken_areas settings (standing settings h.answers)) areas.items) }
+    ensures { (settings : SettingsIn) (xs : List (ℕ × Act)) → IsCarried settings xs carried.now
+        → IfOk result (λ areas. IsInOrder order (taken_areas settings xs) areas.items) }
 {
-    let mut areas = left(alloc, followed)?;
+    let mut areas = areas_left(alloc, carried)?;
     put_in_order(&mut areas, order)?;
     Ok(areas)
+}
+
+/// What is left taken, in an order, and where the lines of the script begin.
+fn areas_and_starts(
+    alloc: Global,
+    script: &[u8],
+    carried: &Carried,
+    order: AreaOrder,
+) -> Result<(Vec<LineArea>, Vec<usize>), AllocError>
+    ensures areas { (settings : SettingsIn) (xs : List (ℕ × Act)) → IsCarried settings xs carried.now
+        → IfOk result (λ r. IsInOrder order (taken_areas settings xs) r.0.items) }
+    ensures starts { IfOk result (λ r. LinesBegin script.now script.now r.1.items []) }
+{
+    let areas = left_in_order(alloc, carried, order)?;
+    let starts = line_starts(alloc, script)?;
+    Ok((areas, starts))
 }
 
 /// Writes each area that a script leaves taken, in an order, and their sum.
@@ -104,31 +135,31 @@ fn write_areas<W: Write, P: Watch>(
 ) -> Result<(), WhoFault>
     ensures told { TellsPart settings script.now form order (W.contents out.old) (W.contents out.new) result }
 {
-    let followed = match follow(alloc, script, settings, watch) {
-        Ok(followed) => followed,
+    let carried = match carried_out(alloc, script, settings, watch) {
+        Ok(carried) => carried,
         Err(fault) => return Err(fault),
     };
-    let areas = match left_in_order(alloc, &followed, order) {
-        Ok(areas) => areas,
+    let (areas, starts) = match areas_and_starts(alloc, script, &carried, order) {
+        Ok(both) => both,
         Err(_) => {
-            drop(followed);
+            drop(carried);
             return Err(WhoFault::Memory);
         }
     };
-    let storage = followed.bench.storage();
+    let storage = carried.bench.storage();
     let mut gathered = Gathered::new();
-    let starts = followed.starts.as_slice();
     put_all(
         &mut gathered,
         out,
         form,
         script,
-        starts,
+        starts.as_slice(),
         storage,
         areas.as_slice(),
     );
     drop(areas);
-    drop(followed);
+    drop(starts);
+    drop(carried);
     match gathered.hand_out(out) {
         Ok(()) => Ok(()),
         Err(_) => Err(WhoFault::Write),

@@ -1,17 +1,17 @@
 //! Areas, one after the other.
 ghost use Rattle.std.specs.Prelude.{◌≡◌, ◌+◌, ◌^◌, ◌<◌, ◌≤◌, ℕ, List, Option, OnOk, reverse};
 ghost use Rattle.explain_areas.specs.Areas.{areas_to, goes_on, joined};
-ghost use Rattle.explain_areas.specs.Rising.{Rises};
-ghost use Rattle.explain_areas.specs.LinesAt.{line_at};
+ghost use Rattle.explain_areas.specs.NumberMaps.{number_in};
 ghost use Rattle.explain_areas.specs.declared.parts.LineArea.{LineArea as AreaIn};
 
-use crate::lines_at::{Taking, first_with};
+use crate::number_map::NumberMap;
 use std::alloc::AllocError;
 use vsm_model::Subpool;
 
-/// Doublewords of a subpool, one after the other, that the statement of one line took.
+/// Doublewords of a subpool, one after the other, that the statement of one line took: the number of the first, and how
+/// many there are.
 #[derive(Clone, Copy)]
-pub(crate) struct LineArea {
+pub struct LineArea {
     pub subpool: Subpool,
     pub start: u32,
     pub count: u32,
@@ -71,24 +71,23 @@ fn add_part(
     }
 }
 
-/// Adds doublewords of a subpool from the first up to an end, each with the line of the taking that has it.
+/// Adds doublewords of a subpool from the first up to an end, each with its line.
 pub(crate) fn add_taken(
     areas: &mut Vec<LineArea>,
-    takings: &[Taking],
+    lines: &NumberMap,
     subpool: Subpool,
     first: u32,
     end: u32,
 ) -> Result<(), AllocError>
-    requires rise { Rises 0 takings.now }
-    requires order { first ≤ end }
+    requires { first ≤ end }
     ensures { OnOk result ((f : ℕ → Option ℕ) (others : List AreaIn)
-        → ((d : ℕ) → first ≤ d → d < end → f d ≡ line_at takings.now d)
+        → ((d : ℕ) → first ≤ d → d < end → f d ≡ number_in lines.now d)
         → reverse areas.old.items ≡ areas_to subpool f first others
         → reverse areas.new.items ≡ areas_to subpool f end others) }
 {
     let mut at = first;
     while at < end {
-        let (line, next) = first_with(takings, at, end);
+        let (line, next) = lines.run_from(at, end);
         add_part(areas, subpool, line, at, next)?;
         at = next;
     }

@@ -4,13 +4,16 @@ ghost use Rattle.std.specs.Prelude.{flat_map, reverse, true, false};
 ghost use Rattle.vsm_model.specs.declared.Subpool.{Subpool as Named};
 ghost use Rattle.subpool_storage.specs.Order.{subpools_in_order};
 ghost use Rattle.storage_core.specs.Meaning.{state_in_place};
+ghost use Rattle.macro_statements.specs.Requests.{Act};
+ghost use Rattle.vsm_model.specs.declared.limits.Settings.{Settings as SettingsIn};
 ghost use Rattle.explain_areas.specs.Areas.{areas_of, areas_to};
+ghost use Rattle.explain_areas.specs.Carried.{IsCarried};
+ghost use Rattle.explain_areas.specs.Since.{taken_areas};
 ghost use Rattle.explain_areas.specs.Ahead.{IsFreeFrom, IsNext, AreLinesOf};
-ghost use Rattle.explain_areas.specs.Rising.{Rises};
 ghost use Rattle.explain_areas.specs.declared.parts.LineArea.{LineArea as AreaIn};
 
-use crate::layers::without_overlaps;
-use crate::lines_at::Taking;
+use crate::carried::Carried;
+use crate::number_map::NumberMap;
 use crate::parts::{LineArea, add_taken};
 use std::alloc::{AllocError, Global};
 use storage_core::{Area as FreeArea, FreeAreaPlace, Run, Storage, Subpool};
@@ -50,13 +53,12 @@ fn next_before(
 /// after the last of them in the extent.
 fn add_extent(
     areas: &mut Vec<LineArea>,
-    takings: &[Taking],
+    lines: &NumberMap,
     storage: &Storage,
     subpool: Subpool,
     extent: Run,
     first: FreeAreaPlace,
 ) -> Result<FreeAreaPlace, AllocError>
-    requires rise { Rises 0 takings.now }
     requires ends { extent.start + extent.len < 2 ^ 20 }
     requires pages { (k : ℕ) → extent.start ≤ k → k < extent.start + extent.len
         → (state_in_place storage.now).subpools.pages subpool k ≡ true }
@@ -65,7 +67,7 @@ fn add_extent(
     ensures place { IfOk result (λ place. IsFreeFrom storage.now subpool place
         (512 * (extent.start + extent.len))) }
     ensures areas { OnOk result ((f : ℕ → Option ℕ) (others : List AreaIn)
-        → AreLinesOf takings.now storage.now subpool f
+        → AreLinesOf lines.now storage.now subpool f
         → reverse areas.old.items ≡ areas_to subpool f (512 * extent.start) others
         → reverse areas.new.items ≡ areas_to subpool f (512 * (extent.start + extent.len)) others) }
 {
@@ -73,30 +75,29 @@ fn add_extent(
     let mut at = PAGE * extent.start;
     let mut place = first;
     while let Some((area, after)) = next_before(storage, place, end) {
-        add_taken(areas, takings, subpool, at, area.start)?;
+        add_taken(areas, lines, subpool, at, area.start)?;
         at = area.start + area.len;
         place = after;
     }
-    add_taken(areas, takings, subpool, at, end)?;
+    add_taken(areas, lines, subpool, at, end)?;
     Ok(place)
 }
 
 /// What is taken of a subpool.
 fn areas_in(
     alloc: Global,
-    takings: &[Taking],
+    lines: &NumberMap,
     storage: &Storage,
     subpool: Subpool,
 ) -> Result<Vec<LineArea>, AllocError>
-    requires { Rises 0 takings.now }
-    ensures { IfOk result (λ areas. (f : ℕ → Option ℕ) → AreLinesOf takings.now storage.now subpool f
+    ensures { IfOk result (λ areas. (f : ℕ → Option ℕ) → AreLinesOf lines.now storage.now subpool f
         → areas.items ≡ areas_of subpool f) }
 {
     let mut areas = Vec::new(alloc);
     let mut free = storage.first_free_area(subpool);
     let mut place = storage.first_extent(subpool);
     while let Some((extent, after)) = storage.next_extent(place) {
-        free = add_extent(&mut areas, takings, storage, subpool, extent, free)?;
+        free = add_extent(&mut areas, lines, storage, subpool, extent, free)?;
         place = after;
     }
     Ok(areas)
@@ -106,55 +107,44 @@ fn areas_in(
 fn add_subpool(
     areas: &mut Vec<LineArea>,
     alloc: Global,
-    takings: &[Taking],
+    lines: &NumberMap,
     storage: &Storage,
     subpool: Subpool,
 ) -> Result<(), AllocError>
-    requires { Rises 0 takings.now }
-    ensures { OnOk result ((f : ℕ → Option ℕ) → AreLinesOf takings.now storage.now subpool f
+    ensures { OnOk result ((f : ℕ → Option ℕ) → AreLinesOf lines.now storage.now subpool f
         → areas.new.items ≡ areas.old.items ++ areas_of subpool f) }
 {
-    let own = areas_in(alloc, takings, storage, subpool)?;
+    let own = areas_in(alloc, lines, storage, subpool)?;
     areas.extend_from_slice(own.as_slice())?;
     drop(own);
     Ok(())
 }
 
-/// What is taken of a storage, by subpools and then ascending, each doubleword with the line of the taking that has it.
+/// What is taken of a storage, by subpools and then ascending, each doubleword with its line.
 fn areas_with(
     alloc: Global,
     storage: &Storage,
-    takings: &[Taking],
+    lines: &NumberMap,
 ) -> Result<Vec<LineArea>, AllocError>
-    requires { Rises 0 takings.now }
     ensures { IfOk result (λ areas. (f : Named → ℕ → Option ℕ)
-        → ((p : Named) → AreLinesOf takings.now storage.now p (f p))
+        → ((p : Named) → AreLinesOf lines.now storage.now p (f p))
         → areas.items ≡ flat_map (λ p. areas_of p (f p))
         (subpools_in_order (state_in_place storage.now).subpools)) }
 {
     let mut areas = Vec::new(alloc);
     let mut place = Storage::first_subpool_place();
     while let Some((subpool, after)) = storage.next_subpool(place) {
-        add_subpool(&mut areas, alloc, takings, storage, subpool)?;
+        add_subpool(&mut areas, alloc, lines, storage, subpool)?;
         place = after;
     }
     Ok(areas)
 }
 
-/// What is taken of a storage, by subpools and then ascending: the areas in which the first of these takings that has a
-/// doubleword is of one line.
-pub(crate) fn areas_of(
-    alloc: Global,
-    storage: &Storage,
-    takings: &[Taking],
-) -> Result<Vec<LineArea>, AllocError>
-    ensures { IfOk result (λ areas. (f : Named → ℕ → Option ℕ)
-        → ((p : Named) → AreLinesOf takings.now storage.now p (f p))
-        → areas.items ≡ flat_map (λ p. areas_of p (f p))
-        (subpools_in_order (state_in_place storage.now).subpools)) }
+/// All areas that are taken after the statements that were carried out, by subpools and then ascending: the longest
+/// runs of a subpool's doublewords that the statement of one line took. `AllocError` if memory runs out.
+pub fn areas_left(alloc: Global, carried: &Carried) -> Result<Vec<LineArea>, AllocError>
+    ensures { (settings : SettingsIn) (xs : List (ℕ × Act)) → IsCarried settings xs carried.now
+        → IfOk result (λ areas. areas.items ≡ taken_areas settings xs) }
 {
-    let layers = without_overlaps(alloc, takings)?;
-    let areas = areas_with(alloc, storage, layers.as_slice());
-    drop(layers);
-    areas
+    areas_with(alloc, carried.bench.storage(), &carried.lines)
 }

@@ -21,13 +21,12 @@ use Rattle.text_output.specs.Writing.{Holds}
 use Rattle.text_output.specs.declared.writing.Gathered.{Gathered}
 use Rattle.explain_faults.specs.declared.lines.SourceLine.{SourceLine}
 use Rattle.explain_findings.specs.Endings.{name_used}
-use Rattle.explain_findings.specs.declared.findings.Finding.{Finding}
-use Rattle.explain_check.specs.Checked.{CheckPage, HoldsChecks, IsCheckPage, PutsPage, answers_checked, checked, lines_checked, AreSaid, said_in}
+use Rattle.explain_check.specs.Checked.{CheckPage, HoldsChecks, IsCheckPage, PutsPage, answers_checked, checked, lines_checked, AreSaid, rows_text, said_in}
 use Rattle.explain_list.specs.Pages.{fault_asked, fault_of, fault_told, one_of}
 use Rattle.explain_list.specs.Rows.{AreMarksOf, Mark}
 use Rattle.explain_list.proofs.Answered.{fault_is, taken, taken_is}
-use Rattle.explain_check.specs.Findings.{finds_wrong, found_by, found_of, found_told, is_wrong, name_by, name_of, name_told}
-use Rattle.explain_check.specs.Lines.{CheckLine, PutsChecks, Said, check_text, refusal_in, refusal_told, refusals_of}
+use Rattle.explain_check.specs.Findings.{OnLine, finds_wrong, found_by, found_of, found_told, is_wrong, name_by, name_of, name_told}
+use Rattle.explain_check.specs.Lines.{CheckLine, Manner, PutsChecks, Said, check_row, head_in, refusal_in, refusal_told, refusals_of}
 use Rattle.explain_check.specs.Reasons.{IsSaidOf, IsSaidTo}
 use Rattle.explain_check.proofs.Said.{refusals_push}
 
@@ -91,7 +90,7 @@ name_is (Ok x) asked (same, valid) = ap name_used same
 name_is (Err kind) asked is = refl
 
 -- and so what is found of it is that of its line
-found_is : (settings : Settings) (found : ℕ → Option Finding) (answers more : List Marked) (told : Option (ℕ × Response)) (asked : Asked) → Brings settings answers more told
+found_is : (settings : Settings) (found : ℕ → OnLine) (answers more : List Marked) (told : Option (ℕ × Response)) (asked : Asked) → Brings settings answers more told
     → AreAsked asked (answers_of more) → found_by (name_told told asked) (found_told found told) ≡ found_of found (taken more)
 found_is settings found answers [] None asked brings asks = refl
 found_is settings found answers (m ∷ []) (Some told) asked brings asks =
@@ -104,13 +103,13 @@ found_is settings found answers (m ∷ n ∷ ms) None asked brings asks = absurd
 found_is settings found answers (m ∷ n ∷ ms) (Some told) asked brings asks = absurd brings
 
 -- whether it's wrong
-wrong_push : (found : ℕ → Option Finding) (xs ys : List Marked) → finds_wrong found (xs ++ ys) ≡ (finds_wrong found xs || finds_wrong found ys)
+wrong_push : (found : ℕ → OnLine) (xs ys : List Marked) → finds_wrong found (xs ++ ys) ≡ (finds_wrong found xs || finds_wrong found ys)
 wrong_push found [] ys = refl
 wrong_push found (x ∷ xs) ys =
     ap (λ b. is_wrong (found x.answer.line) || b) (wrong_push found xs ys)
     ∙ sym (or_assoc (is_wrong (found x.answer.line)) (finds_wrong found xs) (finds_wrong found ys))
 
-wrong_of : (settings : Settings) (found : ℕ → Option Finding) (answers more : List Marked) (told : Option (ℕ × Response)) → Brings settings answers more told
+wrong_of : (settings : Settings) (found : ℕ → OnLine) (answers more : List Marked) (told : Option (ℕ × Response)) → Brings settings answers more told
     → is_wrong (found_told found told) ≡ finds_wrong found more
 wrong_of settings found answers [] None brings = refl
 wrong_of settings found answers (m ∷ []) (Some told) brings =
@@ -120,17 +119,17 @@ wrong_of settings found answers (m ∷ []) None brings = absurd brings
 wrong_of settings found answers (m ∷ n ∷ ms) None brings = absurd brings
 wrong_of settings found answers (m ∷ n ∷ ms) (Some told) brings = absurd brings
 
-pub wrong_more : (settings : Settings) (found : ℕ → Option Finding) (answers more : List Marked) (told : Option (ℕ × Response)) (wrong its both : Bool) → Brings settings answers more told
+pub wrong_more : (settings : Settings) (found : ℕ → OnLine) (answers more : List Marked) (told : Option (ℕ × Response)) (wrong its both : Bool) → Brings settings answers more told
     → wrong ≡ finds_wrong found answers → its ≡ is_wrong (found_told found told) → both ≡ (wrong || its) → both ≡ finds_wrong found (answers ++ more)
 wrong_more settings found answers more told wrong its both brings before is either =
     either ∙ (λ i. before i || (is ∙ wrong_of settings found answers more told brings) i) ∙ sym (wrong_push found answers more)
 
 -- another page
-pub holds_checks : (settings : Settings) (name script : List ℕ) (found : ℕ → Option Finding) (first old now : Option (List ℕ)) (before after : Gathered) (answers : List Marked) (lines shown : List SourceLine)
+pub holds_checks : (settings : Settings) (manner : Manner) (script : List ℕ) (found : ℕ → OnLine) (first old now : Option (List ℕ)) (before after : Gathered) (answers : List Marked) (lines shown : List SourceLine)
     (m : Option Marked) (marks : List Mark) (refused : List Said) → AreMarksOf script shown (fault_of m) marks
-    → AreSaid settings (stands_all settings nothing_stands answers) (one_of m) refused → PutsChecks name marks refused (found_of found m) old now before after
-    → HoldsChecks settings script name found first old before answers lines → HoldsChecks settings script name found first now after (answers ++ one_of m) (lines ++ shown)
-holds_checks settings name script found first old now before after answers lines shown m marks refused are its (said, is, faults, refusals, finds, p) (pages, (same, has, each, all_said), h) =
+    → AreSaid settings (stands_all settings nothing_stands answers) (one_of m) refused → PutsChecks manner marks refused (found_of found m) old now before after
+    → HoldsChecks settings script manner found first old before answers lines → HoldsChecks settings script manner found first now after (answers ++ one_of m) (lines ++ shown)
+holds_checks settings manner script found first old now before after answers lines shown m marks refused are its (said, is, faults, refusals, finds, p) (pages, (same, has, each, all_said), h) =
     let page : CheckPage = checked shown m said in
     let all : said_in (pages ++ page ∷ []) ≡ said_in pages ++ said =
     said_push pages (page ∷ []) ∙ ap (λ t. said_in pages ++ t) (append-nil said) in
@@ -144,32 +143,35 @@ holds_checks settings name script found first old now before after answers lines
         subst (AreSaid settings nothing_stands (answers ++ one_of m)) (sym both)
             (said_more settings nothing_stands answers (one_of m) (refusals_of (said_in pages)) refused all_said its),
       ),
-      subst (Holds first now after) (sym (ap (flat_map (check_text name)) all ∙ flat_map-append (check_text name) (said_in pages) said))
-          (p first (flat_map (check_text name) (said_in pages)) h),
+      subst (Holds first now after)
+          (append_assoc (head_in manner.form) (flat_map (check_row manner) (said_in pages)) (flat_map (check_row manner) said)
+          ∙ ap (λ t. head_in manner.form ++ t) (sym (ap (flat_map (check_row manner)) all ∙ flat_map-append (check_row manner) (said_in pages) said)))
+          (p first (rows_text manner pages) h),
     )
 
 -- and the first, on the file
-pub holds_file : (settings : Settings) (name script : List ℕ) (found : ℕ → Option Finding) (first old now : Option (List ℕ)) (before after : Gathered) → PutsChecks name [] [] [] old now before after
-    → Holds first old before [] → HoldsChecks settings script name found first now after [] []
-holds_file settings name script found first old now before after p h =
-    holds_checks settings name script found first old now before after [] [] [] None [] [] tt refl p ([], (refl, refl, tt, refl), h)
+pub holds_file : (settings : Settings) (manner : Manner) (script : List ℕ) (found : ℕ → OnLine) (first old now : Option (List ℕ)) (before after : Gathered) → PutsChecks manner [] [] [] old now before after
+    → Holds first old before (head_in manner.form) → HoldsChecks settings script manner found first now after [] []
+holds_file settings manner script found first old now before after p h =
+    holds_checks settings manner script found first old now before after [] [] [] None [] [] tt refl p
+    ([], (refl, refl, tt, refl), subst (Holds first old before) (sym (append-nil (head_in manner.form))) h)
 
 -- what is put of a page
-pub page_under : (settings under : Settings) (name : List ℕ) (found : ℕ → Option Finding) (marks : List Mark) (b c : Bench NamedState) (asked : Asked) (told : Option (ℕ × Response)) (old now : Option (List ℕ)) (before after : Gathered)
-    → under ≡ settings → b ≡ c → PutsPage under name found marks b.present asked told old now before after → PutsPage settings name found marks c.present asked told old now before after
-page_under settings under name found marks b c asked told old now before after e f h =
-    subst (λ s. PutsPage s name found marks c.present asked told old now before after) e (subst (λ (x : Bench NamedState). PutsPage under name found marks x.present asked told old now before after) f h)
+pub page_under : (settings under : Settings) (manner : Manner) (found : ℕ → OnLine) (marks : List Mark) (b c : Bench NamedState) (asked : Asked) (told : Option (ℕ × Response)) (old now : Option (List ℕ)) (before after : Gathered)
+    → under ≡ settings → b ≡ c → PutsPage under manner found marks b.present asked told old now before after → PutsPage settings manner found marks c.present asked told old now before after
+page_under settings under manner found marks b c asked told old now before after e f h =
+    subst (λ s. PutsPage s manner found marks c.present asked told old now before after) e (subst (λ (x : Bench NamedState). PutsPage under manner found marks x.present asked told old now before after) f h)
 
 -- and that of a line, or of the end of a script
-pub checks_page : (settings : Settings) (name script : List ℕ) (found : ℕ → Option Finding) (first old now : Option (List ℕ)) (before after : Gathered) (answers more : List Marked) (b : Bench NamedState)
+pub checks_page : (settings : Settings) (manner : Manner) (script : List ℕ) (found : ℕ → OnLine) (first old now : Option (List ℕ)) (before after : Gathered) (answers more : List Marked) (b : Bench NamedState)
     (told : Option (ℕ × Response)) (asked : Asked) (lines others : List SourceLine) (marks : List Mark) → Brings settings answers more told → AreAsked asked (answers_of more)
-    → Led settings (answers ++ more) b → AreMarksOf script others (fault_told told) marks → PutsPage settings name found marks b.present asked told old now before after
-    → HoldsChecks settings script name found first old before answers lines → HoldsChecks settings script name found first now after (answers ++ more) (lines ++ others)
-checks_page settings name script found first old now before after answers more b told asked lines others marks brings asks led are (said, is, p) h =
+    → Led settings (answers ++ more) b → AreMarksOf script others (fault_told told) marks → PutsPage settings manner found marks b.present asked told old now before after
+    → HoldsChecks settings script manner found first old before answers lines → HoldsChecks settings script manner found first now after (answers ++ more) (lines ++ others)
+checks_page settings manner script found first old now before after answers more b told asked lines others marks brings asks led are (said, is, p) h =
     let same = taken_is settings answers more told brings in
     let l = stands_all settings nothing_stands answers in
-    subst (λ ms. HoldsChecks settings script name found first now after (answers ++ ms) (lines ++ others)) same
-    (holds_checks settings name script found first old now before after answers lines others (taken more) marks said
+    subst (λ ms. HoldsChecks settings script manner found first now after (answers ++ ms) (lines ++ others)) same
+    (holds_checks settings manner script found first old now before after answers lines others (taken more) marks said
     (subst (λ k. AreMarksOf script others k marks) (fault_is settings answers more told brings) are)
     (subst (λ ms. AreSaid settings l ms said) (sym same) (said_is settings answers more b told asked said brings asks led is))
-    (subst (λ fs. PutsChecks name marks said fs old now before after) (found_is settings found answers more told asked brings asks) p) h)
+    (subst (λ fs. PutsChecks manner marks said fs old now before after) (found_is settings found answers more told asked brings asks) p) h)

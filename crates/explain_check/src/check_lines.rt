@@ -1,77 +1,57 @@
-//! What is wrong with a script, a line for each fault and each warning, with its place in the file.
-ghost use Rattle.std.specs.Prelude.{◌≡◌, [], ◌∷◌, List, min, option_map};
-ghost use Rattle.macro_statements.specs.Requests.{asked_in};
-ghost use Rattle.bench_core.specs.Stands.{bench_of, settings_in};
-ghost use Rattle.text_output.specs.Writing.{Puts};
+//! What is wrong with a line of a script by itself: a fault, warnings, and that it isn't carried out.
+ghost use Rattle.std.specs.Prelude.{◌≡◌, [], ◌∷◌, option_map};
 ghost use Rattle.explain_faults.specs.declared.lines.SourceLine.{SourceLine};
 ghost use Rattle.explain_list.specs.Rows.{mark_of, marks_on};
-ghost use Rattle.explain_check.specs.Lines.{PutsChecks, Said, position_text, refusal_told};
-ghost use Rattle.explain_check.specs.Reasons.{IsSaidOf};
+ghost use Rattle.explain_check.specs.Lines.{PutsChecks, manner_of};
 
-use crate::refusals::{Answered, put_answer, refusal_told};
+use crate::notes::Note;
+use crate::rows::{Manner, Spot, place_on, put_check_line};
 use explain_faults::carets::Caret;
 use explain_faults::hints::add_hint;
 use explain_faults::lines::SourceLine;
 use explain_faults::stands::LineStand;
 use explain_faults::warnings::{KINDS, Warning, warning_in, warning_on};
-use explain_list::rows::{put_fault, put_loss, put_warning};
 use explain_list::words::{HintedWords, one_line};
-use explain_text::{Form, Words};
+use explain_text::Words;
 use script_steps::FaultKind;
 use std::io::Write;
-use text_output::{Gathered, put_decimal};
-
-/// Puts what a line on a place in a file begins with.
-#[tactic(auto, using(text_output::proofs::Gathering::puts_both))]
-pub(crate) fn put_position<W: Write>(
-    gathered: &mut Gathered,
-    writer: &mut W,
-    name: &[u8],
-    number: u32,
-    place: usize,
-)
-    ensures { Puts (W.contents writer.old) (W.contents writer.new) gathered.old gathered.new
-        (position_text name.now number (min place 100000)) }
-{
-    gathered.put(writer, name);
-    gathered.put(writer, b":");
-    put_decimal(gathered, writer, u64::from(number));
-    gathered.put(writer, b":");
-    put_decimal(gathered, writer, place.min(100_000) as u64);
-    gathered.put(writer, b": ");
-}
+use text_output::Gathered;
 
 /// Puts that a line isn't carried out, if it isn't.
 pub(crate) fn put_loss_check<W: Write>(
     gathered: &mut Gathered,
     writer: &mut W,
-    name: &[u8],
+    manner: Manner,
     script: &[u8],
-    number: u32,
+    line: &SourceLine,
     lost: Option<SourceLine>,
 )
-    ensures { PutsChecks name.now [] [] [] (W.contents writer.old) (W.contents writer.new) gathered.old gathered.new }
+    ensures { PutsChecks (manner_of manner.entry) [] [] [] (W.contents writer.old) (W.contents writer.new) gathered.old
+        gathered.new }
 {
-    if let Some(before) = lost {
-        put_position(gathered, writer, name, number, 1);
-        put_loss(Form::Text, gathered, writer, number, before.bytes(script));
-        gathered.put(writer, b"\n");
+    if let Some(last) = lost {
+        let number = line.number;
+        let before = last.bytes(script);
+        let spot = Spot {
+            manner,
+            place: place_on(number, 1, line.bytes(script).len()),
+        };
+        put_check_line(gathered, writer, &spot, &Note::Loss { number, before });
     }
 }
 
-/// Puts a warning at a column of a line.
+/// Puts a warning about this many bytes at a column of a line.
 fn put_warned_check<W: Write>(
     gathered: &mut Gathered,
     writer: &mut W,
-    name: &[u8],
-    number: u32,
-    place: usize,
+    spot: &Spot,
     warning: Warning,
 )
-    ensures { PutsChecks name.now [] [] [] (W.contents writer.old) (W.contents writer.new) gathered.old gathered.new }
+    ensures { PutsChecks (manner_of spot.now.manner) [] [] [] (W.contents writer.old) (W.contents writer.new)
+        gathered.old gathered.new }
 {
-    put_position(gathered, writer, name, number, place);
-    put_warning(gathered, writer, one_line(warning.text()));
+    let note = Note::Warning(one_line(warning.text()));
+    put_check_line(gathered, writer, spot, &note);
 }
 
 /// A line whose warnings are put.
@@ -110,19 +90,24 @@ fn first_warning(
 pub(crate) fn put_warning_checks<W: Write>(
     gathered: &mut Gathered,
     writer: &mut W,
-    name: &[u8],
+    manner: Manner,
     line: &WarnedLine,
     from: usize,
     to: usize,
 )
-    ensures { PutsChecks name.now [] [] [] (W.contents writer.old) (W.contents writer.new) gathered.old gathered.new }
+    ensures { PutsChecks (manner_of manner.entry) [] [] [] (W.contents writer.old) (W.contents writer.new) gathered.old
+        gathered.new }
 {
     let mut after = (from, 0);
     for _i in 0..KINDS {
         match first_warning(line, after, to) {
-            Some((place, kind, warning)) => {
-                put_warned_check(gathered, writer, name, line.number, place, warning);
-                after = (place, kind.saturating_add(1));
+            Some((column, kind, warning)) => {
+                let spot = Spot {
+                    manner,
+                    place: place_on(line.number, column, 1),
+                };
+                put_warned_check(gathered, writer, &spot, warning);
+                after = (column, kind.saturating_add(1));
             }
             None => return,
         }
@@ -133,13 +118,13 @@ pub(crate) fn put_warning_checks<W: Write>(
 fn put_caret_check<W: Write>(
     gathered: &mut Gathered,
     writer: &mut W,
-    name: &[u8],
+    manner: Manner,
     number: u32,
     caret: &Caret,
     kind: FaultKind,
 )
     ensures { (line : SourceLine) → line.number ≡ number
-        → PutsChecks name.now (mark_of line (caret.now, kind) ∷ []) [] [] (W.contents writer.old)
+        → PutsChecks (manner_of manner.entry) (mark_of line (caret.now, kind) ∷ []) [] [] (W.contents writer.old)
         (W.contents writer.new) gathered.old gathered.new }
 {
     let mut words = Words::new();
@@ -148,45 +133,27 @@ fn put_caret_check<W: Write>(
         words: one_line(words.as_slice()),
         hint,
     };
-    put_position(gathered, writer, name, number, caret.place.column);
-    put_fault(gathered, writer, kind, &hinted);
+    let spot = Spot {
+        manner,
+        place: place_on(number, caret.place.column, caret.width(kind)),
+    };
+    put_check_line(gathered, writer, &spot, &Note::Fault { kind, hinted });
 }
 
 /// Puts the fault of a line, if there is one.
 pub(crate) fn put_fault_check<W: Write>(
     gathered: &mut Gathered,
     writer: &mut W,
-    name: &[u8],
+    manner: Manner,
     line: &SourceLine,
     fault: Option<(&Caret, FaultKind)>,
 )
-    ensures { PutsChecks name.now (marks_on line.now (option_map (λ f. (f.0.now, f.1)) fault.entry)) [] []
+    ensures { PutsChecks (manner_of manner.entry)
+        (marks_on line.now (option_map (λ f. (f.0.now, f.1)) fault.entry)) [] []
         (W.contents writer.old) (W.contents writer.new) gathered.old gathered.new }
 {
     match fault {
-        Some((caret, kind)) => put_caret_check(gathered, writer, name, line.number, caret, kind),
-        None => (),
-    }
-}
-
-/// Puts the refusal of an answer, if it's one, at this column of its statement's first line.
-pub(crate) fn put_refusal_check<W: Write>(
-    gathered: &mut Gathered,
-    writer: &mut W,
-    name: &[u8],
-    answered: &Answered,
-    column: usize,
-)
-    ensures { (said : List Said)
-        × IsSaidOf (settings_in answered.now.bench.now) (bench_of answered.now.bench.now).present
-        (asked_in answered.now.request.now) (refusal_told answered.now.told.now) said
-        × PutsChecks name.now [] said [] (W.contents writer.old) (W.contents writer.new) gathered.old gathered.new }
-{
-    match refusal_told(answered.told) {
-        Some((number, answer)) => {
-            put_position(gathered, writer, name, number, column);
-            put_answer(gathered, writer, answered, answer);
-        }
+        Some((caret, kind)) => put_caret_check(gathered, writer, manner, line.number, caret, kind),
         None => (),
     }
 }
@@ -196,12 +163,16 @@ pub(crate) fn put_file_check<W: Write>(
     gathered: &mut Gathered,
     writer: &mut W,
     script: &[u8],
-    name: &[u8],
+    manner: Manner,
 )
-    ensures { PutsChecks name.now [] [] [] (W.contents writer.old) (W.contents writer.new) gathered.old gathered.new }
+    ensures { PutsChecks (manner_of manner.entry) [] [] [] (W.contents writer.old) (W.contents writer.new) gathered.old
+        gathered.new }
 {
     if let Some(warning) = warning_on(script) {
-        put_position(gathered, writer, name, 1, 1);
-        put_warning(gathered, writer, one_line(warning.text()));
+        let spot = Spot {
+            manner,
+            place: place_on(1, 1, 0),
+        };
+        put_warned_check(gathered, writer, &spot, warning);
     }
 }

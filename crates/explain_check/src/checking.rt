@@ -4,18 +4,20 @@ ghost use Rattle.bench_core.specs.Stands.{IsNew, bench_of, settings_in};
 ghost use Rattle.macro_statements.specs.Requests.{asked_in};
 ghost use Rattle.vsm_model.specs.declared.limits.Settings.{Settings};
 ghost use Rattle.script_steps.specs.Script.{NoFeed};
-ghost use Rattle.explain_findings.specs.Tables.{found_on};
-ghost use Rattle.explain_findings.specs.declared.findings.Finding.{Finding};
+ghost use Rattle.explain_findings.specs.Left.{Sum};
 ghost use Rattle.explain_list.specs.Listing.{IsRest};
 ghost use Rattle.explain_list.specs.Pages.{marks_in, shown_of};
 ghost use Rattle.explain_check.specs.Checked.{AreFindings, Checked, Checks, ChecksAll, ChecksFront, ChecksLines};
-ghost use Rattle.explain_check.specs.Checked.{ChecksRest, PutsPage, StopsCheck};
-ghost use Rattle.explain_check.specs.Findings.{found_told, is_wrong};
+ghost use Rattle.explain_check.specs.Checked.{ChecksRest, PutsPage, StopsCheck, found_by_source, sum_by_source};
+ghost use Rattle.explain_check.specs.Findings.{OnLine, found_told, is_wrong};
+ghost use Rattle.explain_check.specs.Lines.{Manner as MannerIn, manner_of};
 
 use crate::check_lines::put_file_check;
-use crate::found_checks::{found_told, is_wrong};
+use crate::found_checks::{Source, found_told, is_wrong, put_sum};
+use crate::layouts::CheckLayout;
 use crate::page_checks::put_checks;
 use crate::refusals::Answered;
+use crate::rows::{Manner, put_head_in};
 use bench_core::Bench;
 use explain_faults::lines::SourceLine;
 use explain_findings::{Findings, find};
@@ -29,22 +31,14 @@ use std::io::{ErrorKind, Write};
 use text_output::{Gathered, WriteFault};
 use vsm_model::Settings;
 
-/// What is checked: a script, the name of its file, and what is found in it.
-#[derive(Drop)]
-struct Source<'a> {
-    script: &'a [u8],
-    name: &'a [u8],
-    findings: &'a Findings,
-}
-
-/// How far lines were checked, and whether OUTSIDE or STALE was found.
+/// How far lines were checked, and whether OUTSIDE, STALE or LEFT was found.
 #[derive(Drop)]
 struct LinesChecked {
     at: usize,
     wrong: bool,
 }
 
-/// What follows the last line feed of a script, and whether OUTSIDE or STALE was found before it.
+/// What follows the last line feed of a script, and whether OUTSIDE, STALE or LEFT was found before it.
 #[derive(Drop)]
 struct LastLine {
     line: SourceLine,
@@ -52,7 +46,7 @@ struct LastLine {
 }
 
 /// Puts what is wrong with the lines that are shown, whose statement asked for this and was answered this, which left
-/// this bench. Gives whether OUTSIDE or STALE is found.
+/// this bench. Gives whether OUTSIDE, STALE or LEFT is found.
 fn put_page<W: Write>(
     gathered: &mut Gathered,
     writer: &mut W,
@@ -62,26 +56,20 @@ fn put_page<W: Write>(
     request: &Request,
     told: &Option<(u32, Response)>,
 ) -> bool
-    ensures puts { PutsPage (settings_in bench.now) source.now.name.now (found_on source.now.findings.now)
+    ensures puts { PutsPage (settings_in bench.now) (manner_of source.now.manner) (found_by_source source.now)
         (marks_in (shown_of page.now) page.now.fault) (bench_of bench.now).present (asked_in request.now) told.now
         (W.contents writer.old) (W.contents writer.new) gathered.old gathered.new }
-    ensures wrong { result ≡ is_wrong (found_told (found_on source.now.findings.now) told.now) }
+    ensures wrong { result ≡ is_wrong (found_told (found_by_source source.now) told.now) }
 {
     let answered = Answered {
         alloc: page.alloc(),
         bench,
         request,
         told,
-        found: found_told(source.findings, told),
+        found: found_told(source, told),
     };
-    put_checks(
-        gathered,
-        writer,
-        page,
-        source.script,
-        source.name,
-        &answered,
-    );
+    let script = source.script;
+    put_checks(gathered, writer, page, script, source.manner, &answered);
     is_wrong(answered.found)
 }
 
@@ -102,9 +90,9 @@ fn check_lines<W: Write, P: Watch>(
     watch: &mut P,
 ) -> Result<LinesChecked, TooLong>
     ensures checks { (settings : Settings) (first : Option (List ℕ))
-        → Checks settings source.now.script.now source.now.name.now (found_on source.now.findings.now) first
+        → Checks settings source.now.script.now (manner_of source.now.manner) (found_by_source source.now) first
         (W.contents writer.old) gathered.old page.old false 0 session.old
-        → ChecksLines settings source.now.script.now source.now.name.now (found_on source.now.findings.now) first
+        → ChecksLines settings source.now.script.now (manner_of source.now.manner) (found_by_source source.now) first
         (W.contents writer.new) gathered.new page.new session.new result }
     ensures rest { IfOk result (λ r. IsRest source.now.script.now (Ok r.at)) }
 {
@@ -129,9 +117,9 @@ fn check_lines<W: Write, P: Watch>(
 
 /// Why a check ends if a write failed: one of the text of a cause fails if no memory is left.
 fn write_fault(fault: WriteFault) -> ListFault
-    ensures { (settings : Settings) (script name : List ℕ) (found : ℕ → Option Finding)
-        (at_first now : Option (List ℕ)) → ChecksFront settings script name found at_first now
-        → ChecksAll settings script name found at_first now (Err result) }
+    ensures { (settings : Settings) (script : List ℕ) (manner : MannerIn) (found : ℕ → OnLine) (sum : Sum)
+        (at_first now : Option (List ℕ)) → ChecksFront settings script manner found sum at_first now
+        → ChecksAll settings script manner found sum at_first now (Err result) }
 {
     match fault.error.kind() {
         ErrorKind::OutOfMemory => ListFault::Memory,
@@ -149,10 +137,10 @@ fn check_end<W: Write>(
     last: LastLine,
 ) -> Result<bool, ListFault>
     ensures { (settings : Settings) (first : Option (List ℕ))
-        → ChecksRest settings source.now.script.now source.now.name.now (found_on source.now.findings.now) first
+        → ChecksRest settings source.now.script.now (manner_of source.now.manner) (found_by_source source.now) first
         (W.contents writer.old) gathered.old page.old last.wrong last.line session
-        → ChecksAll settings source.now.script.now source.now.name.now (found_on source.now.findings.now) first
-        (W.contents writer.new) result }
+        → ChecksAll settings source.now.script.now (manner_of source.now.manner) (found_by_source source.now)
+        (sum_by_source source.now) first (W.contents writer.new) result }
 {
     let before = session.stand();
     let mut request = Request::Map;
@@ -182,6 +170,7 @@ fn check_end<W: Write>(
     let finds = either(some, two);
     let wrong = either(ending.totals.refused > 0, finds);
     drop(ending);
+    put_sum(gathered, writer, source);
     match gathered.hand_out(writer) {
         Ok(()) => Ok(wrong),
         Err(fault) => Err(write_fault(fault)),
@@ -190,9 +179,10 @@ fn check_end<W: Write>(
 
 /// What a check is that ends at a byte that passes a bound.
 fn stop<W: Write>(gathered: &mut Gathered, writer: &mut W) -> Result<bool, ListFault>
-    ensures { (settings : Settings) (script name : List ℕ) (found : ℕ → Option Finding) (first : Option (List ℕ))
-        → StopsCheck settings script name found first (W.contents writer.old) gathered.old
-        → ChecksAll settings script name found first (W.contents writer.new) result }
+    ensures { (settings : Settings) (script : List ℕ) (manner : MannerIn) (found : ℕ → OnLine) (sum : Sum)
+        (first : Option (List ℕ))
+        → StopsCheck settings script manner found first (W.contents writer.old) gathered.old
+        → ChecksAll settings script manner found sum first (W.contents writer.new) result }
 {
     match gathered.hand_out(writer) {
         Ok(()) => Err(ListFault::TooLong),
@@ -212,10 +202,10 @@ fn check_rest<W: Write>(
     requires within { checked.at ≤ length source.now.script.now }
     requires plain { NoFeed (drop checked.at source.now.script.now) }
     ensures { (settings : Settings) (first : Option (List ℕ))
-        → Checks settings source.now.script.now source.now.name.now (found_on source.now.findings.now) first
+        → Checks settings source.now.script.now (manner_of source.now.manner) (found_by_source source.now) first
         (W.contents writer.old) gathered.old page.old checked.wrong checked.at session
-        → ChecksAll settings source.now.script.now source.now.name.now (found_on source.now.findings.now) first
-        (W.contents writer.new) result }
+        → ChecksAll settings source.now.script.now (manner_of source.now.manner) (found_by_source source.now)
+        (sum_by_source source.now) first (W.contents writer.new) result }
 {
     let mut session = session;
     let line = rest_line(session.lines(), source.script, checked.at);
@@ -244,13 +234,14 @@ fn check_on<W: Write, P: Watch>(
     out: &mut W,
     watch: &mut P,
 ) -> Result<bool, ListFault>
-    ensures { IsNew settings (Ok bench) → ChecksAll settings source.now.script.now source.now.name.now
-        (found_on source.now.findings.now) (W.contents out.old) (W.contents out.new) result }
+    ensures { IsNew settings (Ok bench) → ChecksAll settings source.now.script.now (manner_of source.now.manner)
+        (found_by_source source.now) (sum_by_source source.now) (W.contents out.old) (W.contents out.new) result }
 {
     let mut session = Session::new(bench);
     let mut gathered = Gathered::new();
     let mut page = ListingPage::new(alloc, settings);
-    put_file_check(&mut gathered, out, source.script, source.name);
+    put_head_in(source.manner.form, &mut gathered, out);
+    put_file_check(&mut gathered, out, source.script, source.manner);
     match check_lines(&mut session, &mut gathered, out, &mut page, source, watch) {
         Ok(checked) => check_rest(session, &mut gathered, out, &mut page, source, checked),
         Err(_) => {
@@ -291,8 +282,8 @@ fn check_found<W: Write, P: Watch>(
     out: &mut W,
     watch: &mut P,
 ) -> Result<bool, ListFault>
-    ensures { ChecksAll settings source.now.script.now source.now.name.now (found_on source.now.findings.now)
-        (W.contents out.old) (W.contents out.new) result }
+    ensures { ChecksAll settings source.now.script.now (manner_of source.now.manner) (found_by_source source.now)
+        (sum_by_source source.now) (W.contents out.old) (W.contents out.new) result }
 {
     match Bench::new(alloc, settings) {
         Ok(bench) => check_on(alloc, settings, bench, source, out, watch),
@@ -301,26 +292,31 @@ fn check_found<W: Write, P: Watch>(
 }
 
 /// Writes a line for each fault, each statement that gets ABEND, REFUSED NAME or REFUSED MEMORY, what is found of each
-/// other statement, and each warning of a script, `FILE:LINE:COLUMN: text`, with this name of the file, by line and
-/// then by column.
+/// other statement, and each warning of a script, by line and then by column: as text `FILE:LINE:COLUMN: text`, with
+/// this name of the file, or as JSON objects. What is left at the end has a line at each statement that took it, or
+/// otherwise one last line with the sums.
 ///
-/// Gives whether a statement was refused or faulty, or OUTSIDE or STALE. `TooLong` follows what is said of the answers
-/// before that line; `Write` and `Memory` a prefix of what is said, or nothing; `New` with nothing written.
+/// Gives whether a statement was refused or faulty, or OUTSIDE, STALE or, with a line of its own, LEFT. `TooLong`
+/// follows what is said of the answers before that line; `Write` and `Memory` a prefix of what is said, or nothing;
+/// `New` with nothing written.
 pub fn check<W: Write, P: Watch>(
     alloc: Global,
     script: &[u8],
     settings: Settings,
+    layout: CheckLayout,
     name: &[u8],
     out: &mut W,
     watch: &mut P,
 ) -> Result<bool, ListFault>
-    ensures { Checked settings script.now name.now (W.contents out.old) (W.contents out.new) result }
+    ensures { Checked settings script.now layout name.now (W.contents out.old) (W.contents out.new) result }
 {
     match findings_in(alloc, script, settings, watch) {
         Ok(findings) => {
+            let form = layout.form;
             let source = Source {
                 script,
-                name,
+                manner: Manner { form, name },
+                leaks: layout.leaks,
                 findings: &findings,
             };
             check_found(alloc, settings, &source, out, watch)

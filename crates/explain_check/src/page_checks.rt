@@ -1,24 +1,23 @@
 //! What is wrong with the lines that are shown, a line for each fault, each refusal, each finding and each warning.
-ghost use Rattle.std.specs.Prelude.{[], List};
+ghost use Rattle.std.specs.Prelude.{◌++◌, [], List};
 ghost use Rattle.macro_statements.specs.Requests.{asked_in};
 ghost use Rattle.bench_core.specs.Stands.{bench_of, settings_in};
 ghost use Rattle.explain_list.specs.Pages.{fault_at, marks_in, shown_of};
 ghost use Rattle.explain_list.specs.Rows.{marks_on};
-ghost use Rattle.explain_check.specs.Findings.{found_to, if_on, unless_before};
-ghost use Rattle.explain_check.specs.Lines.{PutsChecks, Said, refusal_told};
+ghost use Rattle.explain_check.specs.Findings.{found_to, if_on, left_to, unless_before};
+ghost use Rattle.explain_check.specs.Lines.{PutsChecks, Said, manner_of, refusal_told};
 ghost use Rattle.explain_check.specs.Reasons.{IsSaidOf};
 
-use crate::check_lines::{
-    WarnedLine, put_fault_check, put_loss_check, put_refusal_check, put_warning_checks,
-};
-use crate::found_checks::{Spot, found_place, put_found_checks};
-use crate::refusals::{Answered, refusal_told};
+use crate::check_lines::{WarnedLine, put_fault_check, put_loss_check, put_warning_checks};
+use crate::found_checks::{found_place, number_told, put_found_checks, put_left_check};
+use crate::operands::operand_on;
+use crate::refusals::{Answered, put_refusal_check};
+use crate::rows::{Manner, Spot, place_on};
 use explain_faults::carets::Caret;
 use explain_faults::gathered::TextPlace;
 use explain_faults::lines::SourceLine;
 use explain_list::pages::ListingPage;
-use operand_texts::words::{after_blanks, after_word};
-use script_steps::{FaultKind, Response};
+use script_steps::FaultKind;
 use std::io::Write;
 use text_output::Gathered;
 
@@ -35,7 +34,7 @@ fn behind_caret(fault: Option<(&Caret, FaultKind)>) -> usize {
 struct Shown<'a> {
     page: &'a ListingPage,
     script: &'a [u8],
-    name: &'a [u8],
+    manner: Manner<'a>,
     place: TextPlace,
 }
 
@@ -45,17 +44,18 @@ fn put_found_on<W: Write>(
     writer: &mut W,
     shown: &Shown,
     answered: &Answered,
-    number: u32,
+    line: &SourceLine,
     index: usize,
 )
-    ensures { PutsChecks shown.now.name.now [] [] (if_on shown.now.place.line index (found_to answered.now))
+    ensures { PutsChecks (manner_of shown.now.manner) [] []
+        (if_on shown.now.place.line index (found_to answered.now))
         (W.contents writer.old) (W.contents writer.new) gathered.old gathered.new }
 {
     if shown.place.line == index {
+        let bytes = line.bytes(shown.script);
         let spot = Spot {
-            name: shown.name,
-            number,
-            column: shown.place.column,
+            manner: shown.manner,
+            place: operand_on(bytes, line.number, shown.place.column),
         };
         put_found_checks(gathered, writer, &spot, answered);
     }
@@ -63,7 +63,7 @@ fn put_found_on<W: Write>(
 
 /// The column after that of what is found or of the fault on a line; one after all columns, if there is neither.
 fn behind_found(shown: &Shown, answered: &Answered, index: usize) -> usize {
-    if answered.found.is_some() && shown.place.line == index {
+    if answered.found.finding.is_some() && shown.place.line == index {
         shown.place.column.saturating_add(1)
     } else {
         behind_caret(shown.page.fault_on(index))
@@ -79,11 +79,11 @@ fn put_line_checks<W: Write>(
     line: &SourceLine,
     index: usize,
 )
-    ensures { PutsChecks shown.now.name.now (marks_on line.now (fault_at shown.now.page.now.fault index)) []
+    ensures { PutsChecks (manner_of shown.now.manner) (marks_on line.now (fault_at shown.now.page.now.fault index)) []
         (if_on shown.now.place.line index (found_to answered.now))
         (W.contents writer.old) (W.contents writer.new) gathered.old gathered.new }
 {
-    let name = shown.name;
+    let manner = shown.manner;
     let warned = WarnedLine {
         number: line.number,
         bytes: line.bytes(shown.script),
@@ -91,11 +91,11 @@ fn put_line_checks<W: Write>(
     };
     let lost = shown.page.lost(index, line);
     let behind = behind_found(shown, answered, index);
-    put_loss_check(gathered, writer, name, shown.script, line.number, lost);
-    put_warning_checks(gathered, writer, name, &warned, 0, behind);
-    put_fault_check(gathered, writer, name, line, shown.page.fault_on(index));
-    put_found_on(gathered, writer, shown, answered, line.number, index);
-    put_warning_checks(gathered, writer, name, &warned, behind, usize::MAX);
+    put_loss_check(gathered, writer, manner, shown.script, line, lost);
+    put_warning_checks(gathered, writer, manner, &warned, 0, behind);
+    put_fault_check(gathered, writer, manner, line, shown.page.fault_on(index));
+    put_found_on(gathered, writer, shown, answered, line, index);
+    put_warning_checks(gathered, writer, manner, &warned, behind, usize::MAX);
 }
 
 /// Puts what is found of an answer's statement, if it's reported on none of this many lines.
@@ -106,87 +106,45 @@ fn put_found_elsewhere<W: Write>(
     answered: &Answered,
     lines: usize,
 )
-    ensures { PutsChecks shown.now.name.now [] [] (unless_before shown.now.place.line lines (found_to answered.now))
+    ensures { PutsChecks (manner_of shown.now.manner) [] []
+        (unless_before shown.now.place.line lines (found_to answered.now))
         (W.contents writer.old) (W.contents writer.new) gathered.old gathered.new }
 {
     if shown.place.line < lines {
         return;
     }
     let spot = Spot {
-        name: shown.name,
-        number: number_told(answered.told),
-        column: shown.place.column,
+        manner: shown.manner,
+        place: place_on(number_told(answered.told), shown.place.column, 1),
     };
     put_found_checks(gathered, writer, &spot, answered);
 }
 
-/// The column of the operation of a statement over these lines; 1 if there are none.
-fn operation_column(script: &[u8], lines: &[SourceLine]) -> usize {
-    match lines.first() {
-        Some(line) => {
-            let line = line.bytes(script);
-            let rest = after_blanks(after_word(line)).len();
-            line.len().saturating_sub(rest).saturating_add(1)
-        }
-        None => 1,
-    }
-}
-
-/// The number of the first line of an answer's statement; 1 without an answer.
-fn number_told(told: &Option<(u32, Response)>) -> u32 {
-    match told {
-        Some((number, _)) => *number,
-        None => 1,
-    }
-}
-
-/// Puts the refusal that is answered to the lines that are shown, if it's one. No warning is on the left of it.
-fn put_answer_check<W: Write>(
-    gathered: &mut Gathered,
-    writer: &mut W,
-    page: &ListingPage,
-    script: &[u8],
-    name: &[u8],
-    answered: &Answered,
-)
-    ensures { (said : List Said)
-        × IsSaidOf (settings_in answered.now.bench.now) (bench_of answered.now.bench.now).present
-        (asked_in answered.now.request.now) (refusal_told answered.now.told.now) said
-        × PutsChecks name.now [] said [] (W.contents writer.old) (W.contents writer.new) gathered.old gathered.new }
-{
-    match refusal_told(answered.told) {
-        Some(_) => {
-            let column = operation_column(script, page.lines());
-            put_refusal_check(gathered, writer, name, answered, column);
-        }
-        None => (),
-    }
-}
-
-/// Puts what is wrong with the lines that are shown, and the refusal that is answered to them.
+/// Puts what is wrong with the lines that are shown, the refusal that is answered to them, and what is found of them.
 pub(crate) fn put_checks<W: Write>(
     gathered: &mut Gathered,
     writer: &mut W,
     page: &ListingPage,
     script: &[u8],
-    name: &[u8],
+    manner: Manner,
     answered: &Answered,
 )
     ensures { (said : List Said)
         × IsSaidOf (settings_in answered.now.bench.now) (bench_of answered.now.bench.now).present
         (asked_in answered.now.request.now) (refusal_told answered.now.told.now) said
-        × PutsChecks name.now (marks_in (shown_of page.now) page.now.fault) said
-        (found_to answered.now)
+        × PutsChecks (manner_of manner.entry) (marks_in (shown_of page.now) page.now.fault) said
+        (left_to answered.now ++ found_to answered.now)
         (W.contents writer.old) (W.contents writer.new) gathered.old gathered.new }
 {
     let lines = page.lines();
     let shown = Shown {
         page,
         script,
-        name,
+        manner,
         place: found_place(script, lines, answered),
     };
-    put_answer_check(gathered, writer, page, script, name, answered);
+    put_refusal_check(gathered, writer, manner, script, lines, answered);
+    put_left_check(gathered, writer, manner, script, lines, answered);
     for index in 0..lines.len() {
         put_line_checks(gathered, writer, &shown, answered, &lines[index], index);
     }

@@ -1,26 +1,36 @@
 //! A statement that gets ABEND or REFUSED: its answer and what decided.
-ghost use Rattle.std.specs.Prelude.{◌≡◌, ◌++◌, ◌∷◌, [], List, Some, ℕ};
+ghost use Rattle.std.specs.Prelude.{◌≡◌, [], List, Some, ℕ};
 ghost use Rattle.macro_statements.specs.Requests.{IsValidAsked, asked_in};
 ghost use Rattle.bench_core.specs.Stands.{bench_of, settings_in};
 ghost use Rattle.explain_list.specs.Causes.{IsCauseText};
-ghost use Rattle.explain_list.specs.Rows.{of_refusal, remark_text};
 ghost use Rattle.script_steps.specs.Script.{NoFeed};
 ghost use Rattle.text_output.specs.Writing.{Puts};
-ghost use Rattle.explain_check.specs.Lines.{PutsWith, refusal_told};
-ghost use Rattle.explain_check.specs.Reasons.{IsReason, first_line, why_in};
+ghost use Rattle.explain_check.specs.Lines.{PutsChecks, PutsRefusal, Said, manner_of, refusal_told, refused, row_at};
+ghost use Rattle.explain_check.specs.Reasons.{IsReason, IsSaidOf, first_line, why_in};
 
+use crate::notes::Note;
+use crate::operands::operation_place;
+use crate::rows::{Manner, Spot, put_check_line};
 use bench_core::{Bench, Refusal};
-use explain_findings::Finding;
+use explain_faults::lines::SourceLine;
+use explain_findings::{Finding, Left};
 use explain_list::causes::{cause_text, fail};
 use explain_list::words::one_line;
 use explain_text::Words;
 use explain_why::undefined_name;
 use macro_reader::Request;
 use operand_texts::words::after_blanks;
-use script_steps::{Response, before_feed, put_response};
+use script_steps::{Response, before_feed};
 use std::alloc::Global;
 use std::io::Write;
 use text_output::Gathered;
+
+/// What is found on a line, and what is left of what its statement took, if that is asked for.
+#[derive(Clone, Copy)]
+pub(crate) struct OnLine<'a> {
+    pub finding: Option<&'a Finding>,
+    pub left: Option<&'a Left>,
+}
 
 /// What is answered to the lines that are shown, if anything.
 #[derive(Drop)]
@@ -33,7 +43,7 @@ pub(crate) struct Answered<'a> {
     pub request: &'a Request,
     pub told: &'a Option<(u32, Response)>,
     /// What is found of the statement.
-    pub found: Option<&'a Finding>,
+    pub found: OnLine<'a>,
 }
 
 /// An answer with the number of its statement's first line, if it's ABEND or REFUSED.
@@ -64,16 +74,18 @@ fn first_line(text: &[u8]) -> &[u8]
     &line[..before_feed(line)]
 }
 
-/// Puts the answer of a refused statement, and these words.
-#[tactic(auto, using(text_output::proofs::Gathering::puts_both))]
-fn put_refusal<W: Write>(gathered: &mut Gathered, writer: &mut W, answer: Response, words: &[u8])
+/// Puts the line of a refusal, with these words.
+fn put_words<W: Write>(
+    gathered: &mut Gathered,
+    writer: &mut W,
+    spot: &Spot,
+    answer: Response,
+    words: &[u8],
+)
     ensures { Puts (W.contents writer.old) (W.contents writer.new) gathered.old gathered.new
-        (remark_text (of_refusal answer) ++ (words.now ++ 10 ∷ [])) }
+        (row_at spot.now (refused answer words.now)) }
 {
-    put_response(gathered, writer, &[], &answer);
-    gathered.put(writer, b": ");
-    gathered.put(writer, words);
-    gathered.put(writer, b"\n");
+    put_check_line(gathered, writer, spot, &Note::Refusal { answer, words });
 }
 
 /// Adds the first name in the values of a statement that isn't defined.
@@ -88,16 +100,16 @@ fn add_undefined(words: &mut Words, answered: &Answered) {
 fn put_undefined<W: Write>(
     gathered: &mut Gathered,
     writer: &mut W,
+    spot: &Spot,
     answered: &Answered,
     answer: Response,
 )
-    ensures { PutsWith (remark_text (of_refusal answer)) (W.contents writer.old) (W.contents writer.new) gathered.old
-        gathered.new }
+    ensures { PutsRefusal spot.now answer (W.contents writer.old) (W.contents writer.new) gathered.old gathered.new }
 {
     let mut words = Words::new();
     add_undefined(&mut words, answered);
     words.add(b" isn't defined");
-    put_refusal(gathered, writer, answer, one_line(words.as_slice()));
+    put_words(gathered, writer, spot, answer, one_line(words.as_slice()));
 }
 
 /// Puts the first line of the first cause of a statement. With no memory for its text, nothing further goes out, as
@@ -105,6 +117,7 @@ fn put_undefined<W: Write>(
 fn put_cause<W: Write>(
     gathered: &mut Gathered,
     writer: &mut W,
+    spot: &Spot,
     answered: &Answered,
     answer: Response,
 )
@@ -112,10 +125,10 @@ fn put_cause<W: Write>(
         → IsCauseText (settings_in answered.now.bench.now) (bench_of answered.now.bench.now).present
         (asked_in answered.now.request.now) text)
         × Puts (W.contents writer.old) (W.contents writer.new) gathered.old gathered.new
-        (remark_text (of_refusal answer) ++ (first_line text ++ 10 ∷ [])) }
+        (row_at spot.now (refused answer (first_line text))) }
 {
     match cause_text(answered.alloc, answered.bench, answered.request) {
-        Ok(text) => put_refusal(gathered, writer, answer, first_line(text.as_slice())),
+        Ok(text) => put_words(gathered, writer, spot, answer, first_line(text.as_slice())),
         Err(failed) => fail(gathered, writer, failed),
     }
 }
@@ -124,6 +137,7 @@ fn put_cause<W: Write>(
 fn put_refused<W: Write>(
     gathered: &mut Gathered,
     writer: &mut W,
+    spot: &Spot,
     answered: &Answered,
     answer: Response,
     why: Refusal,
@@ -131,17 +145,15 @@ fn put_refused<W: Write>(
     ensures { (words : List ℕ) × IsReason (settings_in answered.now.bench.now) (bench_of answered.now.bench.now).present
         (asked_in answered.now.request.now) (Some why) words
         × NoFeed words × Puts (W.contents writer.old) (W.contents writer.new) gathered.old gathered.new
-        (remark_text (of_refusal answer) ++ (words ++ 10 ∷ [])) }
+        (row_at spot.now (refused answer words)) }
 {
     match why {
-        Refusal::Abend(_) => put_cause(gathered, writer, answered, answer),
-        Refusal::Name => put_undefined(gathered, writer, answered, answer),
-        Refusal::NoMemory => put_refusal(
-            gathered,
-            writer,
-            answer,
-            one_line(b"the program got no memory for it"),
-        ),
+        Refusal::Abend(_) => put_cause(gathered, writer, spot, answered, answer),
+        Refusal::Name => put_undefined(gathered, writer, spot, answered, answer),
+        Refusal::NoMemory => {
+            let words = one_line(b"the program got no memory for it");
+            put_words(gathered, writer, spot, answer, words);
+        }
     }
 }
 
@@ -162,11 +174,10 @@ fn step_words(answer: Response) -> &'static [u8]
 }
 
 /// Puts an answer that is no service's, and what decided.
-fn put_step<W: Write>(gathered: &mut Gathered, writer: &mut W, answer: Response)
-    ensures { PutsWith (remark_text (of_refusal answer)) (W.contents writer.old) (W.contents writer.new) gathered.old
-        gathered.new }
+fn put_step<W: Write>(gathered: &mut Gathered, writer: &mut W, spot: &Spot, answer: Response)
+    ensures { PutsRefusal spot.now answer (W.contents writer.old) (W.contents writer.new) gathered.old gathered.new }
 {
-    put_refusal(gathered, writer, answer, step_words(answer));
+    put_words(gathered, writer, spot, answer, step_words(answer));
 }
 
 /// Why an answer is refused, if it's no step past what is kept or undone.
@@ -186,19 +197,48 @@ fn why_in(answer: Response) -> Option<Refusal>
 }
 
 /// Puts an answer that is ABEND or REFUSED, and what decided.
-pub(crate) fn put_answer<W: Write>(
+fn put_answer<W: Write>(
     gathered: &mut Gathered,
     writer: &mut W,
+    spot: &Spot,
     answered: &Answered,
     answer: Response,
 )
     ensures { (words : List ℕ) × IsReason (settings_in answered.now.bench.now) (bench_of answered.now.bench.now).present
         (asked_in answered.now.request.now) (why_in answer) words
         × NoFeed words × Puts (W.contents writer.old) (W.contents writer.new) gathered.old gathered.new
-        (remark_text (of_refusal answer) ++ (words ++ 10 ∷ [])) }
+        (row_at spot.now (refused answer words)) }
 {
     match why_in(answer) {
-        Some(why) => put_refused(gathered, writer, answered, answer, why),
-        None => put_step(gathered, writer, answer),
+        Some(why) => put_refused(gathered, writer, spot, answered, answer, why),
+        None => put_step(gathered, writer, spot, answer),
+    }
+}
+
+/// Puts the refusal that is answered to the lines that are shown, if it's one, at their operation. No warning is on the
+/// left of it.
+pub(crate) fn put_refusal_check<W: Write>(
+    gathered: &mut Gathered,
+    writer: &mut W,
+    manner: Manner,
+    script: &[u8],
+    lines: &[SourceLine],
+    answered: &Answered,
+)
+    ensures { (said : List Said)
+        × IsSaidOf (settings_in answered.now.bench.now) (bench_of answered.now.bench.now).present
+        (asked_in answered.now.request.now) (refusal_told answered.now.told.now) said
+        × PutsChecks (manner_of manner.entry) [] said [] (W.contents writer.old) (W.contents writer.new) gathered.old
+        gathered.new }
+{
+    match refusal_told(answered.told) {
+        Some((number, answer)) => {
+            let spot = Spot {
+                manner,
+                place: operation_place(script, lines, number),
+            };
+            put_answer(gathered, writer, &spot, answered, answer);
+        }
+        None => (),
     }
 }

@@ -1,42 +1,37 @@
 -- All that is found in a script that was followed.
-use Rattle.std.proofs.Common.{◌≡◌, ℕ, Option, Some, None, Ok, List, [], map, reverse, take, refl, sym, ap, subst, ◌∙◌}
+use Rattle.std.proofs.Common.{◌≡◌, ℕ, Option, Some, None, Ok, List, [], map, reverse, take, refl, ap, subst, ◌∙◌}
 use Rattle.std.proofs.lemmas.List.{reverse-reverse}
-use Rattle.bench_core.specs.Stands.{IsNew, bench_of, settings_in}
-use Rattle.bench_core.specs.declared.bench.Bench.{Bench}
 use Rattle.macro_operands.specs.declared.requests.Statement.{Statement}
-use Rattle.macro_statements.specs.Requests.{Act}
 use Rattle.vsm_model.specs.declared.limits.Settings.{Settings}
-use Rattle.vsm_model.specs.Names.{NamedState}
 use Rattle.vsm_model.specs.Standing.{nothing_stands}
-use Rattle.vsm_model.specs.Standing as plain
+use Rattle.explain_areas.specs.Carried.{IsCarried}
 use Rattle.explain_areas.specs.Told.{standing}
+use Rattle.explain_areas.specs.declared.carried.Carried.{Carried}
 use Rattle.explain_who.specs.Trails.{marks_of}
 use Rattle.explain_who.specs.declared.trail.TrailEntry.{TrailEntry}
 use Rattle.explain_findings.specs.Found.{AreFound, either, judged, judged_readings, on_line}
-use Rattle.explain_findings.specs.LineMaps.{line_in}
+use Rattle.explain_areas.specs.NumberMaps.{number_in}
+use Rattle.explain_findings.specs.LeftTables.{IsAllLeft}
 use Rattle.explain_findings.specs.NameEndings.{ending_kept, word_kept}
-use Rattle.explain_findings.specs.Readings.{Reading, readings_all}
-use Rattle.explain_findings.specs.Replays.{AreRead, IsNothingFound, IsReplayed, Knows, ReplaysAll}
-use Rattle.explain_findings.specs.Standings.{IsFollowedBy, acts_in, reading_in}
-use Rattle.explain_findings.specs.Tables.{on_table, or_else}
-use Rattle.explain_findings.specs.declared.endings.Endings.{Endings}
+use Rattle.explain_areas.specs.Readings.{readings_all}
+use Rattle.explain_findings.specs.Replays.{IsNothingFound, IsReplayed, Knows, ReplaysAll}
+use Rattle.explain_areas.specs.Standings.{IsFollowedBy, acts_in, reading_in}
+use Rattle.explain_findings.specs.Tables.{or_else}
 use Rattle.explain_findings.specs.declared.findings.Finding.{Finding}
 use Rattle.explain_findings.specs.declared.judging.Known.{Known}
-use Rattle.explain_findings.specs.declared.line_map.LineMap.{LineMap}
+use Rattle.explain_findings.specs.declared.left.LeftTable.{LeftTable}
 use Rattle.explain_findings.specs.declared.replay.Replay.{Replay}
-use Rattle.explain_findings.specs.declared.standing.Followed.{Followed}
-use Rattle.explain_findings.specs.declared.standing.Reading.{Reading as ReadingKept}
-use Rattle.explain_findings.specs.declared.tables.LineTable.{LineTable}
+use Rattle.explain_areas.specs.declared.standing.Followed.{Followed}
+use Rattle.explain_areas.specs.declared.standing.Reading.{Reading as ReadingKept}
 
 -- Nothing is known at first,
-knows_nothing : (settings : Settings) (b : Bench) (known : Known) → IsNew settings (Ok b) → ((d : ℕ) → line_in known.lines d ≡ None) →
-    ((name : List ℕ) → ending_kept known.endings name ≡ None) → ((name : List ℕ) → word_kept known.endings name ≡ None) → Knows settings [] b known
-knows_nothing settings b known new lines endings words = record {
-  present = ap (λ (k : plain.Bench NamedState). k.present) new.1;
-  under = new.2;
-  lines = λ d taken. lines d;
+knows_nothing : (settings : Settings) (c : Carried) (known : Known) → IsCarried settings [] c → ((byte : ℕ) → number_in known.stored byte ≡ None) →
+    ((name : List ℕ) → ending_kept known.endings name ≡ None) → ((name : List ℕ) → word_kept known.endings name ≡ None) → Knows settings [] c known
+knows_nothing settings c known carried stored endings words = record {
+  carried = carried;
   words = words;
   endings = endings;
+  stored = λ byte low. stored byte;
 }
 
 either_is : (a b : Option Finding) → or_else a b ≡ either a b
@@ -44,17 +39,20 @@ either_is (Some f) b = refl
 either_is None b = refl
 
 -- and at last everything is found.
-pub everything_found : (settings : Settings) (script : List ℕ) (f : Followed) (first last : Replay) (entries : List (TrailEntry Statement)) (readings : List ReadingKept) → IsNew settings (Ok first.bench) →
-    IsFollowedBy settings script f → entries ≡ take (marks_of f.trail).standing (marks_of f.trail).entries → readings ≡ f.readings.items →
-    IsNothingFound first →
-    ReplaysAll entries readings first last → AreFound settings script (Ok last.found)
-everything_found settings script f first last entries readings new followed entries_are readings_are nothing all =
-    let start : IsReplayed settings [] first = record { knows = knows_nothing settings first.bench first.known new nothing.lines nothing.endings nothing.words; found = nothing.statements } in
+pub everything_found : (settings : Settings) (script : List ℕ) (f : Followed) (first last : Replay) (left : LeftTable) (entries : List (TrailEntry Statement)) (readings : List ReadingKept) →
+    IsCarried settings [] first.carried → IsFollowedBy settings script f → entries ≡ take (marks_of f.trail).standing (marks_of f.trail).entries → readings ≡ f.readings.items →
+    IsNothingFound first → ReplaysAll entries readings first last →
+    ((settings : Settings) → IsCarried settings (reverse (acts_in entries)) last.carried → IsAllLeft settings (reverse (acts_in entries)) left) →
+    AreFound settings script (Ok (record { statements = last.found.statements; readings = last.found.readings; left = left }))
+everything_found settings script f first last left entries readings carried followed entries_are readings_are nothing all leaves =
+    let start : IsReplayed settings [] first = record { knows = knows_nothing settings first.carried first.known carried nothing.stored nothing.endings nothing.words; found = nothing.statements } in
     let done = all settings start nothing.readings in
     let acts_are : reverse (acts_in entries) ≡ standing settings followed.answers =
     ap (λ es. reverse (acts_in es)) entries_are ∙ ap reverse followed.acts ∙ reverse-reverse (standing settings followed.answers) in
     let reads_are : reverse (map reading_in readings) ≡ readings_all settings nothing_stands [] followed.answers =
-    ap (λ rs. reverse (map reading_in rs)) readings_are ∙ ap reverse followed.readings ∙ reverse-reverse (readings_all settings nothing_stands [] followed.answers) in (
+    ap (λ rs. reverse (map reading_in rs)) readings_are ∙ ap reverse followed.readings ∙ reverse-reverse (readings_all settings nothing_stands [] followed.answers) in
+    let all_left : IsAllLeft settings (standing settings followed.answers) left =
+    subst (λ xs. IsAllLeft settings xs left) acts_are (leaves settings done.0.knows.carried) in (
       followed.answers,
       followed.ended,
       λ line.
@@ -62,4 +60,6 @@ everything_found settings script f first last entries readings new followed entr
           ∙ (λ i. or_else (on_line (judged settings (acts_are i)) line) (on_line (judged_readings settings (acts_are i) (reads_are i)) line))
           ∙ either_is (on_line (judged settings (standing settings followed.answers)) line)
           (on_line (judged_readings settings (standing settings followed.answers) (readings_all settings nothing_stands [] followed.answers)) line),
+      all_left.left,
+      all_left.sum,
     )

@@ -6,13 +6,14 @@ use Rattle.explain_findings.specs.Judged.{name_of}
 use Rattle.explain_findings.specs.declared.findings.Finding.{Finding}
 use Rattle.explain_findings.specs.declared.findings.Outside.{Outside}
 use Rattle.explain_findings.specs.declared.findings.Part.{Part}
+use Rattle.explain_findings.specs.declared.findings.Unset.{Unset}
 
-abbrev of_parts : Option Outside → Option ℕ → Option Part → Finding
-of_parts outside stale part = record { outside = outside; stale = stale; part = part }
+abbrev of_parts : Option Outside → Option ℕ → Option Part → Option Unset → Finding
+of_parts outside stale part unset = record { outside = outside; stale = stale; part = part; unset = unset }
 
 -- findings with the same parts are the same
-pub same_finding : {a b : Option Outside} {k l : Option ℕ} {p q : Option Part} → a ≡ b → k ≡ l → p ≡ q → of_parts a k p ≡ of_parts b l q
-same_finding same_outside same_stale same_part = λ i. of_parts (same_outside i) (same_stale i) (same_part i)
+pub same_finding : {a b : Option Outside} {k l : Option ℕ} {p q : Option Part} {u v : Option Unset} → a ≡ b → k ≡ l → p ≡ q → u ≡ v → of_parts a k p u ≡ of_parts b l q v
+same_finding same_outside same_stale same_part same_unset = λ i. of_parts (same_outside i) (same_stale i) (same_part i) (same_unset i)
 
 -- the name that a PEEK uses is that in its address
 pub name_read : (address : Written) (count : ℕ) → name_of address ≡ name_used (peek address count)

@@ -1,11 +1,10 @@
 -- What is found of a statement or a PEEK by what is known is what is found of it by the definition.
-use Rattle.std.proofs.Common.{◌≡◌, ℕ, ◌/◌, Bool, true, false, if◌then◌else◌, Option, Some, None, List, length, refl, sym, ap, ◌∙◌}
-use Rattle.std.proofs.lemmas.Bool.{eqb-true}
+use Rattle.std.proofs.Common.{◌≡◌, ℕ, ◌/◌, ◌^◌, Bool, true, false, if◌then◌else◌, Option, Some, None, List, length, refl, sym, ap, ◌∙◌, arith, inl, inr}
+use Rattle.std.proofs.lemmas.Bool.{cases_lt, eqb-true}
 use Rattle.std.specs.Prelude.{◌==◌}
-use Rattle.bench_core.specs.Machine.{Why, looked_up, name_asked, service_asked, statement_step}
-use Rattle.bench_core.specs.Stands.{bench_of, settings_in}
-use Rattle.bench_core.specs.declared.bench.Bench.{Bench}
-use Rattle.macro_statements.specs.Requests.{Act, Asked, Written, act, peek}
+use Rattle.bench_core.specs.Machine.{looked_up, name_asked, service_asked, statement_step}
+use Rattle.bench_core.specs.Stands.{bench_of}
+use Rattle.macro_statements.specs.Requests.{Act, Written, act, peek}
 use Rattle.vsm_model.specs.declared.limits.Settings.{Settings}
 use Rattle.vsm_model.specs.declared.replies.Reply.{Reply}
 use Rattle.vsm_model.specs.declared.replies.Reply.TheVariants.{Obtained, Returned, Cell, Attached, Turn, Stored}
@@ -13,47 +12,51 @@ use Rattle.vsm_model.specs.declared.services.Release.{Release}
 use Rattle.vsm_model.specs.Names.{NamedState, is_one_too_many}
 use Rattle.vsm_model.specs.Regions.{doublewords}
 use Rattle.vsm_model.specs.Services.{Service, obtain, release, whole, attach, detach, end_task, run, store, build, get, free, delete}
-use Rattle.vsm_model.specs.Standing.{Outcome, Accepted, Refused, reply_in}
+use Rattle.vsm_model.specs.Standing.{Accepted}
 use Rattle.vsm_model.specs.State.{State}
 use Rattle.vsm_model.specs.Step.{step}
 use Rattle.service_laws.proofs.Cases.{same_some}
 use Rattle.vsm_bench.proofs.Served.{accepted_is_its_service}
-use Rattle.explain_areas.specs.Since.{taken_since}
 use Rattle.explain_findings.specs.Accesses.{outside_at}
-use Rattle.explain_findings.specs.Endings.{ended_by, machine_after, name_used, reply_to, stale_name}
-use Rattle.explain_findings.specs.Found.{finding_at, read_outside, reading_finding, released_part, stored_outside}
+use Rattle.explain_areas.specs.Carried.{state_in}
+use Rattle.explain_areas.specs.Since.{got_since, is_cell_in_use, machine_after, reply_to, taken_since}
+use Rattle.explain_areas.specs.declared.carried.Carried.{Carried}
+use Rattle.explain_findings.specs.Endings.{name_used, stale_name}
+use Rattle.explain_findings.specs.Found.{finding_at, read_outside, read_unset, reading_finding, released_part, stored_outside}
 use Rattle.explain_findings.specs.Homes.{home_after, home_at}
-use Rattle.explain_findings.specs.Judged.{finding_by, outside_by, part_by, read_by, reading_by}
-use Rattle.explain_findings.specs.LineMaps.{line_in}
+use Rattle.explain_findings.specs.Judged.{finding_by, outside_by, part_by, read_by, reading_by, unset_by}
+use Rattle.explain_areas.specs.NumberMaps.{number_in}
 use Rattle.explain_findings.specs.NameEndings.{ending_kept}
 use Rattle.explain_findings.specs.Parts.{part_at}
 use Rattle.explain_findings.specs.Replays.{Knows, part_kept}
+use Rattle.explain_findings.specs.Stores.{first_unset, is_unset, line_at_home, stored_since}
 use Rattle.explain_findings.specs.declared.findings.Finding.{Finding}
-use Rattle.explain_findings.specs.declared.findings.Outside.{Outside}
 use Rattle.explain_findings.specs.declared.findings.Part.{Part}
 use Rattle.explain_findings.specs.declared.homes.Home.{Home}
 use Rattle.explain_findings.specs.declared.judging.Known.{Known}
+use Rattle.explain_findings.proofs.Carried.{accepted_from}
+use Rattle.explain_findings.proofs.FirstUnset.{same_unset}
+use Rattle.explain_findings.proofs.HomePages.{high_unassigned}
 use Rattle.explain_findings.proofs.KeptLines.{same_homes, same_part}
 use Rattle.explain_findings.proofs.Replies.{released_was_taken}
+use Rattle.explain_findings.proofs.UsedCells.{same_line}
 
-accepted_from : (o : Outcome NamedState Reply Why) (r : Reply) → reply_in o ≡ Some r → (n : NamedState) × (o ≡ Accepted n r)
-accepted_from (Accepted n q) r e = let same : q ≡ r = same_some q r e in (n, ap (λ r. Accepted n r) same)
-accepted_from (Refused why) r e = absurd (cc)
-
-module _ (settings : Settings) (older : List (ℕ × Act)) (b : Bench) (known : Known) (knows : Knows settings older b known) where
+module _ (settings : Settings) (older : List (ℕ × Act)) (c : Carried) (known : Known) (knows : Knows settings older c known) where
   abbrev m : NamedState
   m = machine_after settings older
 
   abbrev lines : ℕ → Option ℕ
-  lines = line_in known.lines
+  lines = number_in c.lines
 
   abbrev homes : ℕ → Home
-  homes = home_at (bench_of b).present.storage lines
+  homes = home_at (state_in c) lines
 
   homes_are : homes ≡ home_after settings older
-  homes_are = ap (λ (k : NamedState). home_at k.storage lines) knows.present ∙ same_homes m.storage lines (taken_since settings older) knows.lines
+  homes_are =
+      ap (λ (k : NamedState). home_at k.storage lines) knows.carried.present
+      ∙ same_homes m.storage lines (taken_since settings older) knows.carried.lines
 
-  outside_is : (service : Service) → stored_outside settings older (Some service) ≡ outside_by homes lines (ending_kept known.endings) (Some service)
+  outside_is : (service : Service) → stored_outside settings older (Some service) ≡ outside_by homes (Some service)
   outside_is (store address bytes) = ap (λ h. outside_at h address (length bytes)) (sym homes_are)
   outside_is (obtain o) = refl
   outside_is (release r) = refl
@@ -89,8 +92,8 @@ module _ (settings : Settings) (older : List (ℕ × Act)) (b : Bench) (known : 
         let zero_code : code ≡ 0 = eqb-true code 0 is in
         let were = released_was_taken settings names_full m.storage t r (e ∙ ap (λ k. Accepted t (Returned k)) zero_code) in
         ap (λ z. if z then meant r else None) is
-        ∙ sym (same_part m.storage lines (taken_since settings older) knows.lines (r.address / 8) (doublewords r.length) were.0 were.1)
-        ∙ ap (λ (k : NamedState). part_at (home_at k.storage lines) lines (r.address / 8) (doublewords r.length)) (sym knows.present)
+        ∙ sym (same_part m.storage lines (taken_since settings older) knows.carried.lines (r.address / 8) (doublewords r.length) were.0 were.1)
+        ∙ ap (λ (k : NamedState). part_at (home_at k.storage lines) lines (r.address / 8) (doublewords r.length)) (sym knows.carried.present)
         ∙ sym (ap (λ z. if z then found r else None) is)
     go false is = ap (λ z. if z then meant r else None) is ∙ sym (ap (λ z. if z then found r else None) is)
   part_is names_full t r (Obtained address length) e = refl
@@ -111,7 +114,7 @@ module _ (settings : Settings) (older : List (ℕ × Act)) (b : Bench) (known : 
   none_kept Stored = refl
 
   all_parts : (names_full : Bool) (t : State) (service : Service) (reply : Reply) → step settings names_full m.storage service ≡ Accepted t reply →
-      released_part settings older (Some service) (Some reply) ≡ part_kept reply (part_by homes lines (ending_kept known.endings) (Some service))
+      released_part settings older (Some service) (Some reply) ≡ part_kept reply (part_by homes lines (Some service))
   all_parts names_full t (release r) reply e = part_is names_full t r reply e
   all_parts names_full t (obtain o) reply e = sym (none_kept reply)
   all_parts names_full t (whole number) reply e = sym (none_kept reply)
@@ -138,23 +141,54 @@ module _ (settings : Settings) (older : List (ℕ × Act)) (b : Bench) (known : 
         outside = stored_outside settings older (asked i);
         stale = stale_is (name_used (act x)) i;
         part = released_part settings older (asked i) (replied i);
+        unset = None;
       })
       ∙ (λ i. record {
         outside = outside_is service i;
         stale = ended (name_used (act x));
         part = parts i;
+        unset = None;
       })
       ∙ ap (λ (f : Finding). record f { part = part_kept reply f.part }) (sym is)
 
-  outside_read : (word : Option ℕ) (count : ℕ) → read_outside settings older word count ≡ read_by homes lines (ending_kept known.endings) word count
+  outside_read : (word : Option ℕ) (count : ℕ) → read_outside settings older word count ≡ read_by homes word count
   outside_read None count = refl
   outside_read (Some word) count = ap (λ h. outside_at h word count) (sym homes_are)
 
+  abbrev cells : ℕ → Option ℕ
+  cells cell = number_in c.cells (cell / 4)
+
+  -- the line of what a fullword is in,
+  lines_are : (k : ℕ) → line_at_home cells (homes k) ≡ line_at_home (got_since settings older) (homes k)
+  lines_are k =
+      same_line (state_in c) lines k cells (got_since settings older)
+      (λ cell used. knows.carried.cells cell (sym (ap (λ (n : NamedState). is_cell_in_use n.storage cell) knows.carried.present) ∙ used))
+
+  -- and the line that stored a byte: no page is there if the byte has no address
+  stored_are : (k : ℕ) → is_unset (line_at_home (got_since settings older) (homes (k / 4))) (number_in known.stored k)
+      ≡ is_unset (line_at_home (got_since settings older) (homes (k / 4))) (stored_since settings older k)
+  stored_are k = elim (cases_lt k (2 ^ 32)) [
+    | inl low ↦ ap (is_unset (line_at_home (got_since settings older) (homes (k / 4)))) (knows.stored k low)
+    | inr high ↦
+        ap (λ h. is_unset (line_at_home (got_since settings older) h) (number_in known.stored k)) (sym (high_unassigned c.bench.machine.storage lines (k / 4) (omega arith)))
+        ∙ ap (λ h. is_unset (line_at_home (got_since settings older) h) (stored_since settings older k)) (high_unassigned c.bench.machine.storage lines (k / 4) (omega arith))
+  ]
+
+  unset_read : (word : Option ℕ) (count : ℕ) → read_unset settings older word count ≡ unset_by homes cells (number_in known.stored) word count
+  unset_read None count = refl
+  unset_read (Some word) count =
+      ap (λ h. first_unset h (got_since settings older) (stored_since settings older) count word) (sym homes_are)
+      ∙ sym (same_unset homes cells (got_since settings older) (number_in known.stored) (stored_since settings older) (λ k. lines_are (k / 4)) stored_are count word)
+
   -- A PEEK.
   pub found_of_reading : (address : Written) (count : ℕ) →
-      reading_finding settings older address count ≡ reading_by homes lines (ending_kept known.endings) (bench_of b).present address count
+      reading_finding settings older address count
+      ≡ reading_by homes cells (number_in known.stored) (ending_kept known.endings) (bench_of c.bench).present address count
   found_of_reading address count = λ i. record {
-    outside = (outside_read (looked_up m address) count ∙ ap (λ k. read_by homes lines (ending_kept known.endings) (looked_up k address) count) (sym knows.present)) i;
+    outside = (outside_read (looked_up m address) count ∙ ap (λ k. read_by homes (looked_up k address) count) (sym knows.carried.present)) i;
     stale = stale_is (name_used (peek address count)) i;
     part = None;
+    unset =
+        (unset_read (looked_up m address) count
+        ∙ ap (λ k. unset_by homes cells (number_in known.stored) (looked_up k address) count) (sym knows.carried.present)) i;
   }

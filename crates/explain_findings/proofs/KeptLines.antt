@@ -1,27 +1,20 @@
 -- Which line took a doubleword, as it's kept, and where fullwords are at home by that.
-use Rattle.std.proofs.Common.{◌≡◌, ℕ, zero, suc, ◌+◌, ◌*◌, ◌/◌, ◌^◌, ◌<◌, ◌≤◌, Bool, true, false, true≢false, not, ◌&&◌, if◌then◌else◌, Option, Some, None, List, ◌∷◌, refl, sym, ap, ◌∙◌, arith}
+use Rattle.std.proofs.Common.{◌≡◌, ℕ, zero, suc, ◌+◌, ◌*◌, ◌/◌, ◌<◌, ◌≤◌, Bool, true, false, true≢false, not, ◌&&◌, if◌then◌else◌, Option, Some, None, refl, sym, ap, ◌∙◌, arith}
 use Rattle.std.specs.Prelude.{unwrap_or}
-use Rattle.macro_statements.specs.Requests.{Act}
 use Rattle.vsm_model.specs.declared.Subpool.{Subpool}
-use Rattle.vsm_model.specs.declared.limits.Settings.{Settings}
 use Rattle.vsm_model.specs.Areas.{is_free}
 use Rattle.vsm_model.specs.Regions.{among}
 use Rattle.vsm_model.specs.Search.{all_pass, holds}
 use Rattle.vsm_model.specs.State.{State}
 use Rattle.vsm_model.specs.Subpools.{same_subpool}
 use Rattle.service_laws.proofs.Cases.{belongs_from, in_among}
-use Rattle.explain_areas.specs.Newly.{newly_between}
-use Rattle.explain_areas.specs.Since.{since, taken_since}
 use Rattle.explain_who.specs.Taken.{cell_at, taken_by}
-use Rattle.explain_findings.specs.Endings.{machine_after}
 use Rattle.explain_findings.specs.Homes.{home_at, home_by, home_on}
-use Rattle.explain_findings.specs.Parts.{goes_on, is_of_one, part_at, same_line}
-use Rattle.explain_findings.specs.Replays.{is_in}
-use Rattle.explain_findings.specs.declared.findings.Part.{Part}
+use Rattle.explain_areas.specs.NumberMaps.{is_of_one, same_number}
+use Rattle.explain_findings.specs.Parts.{goes_on, part_at}
 use Rattle.explain_findings.specs.declared.findings.Part.TheVariants as part
 use Rattle.explain_findings.specs.declared.homes.Home.{Home}
 use Rattle.explain_findings.specs.declared.homes.Home.TheVariants as home
-use Rattle.explain_findings.proofs.NewRuns.{newly_has}
 
 is_taken : (b : Bool) → (true && not b) ≡ false → b ≡ true
 is_taken true e = refl
@@ -65,34 +58,8 @@ module _ (s : State) (f g : ℕ → Option ℕ) (same : (d : ℕ) → s.taken d 
 
     of_one : is_of_one f first count ≡ is_of_one g first count
     of_one =
-        all_same (λ d. same_line (f first) (f d)) (λ d. same_line (g first) (g d)) first count
-        (λ d from to i. same_line (at_first i) (same d (taken d (in_among first count d from to)) i))
+        all_same (λ d. same_number (f first) (f d)) (λ d. same_number (g first) (g d)) first count
+        (λ d from to i. same_number (at_first i) (same d (taken d (in_among first count d from to)) i))
 
     pub same_part : part_at (home_at s f) f first count ≡ part_at (home_at s g) g first count
     same_part = λ i. if not (of_one i) then Some part.OfSeveral else if goes_on (same_homes i) first count then Some (part.OfArea (unwrap_or (at_first i) 0)) else None
-
--- ---- another statement
-
-module _ (settings : Settings) (older : List (ℕ × Act)) (x : ℕ × Act) where
-  abbrev before : State
-  before = (machine_after settings older).storage
-
-  abbrev after : State
-  after = (machine_after settings (x ∷ older)).storage
-
-  -- What it took is its line's.
-  pub lines_kept : (runs : List (ℕ × ℕ)) (f g : ℕ → Option ℕ) → runs ≡ newly_between before after →
-      ((d : ℕ) → after.taken d ≡ true → d < 2 ^ 28) → ((d : ℕ) → d < 2 ^ 32 → g d ≡ (if is_in d runs then Some x.0 else f d)) →
-      ((d : ℕ) → before.taken d ≡ true → f d ≡ taken_since settings older d) → (d : ℕ) → after.taken d ≡ true → g d ≡ taken_since settings (x ∷ older) d
-  lines_kept runs f g are low took kept d here =
-      let below : d < 2 ^ 28 = low d here in
-      let in_map : d < 2 ^ 32 = omega (arith, below) in
-      took d in_map ∙ ap (λ rs. if is_in d rs then Some x.0 else f d) are
-      ∙ ap (λ b. if b then Some x.0 else f d) (newly_has before after d below) ∙ go (before.taken d) refl
-    where
-      go : (b : Bool) → before.taken d ≡ b → (if after.taken d && not (before.taken d) then Some x.0 else f d) ≡ taken_since settings (x ∷ older) d
-      go true is =
-          (λ i. if here i && not (is i) then Some x.0 else f d) ∙ kept d is
-          ∙ sym (λ i. since (here i) (is i) x.0 (taken_since settings older d))
-      go false is =
-          (λ i. if here i && not (is i) then Some x.0 else f d) ∙ sym (λ i. since (here i) (is i) x.0 (taken_since settings older d))

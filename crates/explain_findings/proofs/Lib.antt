@@ -1,19 +1,19 @@
 -- Lemmas on what is found.
-mod LineMaps
 mod HomePages
 mod FirstOutside
+mod FirstUnset
+mod Lists
+mod TableLemmas
 mod NameEntries
 mod FewBytes
 mod FindingLemmas
-mod KeptReadings
-mod StandingNotes
-mod StandingFollowed
-mod StandingWhole
-mod Firsts
 mod Replies
 mod KeptNames
-mod NewRuns
 mod KeptLines
+mod UsedCells
+mod Askers
+mod LeftPlaces
+mod LeftLists
 mod Carried
 mod FoundBefore
 mod ReadInOrder

@@ -1,30 +1,30 @@
 -- PEEKs are judged after as many statements as each says.
-use Rattle.std.proofs.Common.{◌≡◌, ℕ, ◌+◌, ◌-◌, ◌<◌, ◌≤◌, ◌&&◌, if◌then◌else◌, Some, Result, Ok, Err, OnOk, List, [], ◌∷◌, length, take, drop, map, reverse, get_or, refl, sym, ap, subst, ◌∙◌, arith}
+use Rattle.std.proofs.Common.{◌≡◌, ℕ, ◌+◌, ◌-◌, ◌/◌, ◌<◌, ◌≤◌, ◌&&◌, if◌then◌else◌, Some, Result, Ok, Err, OnOk, List, [], ◌∷◌, length, take, drop, map, reverse, get_or, sym, ap, subst, ◌∙◌, arith}
 use Rattle.std.proofs.lemmas.List.{take_all}
 use Rattle.std.specs.Prelude.{◌==◌}
 use Rattle.macro_operands.specs.declared.requests.Statement.{Statement}
 use Rattle.macro_statements.specs.Requests.{Act, written_in}
 use Rattle.vsm_model.specs.declared.limits.Settings.{Settings}
 use Rattle.bench_core.specs.Stands.{bench_of}
-use Rattle.bench_core.specs.declared.bench.Bench.{Bench}
 use Rattle.explain_who.specs.declared.trail.TrailEntry.{TrailEntry}
 use Rattle.explain_findings.specs.Found.{is_something, judged_readings, on_line, reading_finding}
 use Rattle.explain_findings.specs.Homes.{home_at}
 use Rattle.explain_findings.specs.Judged.{reading_by}
-use Rattle.explain_findings.specs.LineMaps.{line_in}
+use Rattle.explain_areas.specs.NumberMaps.{number_in}
 use Rattle.explain_findings.specs.NameEndings.{ending_kept, word_kept}
-use Rattle.explain_findings.specs.Replays.{AreRead, GoesTo, IsReplayed, Knows, Reads, ReplaysAll, first_acts, line_act, with_finding}
-use Rattle.explain_findings.specs.Standings.{acts_in, reading_in}
+use Rattle.explain_findings.specs.Replays.{AreRead, GoesTo, IsReplayed, Knows, Reads, ReplaysAll, first_acts, with_finding}
+use Rattle.explain_areas.specs.Carried.{line_act, state_in}
+use Rattle.explain_areas.specs.Standings.{acts_in, reading_in}
+use Rattle.explain_areas.specs.declared.carried.Carried.{Carried}
 use Rattle.explain_findings.specs.Tables.{on_table}
 use Rattle.explain_findings.specs.declared.endings.Endings.{Endings}
 use Rattle.explain_findings.specs.declared.findings.Finding.{Finding}
-use Rattle.explain_findings.specs.declared.findings.Findings.{Findings}
 use Rattle.explain_findings.specs.declared.judging.Known.{Known}
-use Rattle.explain_findings.specs.declared.line_map.LineMap.{LineMap}
+use Rattle.explain_areas.specs.declared.number_map.NumberMap.{NumberMap}
 use Rattle.explain_findings.specs.declared.replay.Replay.{Replay}
-use Rattle.explain_findings.specs.declared.standing.Reading.{Reading as ReadingKept}
+use Rattle.explain_areas.specs.declared.standing.Reading.{Reading as ReadingKept}
 use Rattle.explain_findings.specs.declared.tables.LineTable.{LineTable}
-use Rattle.explain_findings.proofs.Firsts.{firsts_more, firsts_of_all}
+use Rattle.explain_areas.proofs.Firsts.{firsts_more, firsts_of_all}
 use Rattle.explain_findings.proofs.FoundBefore.{found_of_reading}
 
 pub on_ok_both : {V E P Q R : Type 0} (r : Result V E) → (P → Q → R) → OnOk r P → OnOk r Q → OnOk r R
@@ -32,24 +32,24 @@ on_ok_both (Ok v) f p q = f p q
 on_ok_both (Err e) f p q = p
 
 -- What is known stays known.
-still : (settings : Settings) (xs : List (ℕ × Act)) (b : Bench) (k l : Known) → l.lines ≡ k.lines → l.endings ≡ k.endings → Knows settings xs b k → Knows settings xs b l
-still settings xs b k l lines endings knows = record {
-  present = knows.present;
-  under = knows.under;
-  lines = λ d taken. ap (λ (m : LineMap). line_in m d) lines ∙ knows.lines d taken;
+still : (settings : Settings) (xs : List (ℕ × Act)) (c : Carried) (k l : Known) → l.endings ≡ k.endings → l.stored ≡ k.stored → Knows settings xs c k → Knows settings xs c l
+still settings xs c k l endings stored knows = record {
+  carried = knows.carried;
   words = λ name. ap (λ (e : Endings). word_kept e name) endings ∙ knows.words name;
   endings = λ name. ap (λ (e : Endings). ending_kept e name) endings ∙ knows.endings name;
+  stored = λ byte low. ap (λ (m : NumberMap). number_in m byte) stored ∙ knows.stored byte low;
 }
 
 -- A PEEK is judged.
-pub reads : (reading : ReadingKept) (r : Replay) (known : Known) (t : LineTable) (f : Finding) → known.lines ≡ r.known.lines → known.endings ≡ r.known.endings →
-    f ≡ reading_by (home_at (bench_of r.bench).present.storage (line_in r.known.lines)) (line_in r.known.lines) (ending_kept r.known.endings) (bench_of r.bench).present (written_in reading.address) reading.count →
+pub reads : (reading : ReadingKept) (r : Replay) (known : Known) (t : LineTable) (f : Finding) → known.endings ≡ r.known.endings → known.stored ≡ r.known.stored →
+    f ≡ reading_by (home_at (state_in r.carried) (number_in r.carried.lines)) (λ cell. number_in r.carried.cells (cell / 4)) (number_in r.known.stored) (ending_kept r.known.endings)
+    (bench_of r.carried.bench).present (written_in reading.address) reading.count →
     ((n : ℕ) → on_table t n ≡ with_finding reading.line f (on_table r.found.readings) n) →
-    Reads reading r (record { bench = r.bench; known = known; found = record { statements = r.found.statements; readings = t } })
-reads reading r known t f lines endings is noted settings xs replayed =
+    Reads reading r (record { carried = r.carried; known = known; found = record { statements = r.found.statements; readings = t; left = r.found.left } })
+reads reading r known t f endings stored is noted settings xs replayed =
     let found : f ≡ reading_finding settings xs (written_in reading.address) reading.count =
-    is ∙ sym (found_of_reading settings xs r.bench r.known replayed.knows (written_in reading.address) reading.count) in (
-      record { knows = still settings xs r.bench r.known known lines endings replayed.knows; found = replayed.found },
+    is ∙ sym (found_of_reading settings xs r.carried r.known replayed.knows (written_in reading.address) reading.count) in (
+      record { knows = still settings xs r.carried r.known known endings stored replayed.knows; found = replayed.found },
       λ n. noted n ∙ ap (λ f. with_finding reading.line f (on_table r.found.readings) n) found,
     )
 

@@ -1,5 +1,5 @@
 -- PEEKs in the order of the statements that they come after.
-use Rattle.std.proofs.Common.{◌≡◌, ℕ, zero, suc, ◌+◌, ◌<◌, ◌≤◌, nat_le, Bool, true, false, if◌then◌else◌, Result, Ok, Err, List, [], ◌∷◌, ◌++◌, length, map, reverse, take, drop, get_or, add-one, refl, sym, ap, subst, ◌∙◌, arith}
+use Rattle.std.proofs.Common.{◌≡◌, ℕ, ◌+◌, ◌<◌, ◌≤◌, nat_le, Bool, true, false, if◌then◌else◌, Result, Ok, Err, List, [], ◌∷◌, ◌++◌, length, map, reverse, take, drop, get_or, add-one, refl, sym, ap, subst, ◌∙◌, arith}
 use Rattle.std.specs.Prelude.{filter}
 use Rattle.std.proofs.lemmas.Bool.{leb-true}
 use Rattle.std.proofs.lemmas.List.{length-map, length-reverse, map-append, reverse-append}
@@ -17,11 +17,12 @@ use Rattle.explain_areas.specs.Told.{standing}
 use Rattle.explain_who.specs.Lined.{lined_after, lined_all, plain}
 use Rattle.explain_who.specs.Trails.{marks_of}
 use Rattle.explain_who.specs.declared.trail.TrailEntry.{TrailEntry}
-use Rattle.explain_findings.specs.Readings.{Reading, if_shown, reading_asked, readings_after, readings_all}
-use Rattle.explain_findings.specs.Replays.{Rises, depths, line_act}
-use Rattle.explain_findings.specs.Standings.{IsFollowedBy, acts_in, reading_in}
-use Rattle.explain_findings.specs.declared.standing.Followed.{Followed}
-use Rattle.explain_findings.specs.declared.standing.Reading.{Reading as ReadingKept}
+use Rattle.explain_areas.specs.Readings.{Reading, if_shown, reading_asked, readings_after, readings_all}
+use Rattle.explain_findings.specs.Replays.{Rises, depths}
+use Rattle.explain_areas.specs.Carried.{line_act}
+use Rattle.explain_areas.specs.Standings.{IsFollowedBy, acts_in, reading_in}
+use Rattle.explain_areas.specs.declared.standing.Followed.{Followed}
+use Rattle.explain_areas.specs.declared.standing.Reading.{Reading as ReadingKept}
 
 -- the next of them
 pub its_turn : (rs : List ReadingKept) (i : ℕ) (r : ReadingKept) (low high : ℕ) → i < length rs → r ≡ get_or rs i r → Rises low (depths (drop i rs)) high →

@@ -2,16 +2,15 @@
 use Rattle.std.specs.Prelude.{ℕ, ◌+◌, ◌/◌, Bool, true, false, not, ◌&&◌, ◌==◌, nat_le, nat_lt, if◌then◌else◌}
 use Rattle.std.specs.Prelude.{Option, Some, None, List, [], ◌∷◌}
 use Rattle.macro_statements.specs.Requests.{Act, Asked, act, peek, named, free, poke, release}
-use Rattle.bench_core.specs.Machine.{name_asked, service_asked, statement_step}
+use Rattle.bench_core.specs.Machine.{name_asked, service_asked}
 use Rattle.vsm_model.specs.declared.limits.Settings.{Settings}
 use Rattle.vsm_model.specs.declared.replies.Reply.{Reply}
 use Rattle.vsm_model.specs.declared.replies.Reply.TheVariants.{Obtained, Cell}
-use Rattle.vsm_model.specs.Names.{NamedState, first_named_state, same_name, word_of}
+use Rattle.vsm_model.specs.Names.{same_name, word_of}
 use Rattle.vsm_model.specs.Regions.{doublewords}
 use Rattle.vsm_model.specs.Services as services
 use Rattle.vsm_model.specs.Services.{Service}
-use Rattle.vsm_model.specs.Standing.{alone, reply_in}
-use Rattle.explain_areas.specs.Since.{acts}
+use Rattle.explain_areas.specs.Since.{machine_after, reply_to}
 use Rattle.explain_who.specs.Taken.{taken_at}
 use Rattle.explain_who.specs.declared.takers.Taken.{Taken}
 use Rattle.explain_who.specs.declared.takers.Taken.TheVariants as taken
@@ -60,28 +59,20 @@ name_used (peek (named name) count) = Some name
 name_used _ = None
 
 module _ (settings : Settings) where
-  -- the machine after only these statements, the newest first
-  abbrev pub machine_after : List (ℕ × Act) → NamedState
-  machine_after xs = alone first_named_state (statement_step settings) (acts xs)
-
-  -- the reply to the newest of them
-  abbrev pub reply_to : List (ℕ × Act) → Act → Option Reply
-  reply_to older x = reply_in (statement_step settings (machine_after older) x)
-
   -- A statement after which neither an area nor a cell in use is at the word of a name.
   abbrev pub ends_at : List (ℕ × Act) → ℕ × Act → Option ℕ → Bool
   ends_at older x None = false
   ends_at older x (Some word) =
-      can_end (service_asked (machine_after older) x.1) word
-      && not (is_used (taken_at (machine_after (x ∷ older)).storage word))
+      can_end (service_asked (machine_after settings older) x.1) word
+      && not (is_used (taken_at (machine_after settings (x ∷ older)).storage word))
 
   -- The line of the first statement that ended what is at the word of a name since the name was given that word.
   abbrev pub ended_by : List (ℕ × Act) → List ℕ → Option ℕ
   ended_by [] name = None
   ended_by (x ∷ older) name =
-      if gives (reply_to older x.1) (name_asked x.1) name then None
+      if gives (reply_to settings older x.1) (name_asked x.1) name then None
       else first_line (ended_by older name)
-      (if ends_at older x (word_of (machine_after older).names name) then Some x.0 else None)
+      (if ends_at older x (word_of (machine_after settings older).names name) then Some x.0 else None)
 
   -- The same of the name that a statement uses.
   abbrev pub stale_name : List (ℕ × Act) → Option (List ℕ) → Option ℕ

@@ -1,7 +1,7 @@
--- What is found in a script: of each statement in effect at its end, judged on the state before it, and of each PEEK
--- whose state isn't undone later.
-use Rattle.std.specs.Prelude.{◌≡◌, ℕ, ◌-◌, ◌/◌, ◌==◌, ◌&&◌, ◌||◌, Bool, if◌then◌else◌, Option, Some, None, is_some}
-use Rattle.std.specs.Prelude.{List, [], ◌∷◌, drop, length, map, Result, Ok, Err}
+-- What is found in a script: of each statement in effect at its end, judged on the state before it; of each PEEK whose
+-- state isn't undone later; and what is left taken at the end.
+use Rattle.std.specs.Prelude.{◌≡◌, ℕ, ◌-◌, ◌/◌, ◌^◌, ◌<◌, ◌==◌, ◌&&◌, ◌||◌, Bool, if◌then◌else◌, Option, Some, None}
+use Rattle.std.specs.Prelude.{is_some, List, [], ◌∷◌, drop, length, map, Result, Ok, Err}
 use Rattle.bench_core.specs.Machine.{looked_up, service_asked}
 use Rattle.macro_statements.specs.Requests.{Act, Written, act, peek}
 use Rattle.vsm_model.specs.declared.limits.Settings.{Settings}
@@ -18,21 +18,25 @@ use Rattle.explain_areas.specs.Told.{standing}
 use Rattle.explain_who.specs.Faults.{FollowsNot}
 use Rattle.explain_who.specs.declared.faults.WhoFault.{WhoFault}
 use Rattle.explain_findings.specs.Accesses.{outside_at}
-use Rattle.explain_findings.specs.Endings.{machine_after, name_used, reply_to, stale_name}
+use Rattle.explain_areas.specs.Since.{machine_after, reply_to}
+use Rattle.explain_findings.specs.Endings.{name_used, stale_name}
 use Rattle.explain_findings.specs.Homes.{home_after}
 use Rattle.explain_findings.specs.Parts.{part_at}
-use Rattle.explain_findings.specs.Readings.{Reading, readings_all}
+use Rattle.explain_areas.specs.Readings.{Reading, readings_all}
 use Rattle.explain_findings.specs.declared.findings.Finding.{Finding}
 use Rattle.explain_findings.specs.declared.findings.Findings.{Findings}
 use Rattle.explain_findings.specs.declared.findings.Outside.{Outside}
 use Rattle.explain_findings.specs.declared.findings.Part.{Part}
-use Rattle.explain_findings.specs.Tables.{found_on}
+use Rattle.explain_findings.specs.declared.findings.Unset.{Unset}
+use Rattle.explain_findings.specs.Left.{left_after, left_in_all}
+use Rattle.explain_findings.specs.Stores.{unset_after}
+use Rattle.explain_findings.specs.Tables.{found_on, left_on, sum_left}
 
 abbrev pub nothing_found : Finding
-nothing_found = record { outside = None; stale = None; part = None }
+nothing_found = record { outside = None; stale = None; part = None; unset = None }
 
 abbrev pub is_something : Finding → Bool
-is_something f = is_some f.outside || is_some f.stale || is_some f.part
+is_something f = is_some f.outside || is_some f.stale || is_some f.part || is_some f.unset
 
 -- what is found on a line, if something is
 abbrev pub on_line : List (ℕ × Finding) → ℕ → Option Finding
@@ -67,6 +71,7 @@ module _ (settings : Settings) where
         stale = stale_name settings older (name_used (act x));
         part =
             released_part older (service_asked (machine_after settings older) x) (reply_to settings older x);
+        unset = None;
       }
 
   -- and of a PEEK.
@@ -74,12 +79,17 @@ module _ (settings : Settings) where
   read_outside xs None count = None
   read_outside xs (Some word) count = outside_at (home_after settings xs) word count
 
+  abbrev pub read_unset : List (ℕ × Act) → Option ℕ → ℕ → Option Unset
+  read_unset xs None count = None
+  read_unset xs (Some word) count = unset_after settings xs word count
+
   abbrev pub reading_finding : List (ℕ × Act) → Written → ℕ → Finding
   reading_finding xs address count =
       record {
         outside = read_outside xs (looked_up (machine_after settings xs) address) count;
         stale = stale_name settings xs (name_used (peek address count));
         part = None;
+        unset = read_unset xs (looked_up (machine_after settings xs) address) count;
       }
 
   -- Of each of these statements and PEEKs, the newest first, with its line.
@@ -102,4 +112,6 @@ module _ (settings : Settings) where
   AreFound script (Ok found) =
       (answers : List Marked) × Ended settings script answers
       × ((line : ℕ) → found_on found line ≡ finding_on answers line)
+      × ((line : ℕ) → line < 2 ^ 32 → left_on found line ≡ left_after settings (standing settings answers) line)
+      × (sum_left found ≡ left_in_all settings (standing settings answers))
   AreFound script (Err fault) = FollowsNot settings script fault

@@ -1,12 +1,12 @@
 pub mod Homes
-pub mod LineMaps
 pub mod Accesses
 pub mod Parts
+pub mod Stores
 pub mod Endings
 pub mod NameEndings
-pub mod Readings
-pub mod Standings
-pub mod Judged
+pub mod Left
+pub mod LeftTables
 pub mod Tables
+pub mod Judged
 pub mod Found
 pub mod Replays

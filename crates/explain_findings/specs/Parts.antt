@@ -1,20 +1,11 @@
 -- A release that takes back less than an area, or of several.
-use Rattle.std.specs.Prelude.{ℕ, ◌+◌, ◌-◌, ◌*◌, Bool, true, false, not, ◌||◌, ◌==◌, if◌then◌else◌}
+use Rattle.std.specs.Prelude.{ℕ, ◌+◌, ◌-◌, ◌*◌, Bool, not, ◌||◌, if◌then◌else◌}
 use Rattle.std.specs.Prelude.{Option, Some, None, unwrap_or}
-use Rattle.vsm_model.specs.Search.{all_pass}
+use Rattle.explain_areas.specs.NumberMaps.{is_of_one}
 use Rattle.explain_findings.specs.Homes.{same_home}
 use Rattle.explain_findings.specs.declared.findings.Part.{Part}
 use Rattle.explain_findings.specs.declared.findings.Part.TheVariants as part
 use Rattle.explain_findings.specs.declared.homes.Home.{Home}
-
-abbrev pub same_line : Option ℕ → Option ℕ → Bool
-same_line None None = true
-same_line (Some a) (Some b) = a == b
-same_line _ _ = false
-
--- this many doublewords are of the first one's line
-abbrev pub is_of_one : (ℕ → Option ℕ) → ℕ → ℕ → Bool
-is_of_one lines first count = all_pass (λ d. same_line (lines first) (lines d)) first count
 
 -- the area goes on before these doublewords or after them
 abbrev pub goes_on : (ℕ → Home) → ℕ → ℕ → Bool

@@ -1,9 +1,8 @@
 -- What is known after some statements in effect, and what was found of them.
-use Rattle.std.specs.Prelude.{◌≡◌, ℕ, ◌≤◌, Bool, true, false, ◌&&◌, ◌==◌, if◌then◌else◌, Option, Some, None, Ok}
+use Rattle.std.specs.Prelude.{◌≡◌, ℕ, ◌≤◌, ◌<◌, ◌^◌, Bool, false, ◌&&◌, ◌==◌, if◌then◌else◌, Option, Some, None, Ok}
 use Rattle.std.specs.Prelude.{List, [], ◌∷◌, map, reverse, take}
-use Rattle.std.specs.List.{list_any}
 use Rattle.bench_core.specs.Machine.{service_asked}
-use Rattle.bench_core.specs.Stands.{IsNew, bench_of, settings_in}
+use Rattle.bench_core.specs.Stands.{IsNew}
 use Rattle.bench_core.specs.declared.bench.Bench.{Bench}
 use Rattle.macro_operands.specs.declared.requests.Statement.{Statement}
 use Rattle.macro_statements.specs.Requests.{Act, act_in, written_in}
@@ -12,16 +11,20 @@ use Rattle.vsm_model.specs.declared.replies.Reply.{Reply}
 use Rattle.vsm_model.specs.declared.replies.Reply.TheVariants.{Obtained, Returned, Cell, Attached, Turn, Stored}
 use Rattle.vsm_model.specs.Names.{NamedState, word_of}
 use Rattle.vsm_model.specs.Regions.{among}
-use Rattle.vsm_model.specs.Services as services
 use Rattle.vsm_model.specs.Services.{Service}
-use Rattle.explain_areas.specs.Since.{taken_since}
 use Rattle.explain_who.specs.declared.trail.TrailEntry.{TrailEntry}
-use Rattle.explain_findings.specs.Endings.{can_end, ended_by, gives, machine_after, reply_to}
+use Rattle.explain_areas.specs.Carried.{IsCarried, line_act}
+use Rattle.explain_areas.specs.NumberMaps.{number_in}
+use Rattle.explain_areas.specs.Since.{machine_after, reply_to}
+use Rattle.explain_areas.specs.Standings.{IsFollowedBy, acts_in, reading_in}
+use Rattle.explain_areas.specs.declared.carried.Carried.{Carried}
+use Rattle.explain_areas.specs.declared.standing.Followed.{Followed}
+use Rattle.explain_areas.specs.declared.standing.Reading.{Reading as ReadingKept}
+use Rattle.explain_findings.specs.Endings.{can_end, ended_by, gives}
 use Rattle.explain_findings.specs.Found.{AreFound, finding_at, is_something, judged, judged_readings, on_line}
 use Rattle.explain_findings.specs.Found.{reading_finding}
-use Rattle.explain_findings.specs.LineMaps.{line_in}
 use Rattle.explain_findings.specs.NameEndings.{can_end_in, ending_kept, word_kept}
-use Rattle.explain_findings.specs.Standings.{IsFollowedBy, acts_in, reading_in}
+use Rattle.explain_findings.specs.Stores.{stored_since, stores}
 use Rattle.explain_findings.specs.Tables.{on_table}
 use Rattle.explain_findings.specs.declared.endings.CanEnd.{CanEnd}
 use Rattle.explain_findings.specs.declared.endings.Endings.{Endings}
@@ -31,26 +34,9 @@ use Rattle.explain_findings.specs.declared.findings.Part.{Part}
 use Rattle.explain_findings.specs.declared.judging.Known.{Known}
 use Rattle.explain_findings.specs.declared.replay.Judged.{Judged}
 use Rattle.explain_findings.specs.declared.replay.Replay.{Replay}
-use Rattle.explain_findings.specs.declared.standing.Followed.{Followed}
-use Rattle.explain_findings.specs.declared.standing.Reading.{Reading as ReadingKept}
 use Rattle.explain_findings.specs.declared.tables.LineTable.{LineTable}
 
 -- ---- one statement
-
--- a GET of a cell: only that may make an extent that isn't in its reply
-abbrev pub is_get : Service → Bool
-is_get (services.get name operands) = true
-is_get (services.obtain o) = false
-is_get (services.release r) = false
-is_get (services.whole number) = false
-is_get (services.attach a) = false
-is_get (services.detach task) = false
-is_get services.end_task = false
-is_get (services.run task) = false
-is_get (services.store address bytes) = false
-is_get (services.build name header numbers) = false
-is_get (services.free name cell) = false
-is_get (services.delete name) = false
 
 -- the address of an area or a cell that a reply gives
 abbrev pub word_given : Reply → Option ℕ
@@ -70,12 +56,21 @@ part_kept (Attached task) part = None
 part_kept (Turn task) part = None
 part_kept Stored part = None
 
--- The service of a statement is known: what it can end, and whether it's a GET.
-pub record IsServed (m : NamedState) (x : Act) (ends : CanEnd) (gets : Bool) : Type 0 where
+-- one of these bytes, if there are any: the first, and how many there are
+abbrev pub is_among : Option (ℕ × ℕ) → ℕ → Bool
+is_among None byte = false
+is_among (Some bytes) byte = among bytes.0 bytes.1 byte
+
+-- exactly these bytes are stored by a service
+abbrev pub IsStoredBy : Service → Option (ℕ × ℕ) → Type 0
+IsStoredBy service bytes = (byte : ℕ) → is_among bytes byte ≡ stores (Some service) byte
+
+-- The service of a statement is known: what it can end, and which bytes it stores.
+pub record IsServed (m : NamedState) (x : Act) (ends : CanEnd) (bytes : Option (ℕ × ℕ)) : Type 0 where
   pub service : Service
   pub asked : service_asked m x ≡ Some service
   pub ends_it : (address : ℕ) → can_end_in ends address ≡ can_end (Some service) address
-  pub gets_it : gets ≡ is_get service
+  pub stores_it : IsStoredBy service bytes
 
 -- The address in a reply goes to a name, if there are both.
 pub record IsGiven (old : Endings) (name : Option (List ℕ)) (reply : Reply) (new : Endings) : Type 0 where
@@ -89,58 +84,49 @@ pub record IsGiven (old : Endings) (name : Option (List ℕ)) (reply : Reply) (n
 abbrev pub with_finding : ℕ → Finding → (ℕ → Option Finding) → ℕ → Option Finding
 with_finding line finding found n = if (line == n) && is_something finding then Some finding else found n
 
--- one of these runs, each a first number and how many numbers it has, has the number
-abbrev pub is_in : ℕ → List (ℕ × ℕ) → Bool
-is_in d runs = list_any (λ r. among r.0 r.1 d) runs
-
 -- ---- all statements up to one
-
--- a statement with its line
-abbrev pub line_act : TrailEntry Statement → ℕ × Act
-line_act e = (e.line, act_in e.seen)
 
 -- the first n statements, the newest first
 abbrev pub first_acts : List (TrailEntry Statement) → ℕ → List (ℕ × Act)
 first_acts entries n = reverse (acts_in (take n entries))
 
--- The bench is that after these statements, the newest first, and what is known is that of its storage: which line took
--- each taken doubleword, the words of names, and what ended what was there.
-pub record Knows (settings : Settings) (xs : List (ℕ × Act)) (b : Bench) (known : Known) : Type 0 where
-  pub present : (bench_of b).present ≡ machine_after settings xs
-  pub under : settings_in b ≡ settings
-  pub lines :
-      (d : ℕ) → (machine_after settings xs).storage.taken d ≡ true → line_in known.lines d ≡ taken_since settings xs d
+-- These statements, the newest first, were carried out, and what is known of them: the words of names, what ended what
+-- was there, and which line stored a byte.
+pub record Knows (settings : Settings) (xs : List (ℕ × Act)) (c : Carried) (known : Known) : Type 0 where
+  pub carried : IsCarried settings xs c
   pub words : (name : List ℕ) → word_kept known.endings name ≡ word_of (machine_after settings xs).names name
   pub endings : (name : List ℕ) → ending_kept known.endings name ≡ ended_by settings xs name
+  pub stored : (byte : ℕ) → byte < 2 ^ 32 → number_in known.stored byte ≡ stored_since settings xs byte
 
 -- What a statement can do is known, and what is found of it, except that a part isn't released if it isn't answered 0.
 pub record IsJudged (settings : Settings) (older : List (ℕ × Act)) (x : Act) (j : Judged) : Type 0 where
-  pub served : IsServed (machine_after settings older) x j.can_end j.is_get
+  pub served : IsServed (machine_after settings older) x j.can_end j.stores
   pub found :
       (reply : Reply) → reply_to settings older x ≡ Some reply →
       finding_at settings older x ≡ record j.finding { part = part_kept reply j.finding.part }
 
 -- From what is known of the statements before it, a statement is judged,
-abbrev pub Judges : Bench → Known → Act → Judged → Type 0
-Judges b known x j =
-    (settings : Settings) (older : List (ℕ × Act)) → Knows settings older b known → IsJudged settings older x j
+abbrev pub Judges : Carried → Known → Act → Judged → Type 0
+Judges c known x j =
+    (settings : Settings) (older : List (ℕ × Act)) → Knows settings older c known → IsJudged settings older x j
 
 -- or carried out, which the reply answers,
-abbrev pub CarriesOut : Bench → Known → TrailEntry Statement → CanEnd → Bool → Reply → Bench → Known → Type 0
-CarriesOut b known e ends gets reply c after =
-    (settings : Settings) (older : List (ℕ × Act)) → Knows settings older b known →
-    IsServed (machine_after settings older) (act_in e.seen) ends gets →
-    Knows settings (line_act e ∷ older) c after × (reply_to settings older (act_in e.seen) ≡ Some reply)
+abbrev pub CarriesOn : Carried → Known → TrailEntry Statement → CanEnd → Option (ℕ × ℕ) → Reply → Carried → Known
+    → Type 0
+CarriesOn c known e ends bytes reply after knew =
+    (settings : Settings) (older : List (ℕ × Act)) → Knows settings older c known →
+    IsServed (machine_after settings older) (act_in e.seen) ends bytes →
+    Knows settings (line_act e ∷ older) after knew × (reply_to settings older (act_in e.seen) ≡ Some reply)
 
 -- or both.
-abbrev pub JudgesNext : Bench → Known → TrailEntry Statement → Finding → Bench → Known → Type 0
-JudgesNext b known e f c after =
-    (settings : Settings) (older : List (ℕ × Act)) → Knows settings older b known →
-    Knows settings (line_act e ∷ older) c after × (finding_at settings older (act_in e.seen) ≡ f)
+abbrev pub JudgesNext : Carried → Known → TrailEntry Statement → Finding → Carried → Known → Type 0
+JudgesNext c known e f after knew =
+    (settings : Settings) (older : List (ℕ × Act)) → Knows settings older c known →
+    Knows settings (line_act e ∷ older) after knew × (finding_at settings older (act_in e.seen) ≡ f)
 
 -- Each of these statements was judged.
 pub record IsReplayed (settings : Settings) (xs : List (ℕ × Act)) (r : Replay) : Type 0 where
-  pub knows : Knows settings xs r.bench r.known
+  pub knows : Knows settings xs r.carried r.known
   pub found : (line : ℕ) → on_table r.found.statements line ≡ on_line (judged settings xs) line
 
 -- The statement after those of a replay is judged and carried out,
@@ -186,7 +172,7 @@ ReplaysAll entries readings r s =
 
 -- Nothing is known or found yet.
 pub record IsNothingFound (r : Replay) : Type 0 where
-  pub lines : (d : ℕ) → line_in r.known.lines d ≡ None
+  pub stored : (byte : ℕ) → number_in r.known.stored byte ≡ None
   pub endings : (name : List ℕ) → ending_kept r.known.endings name ≡ None
   pub words : (name : List ℕ) → word_kept r.known.endings name ≡ None
   pub statements : (line : ℕ) → on_table r.found.statements line ≡ None

@@ -3,11 +3,11 @@ ghost use Rattle.std.specs.Prelude.{◌≡◌, ◌+◌, ◌^◌, ◌<◌, ◌≤
 ghost use Rattle.storage_core.specs.Meaning.{state_of};
 ghost use Rattle.explain_findings.specs.Accesses.{first_outside, outside_at, words_of};
 ghost use Rattle.explain_findings.specs.Homes.{home_at};
-ghost use Rattle.explain_findings.specs.LineMaps.{line_in};
+ghost use Rattle.explain_areas.specs.NumberMaps.{number_in};
 
 use crate::findings::Outside;
 use crate::homes::{Home, home_at};
-use crate::line_map::LineMap;
+use explain_areas::NumberMap;
 use storage_core::{Storage, Subpool};
 
 /// How many fullwords have one of these bytes.
@@ -20,7 +20,7 @@ fn words_of(address: u32, count: u32) -> u32
 /// The first of a number of fullwords that isn't in this area or cell, and where it is.
 fn first_outside(
     storage: &Storage,
-    lines: &LineMap,
+    lines: &NumberMap,
     first: &Home,
     count: u32,
     word: u32,
@@ -29,8 +29,8 @@ fn first_outside(
     requires within { word < 2 ^ 30 }
     requires end { word + count < 2 ^ 32 }
     ensures first { option_map (λ r. r.0) result
-        ≡ first_outside (home_at (state_of storage.now) (line_in lines.now)) first.now count word }
-    ensures home { IfSome result (λ r. r.1 ≡ home_at (state_of storage.now) (line_in lines.now) r.0) }
+        ≡ first_outside (home_at (state_of storage.now) (number_in lines.now)) first.now count word }
+    ensures home { IfSome result (λ r. r.1 ≡ home_at (state_of storage.now) (number_in lines.now) r.0) }
     ensures within { IfSome result (λ r. r.0 < 2 ^ 30) }
 {
     for at in word..word + count {
@@ -46,12 +46,12 @@ fn first_outside(
 /// guessed subpool is asked for pages first.
 pub(crate) fn outside_at(
     storage: &Storage,
-    lines: &LineMap,
+    lines: &NumberMap,
     address: u32,
     count: u32,
     guess: Option<Subpool>,
 ) -> Option<Outside>
-    ensures { result ≡ outside_at (home_at (state_of storage.now) (line_in lines.now)) address count }
+    ensures { result ≡ outside_at (home_at (state_of storage.now) (number_in lines.now)) address count }
 {
     let word = address / 4;
     let first = home_at(storage, lines, word, guess);

@@ -4,9 +4,9 @@ ghost use Rattle.vsm_model.specs.Areas.{is_free};
 ghost use Rattle.storage_core.specs.Meaning.{state_of};
 ghost use Rattle.explain_who.specs.Taken.{cell_at, taken_by};
 ghost use Rattle.explain_findings.specs.Homes.{home_at, home_by, home_on, same_home};
-ghost use Rattle.explain_findings.specs.LineMaps.{line_in};
+ghost use Rattle.explain_areas.specs.NumberMaps.{number_in};
 
-use crate::line_map::LineMap;
+use explain_areas::NumberMap;
 use explain_who::{PoolName, Taken, cell_at, subpool_at, taken_by};
 use storage_core::{Storage, Subpool};
 
@@ -61,8 +61,8 @@ impl Home {
 }
 
 /// Where an address is that is taken in a subpool.
-fn taken_home(storage: &Storage, lines: &LineMap, subpool: Subpool, address: u32) -> Home
-    ensures { result ≡ home_by subpool (line_in lines.now (address / 8))
+fn taken_home(storage: &Storage, lines: &NumberMap, subpool: Subpool, address: u32) -> Home
+    ensures { result ≡ home_by subpool (number_in lines.now (address / 8))
         (cell_at address (state_of storage.now).cell_pools)
         (taken_by subpool address (state_of storage.now).cell_pools) }
 {
@@ -71,7 +71,7 @@ fn taken_home(storage: &Storage, lines: &LineMap, subpool: Subpool, address: u32
         Taken::Free => Home::Free(subpool),
         Taken::Obtained(subpool) => Home::Area {
             subpool,
-            line: lines.line(address / 8).unwrap_or(0),
+            line: lines.number(address / 8).unwrap_or(0),
         },
         Taken::UsedCell(pool) => Home::Cell {
             pool,
@@ -90,9 +90,9 @@ fn is_free(storage: &Storage, subpool: Subpool, doubleword: u32) -> bool
 }
 
 /// Where a fullword is whose page belongs to this subpool.
-fn home_on(storage: &Storage, lines: &LineMap, word: u32, subpool: Option<Subpool>) -> Home
+fn home_on(storage: &Storage, lines: &NumberMap, word: u32, subpool: Option<Subpool>) -> Home
     requires { word < 2 ^ 30 }
-    ensures { result ≡ home_on (state_of storage.now) (line_in lines.now) word subpool }
+    ensures { result ≡ home_on (state_of storage.now) (number_in lines.now) word subpool }
 {
     match subpool {
         None => Home::Unassigned,
@@ -107,8 +107,13 @@ fn home_on(storage: &Storage, lines: &LineMap, word: u32, subpool: Option<Subpoo
 }
 
 /// Where a fullword is. The guessed subpool is asked for its page first.
-pub(crate) fn home_at(storage: &Storage, lines: &LineMap, word: u32, guess: Option<Subpool>) -> Home
-    ensures { result ≡ home_at (state_of storage.now) (line_in lines.now) word }
+pub(crate) fn home_at(
+    storage: &Storage,
+    lines: &NumberMap,
+    word: u32,
+    guess: Option<Subpool>,
+) -> Home
+    ensures { result ≡ home_at (state_of storage.now) (number_in lines.now) word }
 {
     if word >= WORDS {
         return Home::Unassigned;

@@ -1,23 +1,23 @@
 //! What is found of one statement or PEEK.
-ghost use Rattle.std.specs.Prelude.{◌≡◌, Some, option_map};
+ghost use Rattle.std.specs.Prelude.{◌≡◌, ◌/◌, Some, option_map};
 ghost use Rattle.macro_statements.specs.Requests.{IsValidAct, IsValue, act, act_in, written_in};
 ghost use Rattle.bench_core.specs.Machine.{service_asked};
 ghost use Rattle.bench_core.specs.Stands.{bench_of};
-ghost use Rattle.storage_core.specs.Meaning.{state_of};
 ghost use Rattle.vsm_model.specs.Meaning.{service_in};
+ghost use Rattle.explain_areas.specs.NumberMaps.{number_in};
 ghost use Rattle.explain_findings.specs.Endings.{name_used};
 ghost use Rattle.explain_findings.specs.Homes.{home_at};
 ghost use Rattle.explain_findings.specs.Judged.{HasFewBytes, finding_by, name_of, outside_by, part_by, read_by};
-ghost use Rattle.explain_findings.specs.Judged.{reading_by, stale_by};
-ghost use Rattle.explain_findings.specs.LineMaps.{line_in};
+ghost use Rattle.explain_findings.specs.Judged.{reading_by, stale_by, unset_by};
 ghost use Rattle.explain_findings.specs.NameEndings.{ending_kept};
+ghost use Rattle.explain_areas.specs.Carried.{state_in};
 
 use crate::accesses::outside_at;
 use crate::endings::Endings;
-use crate::findings::{Finding, Outside, Part};
-use crate::line_map::LineMap;
+use crate::findings::{Finding, Outside, Part, Unset};
 use crate::parts::{doublewords, part_at};
-use crate::standing::Reading;
+use crate::stores::unset_at;
+use explain_areas::{Carried, NumberMap, Reading};
 use explain_who::subpool_at;
 use macro_reader::{Statement, Value};
 use operand_texts::Name;
@@ -25,12 +25,13 @@ use script_steps::Bench;
 use storage_core::{Storage, Subpool};
 use vsm_model::Service;
 
-/// What is known of the storage in addition to its state: which line took what, and what ended the areas and cells of
-/// names.
+/// What is known in addition to what the statements took: what ended the areas and cells of names, and what stored
+/// bytes.
 #[derive(Drop)]
 pub(crate) struct Known {
-    pub lines: LineMap,
     pub endings: Endings,
+    /// The line that stored each byte last.
+    pub stored: NumberMap,
     /// The subpool of the last address: a guess for the next one.
     pub guess: Option<Subpool>,
 }
@@ -100,16 +101,27 @@ fn stored_at(service: &Service<'_>) -> Option<u32> {
     }
 }
 
-/// What a service stores outside of the area or the cell of its first byte.
-fn stored_outside(storage: &Storage, known: &Known, service: &Service<'_>) -> Option<Outside>
+/// What a service stores outside of the area or the cell of its first byte. The guessed subpool is asked for pages
+/// first.
+fn stored_outside(
+    carried: &Carried,
+    service: &Service<'_>,
+    guess: Option<Subpool>,
+) -> Option<Outside>
     requires { HasFewBytes (service_in service.now) }
-    ensures { result ≡ outside_by (home_at (state_of storage.now) (line_in known.now.lines)) (line_in known.now.lines)
-        (ending_kept known.now.endings) (Some (service_in service.now)) }
+    ensures { result ≡ outside_by (home_at (state_in carried.now) (number_in carried.now.lines))
+        (Some (service_in service.now)) }
 {
     match service {
         Service::Store { address, bytes } => {
             let count = bytes.len() as u32;
-            outside_at(storage, &known.lines, *address, count, known.guess)
+            outside_at(
+                carried.bench.storage(),
+                &carried.lines,
+                *address,
+                count,
+                guess,
+            )
         }
         Service::Obtain(_)
         | Service::Release(_)
@@ -125,22 +137,16 @@ fn stored_outside(storage: &Storage, known: &Known, service: &Service<'_>) -> Op
     }
 }
 
-/// Whether a service releases a part of an area, or more than one.
-fn released_part(storage: &Storage, known: &Known, service: &Service<'_>) -> Option<Part>
-    ensures { result ≡ part_by (home_at (state_of storage.now) (line_in known.now.lines)) (line_in known.now.lines)
-        (ending_kept known.now.endings) (Some (service_in service.now)) }
+/// Whether a service releases a part of an area, or more than one. The guessed subpool is asked for pages first.
+fn released_part(carried: &Carried, service: &Service<'_>, guess: Option<Subpool>) -> Option<Part>
+    ensures { result ≡ part_by (home_at (state_in carried.now) (number_in carried.now.lines))
+        (number_in carried.now.lines) (Some (service_in service.now)) }
 {
     match service {
         Service::Release(release) => {
-            let length = release.length;
-            let count = doublewords(length);
-            part_at(
-                storage,
-                &known.lines,
-                release.address / 8,
-                count,
-                known.guess,
-            )
+            let first = release.address / 8;
+            let count = doublewords(release.length);
+            part_at(carried.bench.storage(), &carried.lines, first, count, guess)
         }
         Service::Obtain(_)
         | Service::Whole { .. }
@@ -156,74 +162,83 @@ fn released_part(storage: &Storage, known: &Known, service: &Service<'_>) -> Opt
     }
 }
 
-/// What is found of a statement before it's carried out on this bench, where it asks for this service.
+/// What is found of a statement before it's carried out, where it asks for this service.
 pub(crate) fn finding_at(
-    bench: &Bench,
+    carried: &Carried,
     known: &mut Known,
     statement: &Statement,
     service: &Service<'_>,
 ) -> Finding
     requires valid { IsValidAct (act_in statement.now) }
-    requires asked { service_asked (bench_of bench.now).present (act_in statement.now)
+    requires asked { service_asked (bench_of carried.now.bench).present (act_in statement.now)
         ≡ Some (service_in service.now) }
-    ensures found { result ≡ finding_by (home_at (bench_of bench.now).present.storage (line_in known.old.lines))
-        (line_in known.old.lines) (ending_kept known.old.endings) (Some (service_in service.now)) (act_in statement.now) }
-    ensures lines { known.new.lines ≡ known.old.lines }
+    ensures found { result ≡ finding_by (home_at (state_in carried.now) (number_in carried.now.lines))
+        (number_in carried.now.lines) (ending_kept known.old.endings) (Some (service_in service.now))
+        (act_in statement.now) }
     ensures endings { known.new.endings ≡ known.old.endings }
+    ensures stored { known.new.stored ≡ known.old.stored }
 {
-    let storage = bench.storage();
+    let storage = carried.bench.storage();
     known.guess = next_guess(storage, stored_at(service), known.guess);
-    let outside = stored_outside(storage, known, service);
-    let stale = stale(&known.endings, name_used(statement));
-    let part = released_part(storage, known, service);
     Finding {
-        outside,
-        stale,
-        part,
+        outside: stored_outside(carried, service, known.guess),
+        stale: stale(&known.endings, name_used(statement)),
+        part: released_part(carried, service, known.guess),
+        unset: None,
     }
 }
 
 /// Which of this many bytes at an address that is read is outside of the area or the cell of the first one.
 fn read_outside(
-    storage: &Storage,
-    known: &Known,
+    carried: &Carried,
     address: Option<u32>,
     count: u16,
+    guess: Option<Subpool>,
 ) -> Option<Outside>
-    ensures { result ≡ read_by (home_at (state_of storage.now) (line_in known.now.lines)) (line_in known.now.lines)
-        (ending_kept known.now.endings) address count }
+    ensures { result ≡ read_by (home_at (state_in carried.now) (number_in carried.now.lines)) address count }
 {
     match address {
         Some(address) => {
+            let count = u32::from(count);
             outside_at(
-                storage,
-                &known.lines,
+                carried.bench.storage(),
+                &carried.lines,
                 address,
-                u32::from(count),
-                known.guess,
+                count,
+                guess,
             )
         }
         None => None,
     }
 }
 
-/// What is found of a PEEK on this bench.
-pub(crate) fn reading_finding(bench: &Bench, known: &mut Known, reading: &Reading) -> Finding
-    requires { IsValue (written_in reading.now.address) }
-    ensures found { result ≡ reading_by (home_at (bench_of bench.now).present.storage (line_in known.old.lines))
-        (line_in known.old.lines) (ending_kept known.old.endings) (bench_of bench.now).present
-        (written_in reading.now.address) reading.now.count }
-    ensures lines { known.new.lines ≡ known.old.lines }
-    ensures endings { known.new.endings ≡ known.old.endings }
+/// Which of this many bytes at an address that is read is unset.
+fn read_unset(carried: &Carried, known: &Known, address: Option<u32>, count: u16) -> Option<Unset>
+    ensures { result ≡ unset_by (home_at (state_in carried.now) (number_in carried.now.lines))
+        (λ cell. number_in carried.now.cells (cell / 4)) (number_in known.now.stored) address count }
 {
-    let storage = bench.storage();
-    let address = bench.word(&reading.address);
+    match address {
+        Some(address) => unset_at(carried, &known.stored, address, count, known.guess),
+        None => None,
+    }
+}
+
+/// What is found of a PEEK.
+pub(crate) fn reading_finding(carried: &Carried, known: &mut Known, reading: &Reading) -> Finding
+    requires { IsValue (written_in reading.now.address) }
+    ensures found { result ≡ reading_by (home_at (state_in carried.now) (number_in carried.now.lines))
+        (λ cell. number_in carried.now.cells (cell / 4)) (number_in known.old.stored) (ending_kept known.old.endings)
+        (bench_of carried.now.bench).present (written_in reading.now.address) reading.now.count }
+    ensures endings { known.new.endings ≡ known.old.endings }
+    ensures stored { known.new.stored ≡ known.old.stored }
+{
+    let storage = carried.bench.storage();
+    let address = carried.bench.word(&reading.address);
     known.guess = next_guess(storage, address, known.guess);
-    let outside = read_outside(storage, known, address, reading.count);
-    let stale = stale(&known.endings, name_in(&reading.address));
     Finding {
-        outside,
-        stale,
+        outside: read_outside(carried, address, reading.count, known.guess),
+        stale: stale(&known.endings, name_in(&reading.address)),
         part: None,
+        unset: read_unset(carried, known, address, reading.count),
     }
 }

@@ -1,48 +1,47 @@
-//! The statements in effect are carried out once more, on a bench of their own, and judged one by one.
-ghost use Rattle.std.specs.Prelude.{◌≡◌, ◌≤◌, ◌^◌, ◌<◌, ℕ, Some, IfOk, IfSome, OnOk, if◌then◌else◌, length, option_map};
+//! The statements in effect are carried out once more, and judged one by one.
+ghost use Rattle.std.specs.Prelude.{◌≡◌, ◌≤◌, ◌^◌, ◌<◌, ℕ, [], Ok, Some, IfOk, IfSome, OnOk, if◌then◌else◌, length};
+ghost use Rattle.std.specs.Prelude.{option_map};
 ghost use Rattle.macro_statements.specs.Requests.{IsValidAct, act_in, target_in};
-ghost use Rattle.bench_core.specs.Machine.{name_asked, name_in, statement_step};
-ghost use Rattle.bench_core.specs.Stands.{bench_of, settings_in};
+ghost use Rattle.bench_core.specs.Machine.{name_asked, name_in};
+ghost use Rattle.bench_core.specs.Stands.{IsNew};
 ghost use Rattle.vsm_model.specs.Meaning.{service_in};
-ghost use Rattle.vsm_model.specs.Standing.{Accepted};
-ghost use Rattle.explain_areas.specs.Followed.{taken_in};
+ghost use Rattle.vsm_model.specs.declared.limits.Settings.{Settings as SettingsIn};
+ghost use Rattle.explain_areas.specs.Carried.{IsCarried};
+ghost use Rattle.explain_areas.specs.NumberMaps.{number_in};
 ghost use Rattle.explain_findings.specs.Found.{AreFound};
-ghost use Rattle.explain_findings.specs.LineMaps.{line_in};
-ghost use Rattle.explain_findings.specs.Replays.{CarriesOut, FindsIn, FollowsSome, GoesOn, GoesTo, IsGiven};
+ghost use Rattle.explain_findings.specs.Judged.{HasFewBytes};
+ghost use Rattle.explain_findings.specs.Replays.{CarriesOn, FindsIn, FollowsSome, GoesOn, GoesTo, IsGiven, IsStoredBy};
 ghost use Rattle.explain_findings.specs.Replays.{IsNothingFound, Judges, JudgesNext, Reads, ReplaysAll, Rises, depths};
-ghost use Rattle.explain_findings.specs.Replays.{is_get, is_in, part_kept, with_finding, word_given};
+ghost use Rattle.explain_findings.specs.Replays.{is_among, part_kept, with_finding, word_given};
 ghost use Rattle.explain_findings.specs.Tables.{on_table};
 
 use crate::endings::{CanEnd, Endings};
 use crate::findings::{Finding, Findings, Part};
 use crate::judging::{Known, finding_at, reading_finding};
-use crate::line_map::LineMap;
-use crate::standing::{Followed, Reading, follow};
+use crate::left::left_after;
 use crate::tables::LineTable;
-use explain_areas::laws::taken_by_the_reply;
-use explain_areas::taken_by;
+use explain_areas::{Carried, Followed, NumberMap, Reading, follow};
 use explain_who::{TrailEntry, WhoFault};
 use macro_reader::Statement;
 use operand_texts::{Name, Place};
 use script_steps::{Bench, Watch};
 use std::alloc::{AllocError, Global};
-use storage_map::totals;
 use vsm_model::{Reply, Service, Settings};
 
-/// The bench of the statements up to one, what is known of its storage, and what was found.
+/// The statements up to one carried out, what is known of them, and what was found.
 #[derive(Drop)]
 struct Replay {
-    bench: Bench,
+    carried: Carried,
     known: Known,
     found: Findings,
 }
 
-/// What is found of a statement on the state before it, and what it can do.
+/// What is found of a statement on the state before it, what it can end, and which bytes it stores.
 #[derive(Drop)]
 struct Judged {
     finding: Finding,
     can_end: CanEnd,
-    is_get: bool,
+    stores: Option<(u32, u32)>,
 }
 
 /// Keeps what is found on a line, if something is.
@@ -54,22 +53,6 @@ fn note(table: &mut LineTable, line: u32, finding: Finding) -> Result<(), AllocE
     } else {
         Ok(())
     }
-}
-
-/// The line took these runs of doublewords.
-fn take_runs(
-    lines: &mut LineMap,
-    alloc: Global,
-    runs: &[(u32, u32)],
-    line: u32,
-) -> Result<(), AllocError>
-    ensures { OnOk result ((d : ℕ) → d < 2 ^ 32 → line_in lines.new d
-        ≡ (if is_in d runs.now then Some line else line_in lines.old d)) }
-{
-    for run in runs {
-        lines.take(alloc, run.0, run.1, line)?;
-    }
-    Ok(())
 }
 
 /// The name of a place, if it's one.
@@ -127,12 +110,13 @@ fn give(endings: &mut Endings, statement: &Statement, reply: Reply) -> Result<()
     endings.give(name, word)
 }
 
-/// Whether a service gets a cell.
-fn is_get(service: &Service<'_>) -> bool
-    ensures { result ≡ is_get (service_in service.now) }
+/// The bytes that a service stores: where the first is, and how many there are.
+fn stored_by(service: &Service<'_>) -> Option<(u32, u32)>
+    requires { HasFewBytes (service_in service.now) }
+    ensures { IsStoredBy (service_in service.now) result }
 {
     match service {
-        Service::Get { .. } => true,
+        Service::Store { address, bytes } => Some((*address, bytes.len() as u32)),
         Service::Obtain(_)
         | Service::Release(_)
         | Service::Whole { .. }
@@ -140,77 +124,66 @@ fn is_get(service: &Service<'_>) -> bool
         | Service::Detach { .. }
         | Service::EndTask
         | Service::Run { .. }
-        | Service::Store { .. }
         | Service::Build { .. }
+        | Service::Get { .. }
         | Service::Free { .. }
-        | Service::Delete { .. } => false,
+        | Service::Delete { .. } => None,
     }
 }
 
-/// The bytes that are taken, if they are asked for.
-fn taken_bytes(bench: &Bench, asked: bool) -> u64
-    ensures { result ≡ (if asked then taken_in bench.now else 0) }
+/// The line stored these bytes, if any.
+fn note_stored(
+    stored: &mut NumberMap,
+    alloc: Global,
+    bytes: Option<(u32, u32)>,
+    line: u32,
+) -> Result<(), AllocError>
+    ensures { OnOk result ((byte : ℕ) → byte < 2 ^ 32 → number_in stored.new byte
+        ≡ (if is_among bytes byte then Some line else number_in stored.old byte)) }
 {
-    if asked {
-        totals(bench.storage()).taken
-    } else {
-        0
+    match bytes {
+        Some((first, count)) => stored.take(alloc, first, count, line),
+        None => Ok(()),
     }
 }
 
-/// Carries out a statement that was accepted before. `AllocError` if it's refused now.
-fn apply(bench: &mut Bench, statement: &Statement) -> Result<Reply, AllocError>
-    requires { IsValidAct (act_in statement.now) }
-    ensures accepted { IfOk result (λ reply. statement_step (settings_in bench.old) (bench_of bench.old).present
-        (act_in statement.now) ≡ Accepted (bench_of bench.new).present reply) }
-    ensures settings { settings_in bench.new ≡ settings_in bench.old }
-{
-    match bench.apply(statement) {
-        Ok(reply) => Ok(reply),
-        Err(_) => Err(AllocError),
-    }
-}
-
-/// Carries out a statement, and notes what it took and ended.
+/// Carries out a statement, and notes what it took, ended and stored.
 fn carry_out(
     alloc: Global,
-    bench: &mut Bench,
+    carried: &mut Carried,
     known: &mut Known,
     entry: &TrailEntry<Statement>,
     can_end: CanEnd,
-    is_get: bool,
+    stores: Option<(u32, u32)>,
 ) -> Result<Reply, AllocError>
     requires { IsValidAct (act_in entry.now.seen) }
-    ensures { IfOk result (λ reply. CarriesOut bench.old known.old entry.now can_end is_get reply bench.new known.new) }
+    ensures { IfOk result (λ reply. CarriesOn carried.old known.old entry.now can_end stores reply carried.new
+        known.new) }
 {
-    taken_by_the_reply();
-    let before = taken_bytes(bench, is_get);
-    let reply = apply(bench, &entry.seen)?;
-    let after = taken_bytes(bench, is_get);
-    let runs = taken_by(reply, before, after);
-    take_runs(&mut known.lines, alloc, runs.as_slice(), entry.line)?;
+    let reply = carried.carry_out(alloc, entry)?;
+    note_stored(&mut known.stored, alloc, stores, entry.line)?;
     let guess = known.guess;
     known
         .endings
-        .end(bench.storage(), can_end, entry.line, guess);
+        .end(carried.bench.storage(), can_end, entry.line, guess);
     give(&mut known.endings, &entry.seen, reply)?;
     Ok(reply)
 }
 
 /// What is found of a statement before it's carried out, and what it can do. `None` if it asks for no service.
-fn judge_before(bench: &Bench, known: &mut Known, statement: &Statement) -> Option<Judged>
+fn judge_before(carried: &Carried, known: &mut Known, statement: &Statement) -> Option<Judged>
     requires { IsValidAct (act_in statement.now) }
-    ensures judges { IfSome result (Judges bench.now known.old (act_in statement.now)) }
-    ensures lines { known.new.lines ≡ known.old.lines }
+    ensures judges { IfSome result (Judges carried.now known.old (act_in statement.now)) }
     ensures endings { known.new.endings ≡ known.old.endings }
+    ensures stored { known.new.stored ≡ known.old.stored }
 {
     let mut room = [0; 4];
-    let service = bench.service_of(statement, &mut room)?;
-    let finding = finding_at(bench, known, statement, &service);
+    let service = carried.bench.service_of(statement, &mut room)?;
+    let finding = finding_at(carried, known, statement, &service);
     Some(Judged {
         finding,
         can_end: CanEnd::of(&service),
-        is_get: is_get(&service),
+        stores: stored_by(&service),
     })
 }
 
@@ -232,19 +205,19 @@ fn part_kept(reply: Reply, part: Option<Part>) -> Option<Part>
 /// Judges a statement on the state before it, and carries it out.
 fn judge(
     alloc: Global,
-    bench: &mut Bench,
+    carried: &mut Carried,
     known: &mut Known,
     entry: &TrailEntry<Statement>,
 ) -> Result<Finding, AllocError>
-    ensures { IfOk result (λ f. JudgesNext bench.old known.old entry.now f bench.new known.new) }
+    ensures { IfOk result (λ f. JudgesNext carried.old known.old entry.now f carried.new known.new) }
 {
     if !entry.seen.valid() {
         return Err(AllocError);
     }
-    let Some(judged) = judge_before(bench, known, &entry.seen) else {
+    let Some(judged) = judge_before(carried, known, &entry.seen) else {
         return Err(AllocError);
     };
-    let reply = carry_out(alloc, bench, known, entry, judged.can_end, judged.is_get)?;
+    let reply = carry_out(alloc, carried, known, entry, judged.can_end, judged.stores)?;
     let mut finding = judged.finding;
     finding.part = part_kept(reply, finding.part);
     Ok(finding)
@@ -259,7 +232,7 @@ fn judge_next(
     ensures goes_on { OnOk result (GoesOn entry.now replay.old replay.new) }
     ensures readings { OnOk result (replay.new.found.readings ≡ replay.old.found.readings) }
 {
-    let finding = judge(alloc, &mut replay.bench, &mut replay.known, entry)?;
+    let finding = judge(alloc, &mut replay.carried, &mut replay.known, entry)?;
     note(&mut replay.found.statements, entry.line, finding)
 }
 
@@ -289,7 +262,7 @@ fn judge_reading(replay: &mut Replay, reading: &Reading) -> Result<(), AllocErro
     if !reading.address.valid() {
         return Err(AllocError);
     }
-    let finding = reading_finding(&replay.bench, &mut replay.known, reading);
+    let finding = reading_finding(&replay.carried, &mut replay.known, reading);
     note(&mut replay.found.readings, reading.line, finding)
 }
 
@@ -314,20 +287,17 @@ fn judge_all(
 
 /// Nothing is judged yet, on a new bench. Takes no memory.
 fn start(alloc: Global, bench: Bench) -> Replay
-    ensures bench { result.bench ≡ bench }
+    ensures carried { (settings : SettingsIn) → IsNew settings (Ok bench) → IsCarried settings [] result.carried }
     ensures nothing { IsNothingFound result }
 {
     Replay {
-        bench,
+        carried: Carried::new(alloc, bench),
         known: Known {
-            lines: LineMap::new(alloc),
             endings: Endings::new(alloc),
+            stored: NumberMap::new(alloc),
             guess: None,
         },
-        found: Findings {
-            statements: LineTable::new(alloc),
-            readings: LineTable::new(alloc),
-        },
+        found: Findings::nothing(alloc),
     }
 }
 
@@ -340,11 +310,14 @@ fn find_in(alloc: Global, followed: &Followed, bench: Bench) -> Result<Findings,
     let entries = followed.trail.standing();
     let readings = followed.readings.as_slice();
     judge_all(alloc, &mut replay, entries, readings)?;
-    Ok(replay.found)
+    let left = left_after(alloc, &replay.carried, entries)?;
+    let mut found = replay.found;
+    found.left = left;
+    Ok(found)
 }
 
 /// What is found in a script: of the statements in effect at its end, each judged on the state before it, and of the
-/// PEEKs whose states aren't undone later.
+/// PEEKs whose states aren't undone later; and what is left taken at the end.
 ///
 /// `New` if the bench can't be made, `TooLong` if a byte of the script passes a bound, `Memory` if memory runs out.
 pub fn find<P: Watch>(

@@ -121,7 +121,7 @@ fn put_lost<W: Write>(
 
 /// Puts what is wrong with a statement.
 #[tactic(auto, using(text_output::proofs::Gathering::puts_both))]
-pub fn put_fault<W: Write>(
+fn put_fault<W: Write>(
     gathered: &mut Gathered,
     writer: &mut W,
     kind: FaultKind,
@@ -138,7 +138,7 @@ pub fn put_fault<W: Write>(
 
 /// Puts a warning in these words.
 #[tactic(auto, using(text_output::proofs::Gathering::puts_both))]
-pub fn put_warning<W: Write>(gathered: &mut Gathered, writer: &mut W, words: &[u8])
+fn put_warning<W: Write>(gathered: &mut Gathered, writer: &mut W, words: &[u8])
     ensures { Puts (W.contents writer.old) (W.contents writer.new) gathered.old gathered.new
         (warning_text words.now) }
 {

@@ -47,7 +47,7 @@ fn put_proposal<W: Write>(form: Form, gathered: &mut Gathered, writer: &mut W, h
 
 /// Puts free words, and the word that is proposed, if any.
 #[tactic(auto, using(text_output::proofs::Gathering::puts_both))]
-pub(crate) fn put_hinted_words<W: Write>(
+pub fn put_hinted_words<W: Write>(
     form: Form,
     gathered: &mut Gathered,
     writer: &mut W,

@@ -3,6 +3,8 @@ use Rattle.std.specs.Prelude.{ℕ, ◌-◌, ◌*◌, ◌/◌, ◌^◌, min, Bool
 use Rattle.std.specs.Prelude.{[], ◌∷◌, ◌++◌, Option, Some, None, codes, unwrap_or}
 use Rattle.std.specs.Fmt.{decimal}
 use Rattle.vsm_model.specs.declared.Subpool.{Subpool}
+use Rattle.vsm_model.specs.declared.causes.Cause.{Cause}
+use Rattle.vsm_model.specs.declared.causes.Cause.TheVariants.{NotInSubpool, OverlapsFree}
 use Rattle.vsm_model.specs.declared.limits.Settings.{Settings}
 use Rattle.vsm_model.specs.declared.services.Release.{Release}
 use Rattle.vsm_model.specs.Regions.{doublewords}
@@ -68,3 +70,22 @@ untaken_text s r (Some p) = free_at s (first_in (is_not_taken s p) r)
 
 abbrev pub overlaps_free_text : State → Release → List ℕ
 overlaps_free_text s r = untaken_text s r (seen_subpool s r.number)
+
+-- ---- the address that decides
+
+-- of the first byte of the area that isn't in the subpool that the current task sees at the number; that of the area if
+-- it sees none
+abbrev pub outside_address : Settings → State → Release → Option Subpool → ℕ
+outside_address settings s r None = r.address
+outside_address settings s r (Some p) = address_of (first_in (is_foreign settings s p) r)
+
+-- of the first doubleword of the area that isn't taken there
+abbrev pub untaken_address : State → Release → Option Subpool → ℕ
+untaken_address s r None = r.address
+untaken_address s r (Some p) = address_of (first_in (is_not_taken s p) r)
+
+-- by the cause; none if another cause keeps the area from being released
+abbrev pub deciding_address : Settings → State → Release → Cause → Option ℕ
+deciding_address settings s r NotInSubpool = Some (outside_address settings s r (seen_subpool s r.number))
+deciding_address settings s r OverlapsFree = Some (untaken_address s r (seen_subpool s r.number))
+deciding_address settings s r _ = None

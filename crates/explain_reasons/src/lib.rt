@@ -26,3 +26,4 @@ mod tasks;
 pub use causes::put_cause;
 pub use free_bytes::put_free_bytes;
 pub use pages::put_pages;
+pub use releases::deciding_address;

@@ -3,8 +3,9 @@ ghost use Rattle.std.specs.Prelude.{◌≡◌};
 ghost use Rattle.vsm_model.specs.Releasing.{is_foreign, is_not_taken};
 ghost use Rattle.storage_core.specs.Meaning.{settings_of, state_of};
 ghost use Rattle.text_output.specs.Writing.{Puts};
-ghost use Rattle.explain_reasons.specs.Releases.{address_of, first_in, foreign_text, free_text};
-ghost use Rattle.explain_reasons.specs.Releases.{not_in_subpool_text, outside_text, overlaps_free_text, untaken_text};
+ghost use Rattle.explain_reasons.specs.Releases.{address_of, deciding_address, first_in, foreign_text, free_text};
+ghost use Rattle.explain_reasons.specs.Releases.{not_in_subpool_text, outside_address, outside_text};
+ghost use Rattle.explain_reasons.specs.Releases.{overlaps_free_text, untaken_address, untaken_text};
 
 use crate::pages::put_byte;
 use crate::searches::{area_of, first_foreign, first_not_taken};
@@ -12,7 +13,7 @@ use crate::sight_texts::put_unseen;
 use crate::sights::seen;
 use explain_text::{Piece, put_line};
 use std::io::Write;
-use storage_core::{Release, Storage, Subpool};
+use storage_core::{Cause, Release, Storage, Subpool};
 use text_output::Gathered;
 use vsm_model::geometry::PAGE_DOUBLEWORDS;
 
@@ -180,4 +181,56 @@ pub(crate) fn put_overlaps_free<W: Write>(
         (overlaps_free_text (state_of storage.now) r) }
 {
     put_untaken(gathered, writer, storage, r, seen(storage, r.number));
+}
+
+/// The address of the first byte of a release's area that isn't in a subpool; that of the area if there's no subpool.
+fn outside_address(storage: &Storage, r: Release, subpool: Option<Subpool>) -> u32
+    ensures { result ≡ outside_address (settings_of storage.now) (state_of storage.now) r subpool }
+{
+    match subpool {
+        Some(subpool) => address_of(foreign_in(storage, subpool, r)),
+        None => r.address,
+    }
+}
+
+/// The address of the first doubleword of a release's area that isn't taken in a subpool; that of the area if there's
+/// no subpool.
+fn untaken_address(storage: &Storage, r: Release, subpool: Option<Subpool>) -> u32
+    ensures { result ≡ untaken_address (state_of storage.now) r subpool }
+{
+    match subpool {
+        Some(subpool) => address_of(untaken_in(storage, subpool, r)),
+        None => r.address,
+    }
+}
+
+/// The address in the area of a release that is refused for a cause which decides: of its first byte outside the
+/// subpool that the current task sees, or of the first doubleword that isn't taken there. `None` for another cause.
+pub fn deciding_address(storage: &Storage, r: Release, cause: Cause) -> Option<u32>
+    ensures { result ≡ deciding_address (settings_of storage.now) (state_of storage.now) r cause }
+{
+    match cause {
+        Cause::NotInSubpool => Some(outside_address(storage, r, seen(storage, r.number))),
+        Cause::OverlapsFree => Some(untaken_address(storage, r, seen(storage, r.number))),
+        Cause::UnsupportedSubpool
+        | Cause::SubpoolNotAllowed
+        | Cause::BadLength
+        | Cause::TooManyNames
+        | Cause::NoStorage
+        | Cause::Misaligned
+        | Cause::OverlapsCells
+        | Cause::WholeOfZero
+        | Cause::NotOwner
+        | Cause::BadCells
+        | Cause::CellPoolExists
+        | Cause::TooManyCellPools
+        | Cause::NoCellPool
+        | Cause::NotInUse
+        | Cause::BadList
+        | Cause::TooManyTasks
+        | Cause::NoTask
+        | Cause::NotParent
+        | Cause::HasSubtask
+        | Cause::NotAssigned => None,
+    }
 }

@@ -1,5 +1,6 @@
 -- The figures of states that have the same areas are the same.
-use Rattle.std.proofs.Common.{◌≡◌, ℕ, Option, Some, None, is_some, flat_map, sym, ap, subst, ◌∙◌}
+use Rattle.std.specs.Prelude.{unwrap_or}
+use Rattle.std.proofs.Common.{◌≡◌, ℕ, is_some, flat_map, sym, ap, subst, ◌∙◌}
 use Rattle.storage_map.specs.Totals.{totals_of}
 use Rattle.storage_plans.specs.Places.{region_on}
 use Rattle.vsm_model.specs.declared.Subpool.{Subpool}
@@ -10,7 +11,7 @@ use Rattle.vsm_model.specs.Areas as plain
 use Rattle.vsm_model.specs.State.{State}
 use Rattle.explain_report.specs.Changes.{HaveSameAreas}
 use Rattle.explain_report.specs.PoolFigures.{sums_of}
-use Rattle.explain_report.specs.Figures.{IsFiguresOf, IsMomentOf, IsRowOf, IsRowSeen, all_subpools, extents_of, free_areas_of, unassigned}
+use Rattle.explain_report.specs.Figures.{IsFiguresOf, IsMomentOf, IsRowOf, all_subpools, extents_of, free_areas_of, seen_or_own, unassigned}
 use Rattle.explain_report.specs.Tallies.{tally_of, low_runs, high_runs}
 use Rattle.explain_report.specs.declared.rows.SubpoolRow.{SubpoolRow}
 use Rattle.explain_report.specs.declared.times.Figures.{Figures}
@@ -58,12 +59,8 @@ module _ (settings : Settings) (s t : State) (h : HaveSameAreas s t) where
     high_unassigned = λ count some. same_run Above count ∙ k.high_unassigned count some;
   }
 
-  seen_is : (number : ℕ) (owner : Option ℕ) (row : Option SubpoolRow) → IsRowSeen settings s number owner row → IsRowSeen settings t number owner row
-  seen_is number None row k = k
-  seen_is number (Some owner) None k = absurd k
-  seen_is number (Some owner) (Some row) k = row_is (record { number = number; owner = owner }) row k
-
   pub figures_are : (f : Figures) → IsFiguresOf settings s f → IsFiguresOf settings t f
   figures_are (figures.Whole m) k = moment_is m k
   figures_are (figures.Subpool seen row) k =
-      subst (λ owner. IsRowSeen settings t seen.1 owner row) (λ i. h.sight i seen.0 seen.1) (seen_is seen.1 (s.sight seen.0 seen.1) row k)
+      subst (λ owner. IsRowOf settings t (record { number = seen.1; owner = unwrap_or owner seen.0 }) row) (λ i. h.sight i seen.0 seen.1)
+      (row_is (seen_or_own s seen.0 seen.1) row k)

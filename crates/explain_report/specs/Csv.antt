@@ -9,8 +9,8 @@ use Rattle.explain_report.specs.declared.times.Figures.TheVariants as figures
 -- the names of the values of a subpool, and of the whole storage
 abbrev pub subpool_heading : List ℕ
 subpool_heading =
-    codes "line,low_pages,low_taken,low_free,low_areas,low_largest"
-    ++ codes ",high_pages,high_taken,high_free,high_areas,high_largest\n"
+    codes "line,low_pages,low_taken,low_free,low_areas,low_largest,low_could_get"
+    ++ codes ",high_pages,high_taken,high_free,high_areas,high_largest,high_could_get\n"
 
 abbrev pub whole_heading : List ℕ
 whole_heading =
@@ -24,15 +24,11 @@ heading_text is_subpool = if is_subpool then subpool_heading else whole_heading
 abbrev pub value_text : ℕ → List ℕ
 value_text n = codes "," ++ decimal n
 
-abbrev pub no_values : List ℕ
-no_values = 0 ∷ 0 ∷ 0 ∷ 0 ∷ 0 ∷ 0 ∷ 0 ∷ 0 ∷ 0 ∷ 0 ∷ []
-
--- The values of the whole storage, or those of a subpool on both sides of the line: zeros if the task sees none.
+-- The values of the whole storage, or those of a subpool on both sides of the line.
 abbrev pub values_text : Figures → List ℕ
 values_text (figures.Whole m) = flat_map value_text (moment_values m)
-values_text (figures.Subpool seen (Some row)) =
+values_text (figures.Subpool seen row) =
     flat_map value_text (share_values row.low) ++ flat_map value_text (share_values row.high)
-values_text (figures.Subpool seen None) = flat_map value_text no_values
 
 -- the statement that begins on a line, with the figures after it
 abbrev pub row_text : ℕ → Figures → List ℕ

@@ -1,5 +1,6 @@
 -- The figures of a state, and of a subpool in it.
-use Rattle.std.specs.Prelude.{◌≡◌, ℕ, Bool, not, ◌&&◌, if◌then◌else◌, is_some, Option, Some, None, List, map, flat_map}
+use Rattle.std.specs.Prelude.{◌≡◌, ℕ, Bool, not, ◌&&◌, if◌then◌else◌, is_some, Option, Some, None, unwrap_or, List, map}
+use Rattle.std.specs.Prelude.{flat_map}
 use Rattle.std.specs.List.{filter_map}
 use Rattle.run_set.specs.Runs.{Run}
 use Rattle.storage_map.specs.Totals.{totals_of}
@@ -35,6 +36,10 @@ unassigned_pages s r = runs (λ k. within r k && not (is_some (s.pages k))) r.fi
 abbrev pub as_run : ℕ × ℕ → Run
 as_run r = record { start = r.0; len = r.1 }
 
+-- the subpool that a task sees at a number, or a new one of its own
+abbrev pub seen_or_own : State → ℕ → ℕ → Subpool
+seen_or_own s task number = record { number = number; owner = unwrap_or (s.sight task number) task }
+
 module _ (settings : Settings) (s : State) where
   -- These in the region below the line, and then in that above it: a subpool's extents, in pages; its free areas, in
   -- doublewords; and unassigned pages.
@@ -67,16 +72,10 @@ module _ (settings : Settings) (s : State) where
     pub low_unassigned : IsUpTo (λ count. is_some (least_run s (region_on settings Below) count)) row.low.unassigned
     pub high_unassigned : IsUpTo (λ count. is_some (least_run s (region_on settings Above) count)) row.high.unassigned
 
-  -- The row of the subpool with this number that has this owner, by whom a task sees it; none if it sees none.
-  abbrev pub IsRowSeen : ℕ → Option ℕ → Option SubpoolRow → Type 0
-  IsRowSeen number None row = row ≡ None
-  IsRowSeen number (Some owner) None = ⊥
-  IsRowSeen number (Some owner) (Some row) = IsRowOf (record { number = number; owner = owner }) row
-
   -- The figures are those of the state.
   abbrev pub IsFiguresOf : Figures → Type 0
   IsFiguresOf (figures.Whole m) = IsMomentOf m
-  IsFiguresOf (figures.Subpool seen row) = IsRowSeen seen.1 (s.sight seen.0 seen.1) row
+  IsFiguresOf (figures.Subpool seen row) = IsRowOf (seen_or_own s seen.0 seen.1) row
 
 -- of what the figures are: of a subpool that a task sees at a number, or of the whole storage
 abbrev pub seen_in : Figures → Option (ℕ × ℕ)

@@ -24,10 +24,17 @@ could_get share = max (4096 * share.unassigned) (8 * share.largest)
 
 -- ---- a subpool on one side of the line
 
--- the pages of one side, the bytes that are taken and free in them, the free areas, and the bytes of the largest
+-- the pages of one side, the bytes that are taken and free in them, the free areas, the bytes of the largest, and the
+-- most bytes that can be had at once
 abbrev pub share_values : Share → List ℕ
 share_values share =
-    share.pages ∷ taken_of share ∷ 8 * share.free.total ∷ share.free.count ∷ 8 * share.largest ∷ []
+    share.pages
+    ∷ taken_of share
+    ∷ 8 * share.free.total
+    ∷ share.free.count
+    ∷ 8 * share.largest
+    ∷ could_get share
+    ∷ []
 
 -- ---- the whole storage
 

@@ -17,11 +17,11 @@ fn put_subpool_heading<W: Write>(gathered: &mut Gathered, writer: &mut W)
 {
     gathered.put(
         writer,
-        b"line,low_pages,low_taken,low_free,low_areas,low_largest",
+        b"line,low_pages,low_taken,low_free,low_areas,low_largest,low_could_get",
     );
     gathered.put(
         writer,
-        b",high_pages,high_taken,high_free,high_areas,high_largest\n",
+        b",high_pages,high_taken,high_free,high_areas,high_largest,high_could_get\n",
     );
 }
 
@@ -95,15 +95,14 @@ fn put_shares<W: Write>(gathered: &mut Gathered, writer: &mut W, row: &SubpoolRo
     put_share(gathered, writer, &row.high);
 }
 
-/// Puts the values of figures: zeros if they are of a subpool that the task doesn't see.
+/// Puts the values of figures.
 fn put_values<W: Write>(gathered: &mut Gathered, writer: &mut W, figures: &Figures)
     ensures { Puts (W.contents writer.old) (W.contents writer.new) gathered.old gathered.new
         (values_text figures.now) }
 {
     match figures {
         Figures::Whole(moment) => put_moment(gathered, writer, moment),
-        Figures::Subpool(_, Some(row)) => put_shares(gathered, writer, row),
-        Figures::Subpool(_, None) => put_numbers(gathered, writer, &[0; 10]),
+        Figures::Subpool(_, row) => put_shares(gathered, writer, row),
     }
 }
 

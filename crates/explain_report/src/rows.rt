@@ -4,7 +4,7 @@ ghost use Rattle.vsm_model.specs.declared.limits.Residence.TheVariants.{Below, A
 ghost use Rattle.vsm_model.specs.Areas.{least_fit, least_run};
 ghost use Rattle.storage_plans.specs.Places.{IsUpTo, region_on};
 ghost use Rattle.storage_core.specs.Meaning.{state_of, settings_of};
-ghost use Rattle.explain_report.specs.Figures.{IsRowSeen, extents_of, free_areas_of};
+ghost use Rattle.explain_report.specs.Figures.{IsRowOf, extents_of, free_areas_of, seen_or_own};
 ghost use Rattle.explain_report.specs.Tallies.{tally_of, low_runs, high_runs};
 
 use crate::tallies::Tally;
@@ -73,13 +73,11 @@ pub(crate) fn row_of(storage: &Storage, subpool: Subpool) -> SubpoolRow
     }
 }
 
-/// What the subpool has that a task sees at a number; `None` if it sees none.
-pub(crate) fn row_seen(storage: &Storage, task: u8, number: u8) -> Option<SubpoolRow>
-    ensures { IsRowSeen (settings_of storage.now) (state_of storage.now) number
-        ((state_of storage.now).sight task number) result }
+/// What the subpool has that a task sees at a number; if it sees none, what a new one of its own has, which is nothing.
+pub(crate) fn row_seen(storage: &Storage, task: u8, number: u8) -> SubpoolRow
+    ensures { IsRowOf (settings_of storage.now) (state_of storage.now) (seen_or_own (state_of storage.now) task number)
+        result }
 {
-    match storage.owner_seen(task, number) {
-        Some(owner) => Some(row_of(storage, Subpool { number, owner })),
-        None => None,
-    }
+    let owner = storage.owner_seen(task, number).unwrap_or(task);
+    row_of(storage, Subpool { number, owner })
 }

@@ -55,8 +55,8 @@ pub(crate) type SeenSubpool = (u8, u8);
 pub(crate) enum Figures {
     /// The sums of the whole storage.
     Whole(Moment),
-    /// What the subpool has that a task sees at a number; `None` if it sees none.
-    Subpool(SeenSubpool, Option<SubpoolRow>),
+    /// What the subpool has that a task sees at a number, or a new one of its own.
+    Subpool(SeenSubpool, SubpoolRow),
 }
 
 /// Of which subpool the figures are; `None` if they are of the whole storage.

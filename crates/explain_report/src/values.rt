@@ -51,8 +51,9 @@ pub(crate) fn taken_of(share: &Share) -> u64
     bytes_of(share.pages).saturating_sub(8 * u64::from(share.free.total))
 }
 
-/// The pages of one side, the bytes that are taken and free in them, the free areas, and the bytes of the largest.
-pub(crate) fn share_values(share: &Share) -> [u64; 5]
+/// The pages of one side, the bytes that are taken and free in them, the free areas, the bytes of the largest, and the
+/// most bytes that can be had at once.
+pub(crate) fn share_values(share: &Share) -> [u64; 6]
     ensures { result ≡ share_values share.now }
 {
     [
@@ -61,6 +62,7 @@ pub(crate) fn share_values(share: &Share) -> [u64; 5]
         8 * u64::from(share.free.total),
         u64::from(share.free.count),
         8 * u64::from(share.largest),
+        could_get(share),
     ]
 }
 

@@ -14,6 +14,7 @@ use Rattle.text_output.proofs.Gathering.{empty_holds, puts_both}
 use Rattle.explain_why.specs.Details.{IsFaultPlace, PutsDetail, WritesDetail, at_text, first_used, further_used}
 use Rattle.explain_why.specs.declared.ahead.NextStatement as ahead
 use Rattle.explain_why.specs.declared.definitions.Definition.{Definition}
+use Rattle.explain_why.specs.declared.obstacles.Bringer.{Bringer}
 
 -- some text
 abbrev pub PutsSome : Option (List ℕ) → Option (List ℕ) → Gathered → Gathered → Type 0
@@ -46,10 +47,10 @@ fault_place text places own kind first caret e marks = (
 )
 
 -- between other texts, and written
-pub detail_written : (first : ℕ) (own : List Line) (m : NamedState) (asked : ahead.NextStatement) (definition : Definition) (old now then later new : Option (List ℕ)) (a b c d : Gathered) →
-    IsEmpty a → PutsSome old now a b → PutsDetail first own m asked definition now then b c → PutsSome then later c d →
-    ((at_first : Option (List ℕ)) (text : List ℕ) → Holds at_first later d text → Appends at_first new text) → WritesDetail first own m asked definition old new
-detail_written first own m asked definition old now then later new a b c d none (front, before) (its, is, (more, puts)) (last, after) finish =
+pub detail_written : (first : ℕ) (own : List Line) (m : NamedState) (asked : ahead.NextStatement) (definition : Definition) (bringer : Option Bringer) (old now then later new : Option (List ℕ)) (a b c d : Gathered) →
+    IsEmpty a → PutsSome old now a b → PutsDetail first own m asked definition bringer now then b c → PutsSome then later c d →
+    ((at_first : Option (List ℕ)) (text : List ℕ) → Holds at_first later d text → Appends at_first new text) → WritesDetail first own m asked definition bringer old new
+detail_written first own m asked definition bringer old now then later new a b c d none (front, before) (its, is, (more, puts)) (last, after) finish =
     let here = puts_both old now then a b c front (its ++ more) before puts in
     let all = puts_both old then later a c d (front ++ (its ++ more)) last here after in
     let same : (front ++ (its ++ more)) ++ last ≡ front ++ (its ++ (more ++ last)) =

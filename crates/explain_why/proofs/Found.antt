@@ -33,10 +33,12 @@ use Rattle.explain_reasons.specs.Told.{IsTold}
 use Rattle.explain_why.specs.Explained.{IsExplained, IsFound, IsLineStart, IsPlaceOf, IsStatementAt, TakesLine, WritesAhead, WritesOne, WritesRequest}
 use Rattle.explain_why.specs.Answers.{WritesAnswer}
 use Rattle.explain_why.specs.Defined.{IsItsDefinition}
+use Rattle.explain_why.specs.Obstacles.{IsItsBringer}
 use Rattle.explain_why.specs.Details.{WritesDetail}
 use Rattle.explain_why.specs.Told.{EndsInOne, IsItsPlace, PutsAmong, TellsAhead, TellsItsPlace, TellsRequest, kept_text, undone_text}
 use Rattle.explain_why.specs.declared.ahead.NextStatement as ahead
 use Rattle.explain_why.specs.declared.definitions.Definition.{Definition}
+use Rattle.explain_why.specs.declared.obstacles.Bringer.{Bringer}
 use Rattle.explain_why.specs.declared.ahead.NextStatement.TheVariants as variant
 use Rattle.explain_why.specs.declared.faults.WhyFault.{WhyFault}
 use Rattle.explain_why.specs.declared.lines.LinePlace.{LinePlace}
@@ -199,12 +201,13 @@ pub all_ok : {X E : Type 0} (P Q : Type 0) (R S : X → Type 0) (r : Result X E)
 all_ok P Q R S (Ok x) f p q h = f x p q h
 all_ok P Q R S (Err e) f p q h = h
 
-pub explained : (settings : Settings) (script : List ℕ) (line : ℕ) (s : Session) (place : LinePlace) (definition : Definition) (old new : Option (List ℕ)) → place.at ≤ length script →
+pub explained : (settings : Settings) (script : List ℕ) (line : ℕ) (s : Session) (place : LinePlace) (definition : Definition) (bringer : Option Bringer) (old new : Option (List ℕ)) → place.at ≤ length script →
     (found : IsFound settings script line s place) → (refused : Bool) → WritesAhead (settings_in s.bench) (bench_of s.bench).present (length (bench_of s.bench).past) (length (bench_of s.bench).later) place.ahead.asked old new →
-    WritesDetail place.first found.its.statement.ahead.lines (bench_of s.bench).present place.ahead.asked definition old new →
+    WritesDetail place.first found.its.statement.ahead.lines (bench_of s.bench).present place.ahead.asked definition bringer old new →
     IsItsDefinition settings (bench_of s.bench).present (take place.at script) place.ahead.asked definition →
+    IsItsBringer settings (bench_of s.bench).present (take place.at script) place.ahead.asked bringer →
     WritesAnswer settings script found.before place.first line old new refused → IsExplained settings script line old new refused
-explained settings script line s place definition old new inside found refused told detail defined answer =
+explained settings script line s place definition bringer old new inside found refused told detail defined brought answer =
     let took = found.took in
     let its = found.its.statement in
     let none : took.rest ≡ [] = none_behind script place.at (flat_map with_feed took.lines) took.rest inside found.starts took.within.cut took.within.unended.0 in
@@ -236,7 +239,9 @@ explained settings script line s place definition old new inside found refused t
           (subst (λ k. WritesAhead k (bench_of s.bench).present (length (bench_of s.bench).past) (length (bench_of s.bench).later) place.ahead.asked old new) took.under told)));
       definition = definition;
       defined = subst (λ m. IsItsDefinition settings m (take place.at script) place.ahead.asked definition) present defined;
-      detail = subst (λ m. WritesDetail (length took.lines + 1) its.ahead.lines m place.ahead.asked definition old new) present
-          (subst (λ n. WritesDetail n its.ahead.lines (bench_of s.bench).present place.ahead.asked definition old new) number detail);
+      bringer = bringer;
+      brought = subst (λ m. IsItsBringer settings m (take place.at script) place.ahead.asked bringer) present brought;
+      detail = subst (λ m. WritesDetail (length took.lines + 1) its.ahead.lines m place.ahead.asked definition bringer old new) present
+          (subst (λ n. WritesDetail n its.ahead.lines (bench_of s.bench).present place.ahead.asked definition bringer old new) number detail);
       answer = subst (λ n. WritesAnswer settings script found.before n line old new refused) number answer;
     }

@@ -5,6 +5,8 @@ mod Turns
 mod Detailed
 mod Answered
 mod FirstCause
+mod Asked
+mod Bringers
 mod Found
 mod Counts
 mod Faulted

@@ -1,4 +1,5 @@
--- What is written around the reasons: where a statement is wrong, and which name isn't defined.
+-- What is written around the reasons: where a statement is wrong, which name isn't defined, and which line brought what
+-- keeps a statement from its effect.
 use Rattle.std.specs.Prelude.{◌≡◌, ℕ, ◌+◌, min, List, [], ◌∷◌, ◌++◌, codes, decimal, drop, map, Option, Some, None}
 use Rattle.std.specs.Io.KnownBytes.{Appends}
 use Rattle.vsm_model.specs.Names.{NamedState}
@@ -11,10 +12,12 @@ use Rattle.explain_faults.specs.declared.gathered.TextPlace.{TextPlace}
 use Rattle.text_output.specs.Writing.{Puts}
 use Rattle.text_output.specs.declared.writing.Gathered.{Gathered}
 use Rattle.explain_why.specs.Undefined.{first_undefined, values_asked}
+use Rattle.explain_why.specs.Obstacles.{bringer_text}
 use Rattle.explain_why.specs.declared.ahead.NextStatement as ahead
 use Rattle.explain_why.specs.declared.ahead.NextStatement.TheVariants as variant
 use Rattle.explain_why.specs.declared.definitions.Definition.{Definition}
 use Rattle.explain_why.specs.declared.definitions.Definition.TheVariants as definition
+use Rattle.explain_why.specs.declared.obstacles.Bringer.{Bringer}
 
 -- ---- the texts
 
@@ -69,24 +72,25 @@ IsFaultPlace first own kind its =
     (caret : Caret) × MarksOperand (first_used own) (further_used own) kind caret × (its ≡ at_text first caret.place)
 
 -- What is written of lines that ask for this in a state: of a wrong statement where it's wrong; of a request the first
--- name in its values that isn't defined, and what became of its definition. Of others nothing is said here.
-abbrev pub IsDetail : ℕ → List Line → NamedState → ahead.NextStatement → Definition → List ℕ → Type 0
-IsDetail first own m (variant.Request request) definition its =
-    its ≡ name_text (first_undefined m (values_asked (asked_in request))) definition
-IsDetail first own m (variant.Fault kind) definition its = IsFaultPlace first own kind its
-IsDetail first own m variant.Open definition its = Unit {0}
-IsDetail first own m variant.Aside definition its = Unit {0}
+-- name in its values that isn't defined, and what became of its definition, and which line brought what keeps it from
+-- its effect. Of others nothing is said here.
+abbrev pub IsDetail : ℕ → List Line → NamedState → ahead.NextStatement → Definition → Option Bringer → List ℕ → Type 0
+IsDetail first own m (variant.Request request) definition bringer its =
+    its ≡ name_text (first_undefined m (values_asked (asked_in request))) definition ++ bringer_text bringer
+IsDetail first own m (variant.Fault kind) definition bringer its = IsFaultPlace first own kind its
+IsDetail first own m variant.Open definition bringer its = Unit {0}
+IsDetail first own m variant.Aside definition bringer its = Unit {0}
 
 -- It follows all text before it, and more may follow it.
-abbrev pub PutsDetail : ℕ → List Line → NamedState → ahead.NextStatement → Definition → Option (List ℕ)
-    → Option (List ℕ) → Gathered → Gathered → Type 0
-PutsDetail first own m asked definition old new before after =
-    (its : List ℕ) × IsDetail first own m asked definition its
+abbrev pub PutsDetail : ℕ → List Line → NamedState → ahead.NextStatement → Definition → Option Bringer
+    → Option (List ℕ) → Option (List ℕ) → Gathered → Gathered → Type 0
+PutsDetail first own m asked definition bringer old new before after =
+    (its : List ℕ) × IsDetail first own m asked definition bringer its
     × ((behind : List ℕ) × Puts old new before after (its ++ behind))
 
 -- It's in what is written.
-abbrev pub WritesDetail : ℕ → List Line → NamedState → ahead.NextStatement → Definition → Option (List ℕ)
-    → Option (List ℕ) → Type 0
-WritesDetail first own m asked definition old new =
-    (its : List ℕ) × IsDetail first own m asked definition its
+abbrev pub WritesDetail : ℕ → List Line → NamedState → ahead.NextStatement → Definition → Option Bringer
+    → Option (List ℕ) → Option (List ℕ) → Type 0
+WritesDetail first own m asked definition bringer old new =
+    (its : List ℕ) × IsDetail first own m asked definition bringer its
     × ((front : List ℕ) × (behind : List ℕ) × Appends old new (front ++ (its ++ behind)))

@@ -30,11 +30,13 @@ use Rattle.explain_why.specs.Ahead.{AreFirst, Asks, IsAhead}
 use Rattle.explain_why.specs.Answers.{WritesAnswer}
 use Rattle.explain_why.specs.Defined.{IsItsDefinition}
 use Rattle.explain_why.specs.Details.{WritesDetail}
+use Rattle.explain_why.specs.Obstacles.{IsItsBringer}
 use Rattle.explain_why.specs.Told.{IsItsPlace, kept_text, undone_text}
 use Rattle.explain_why.specs.declared.ahead.NextStatement as ahead
 use Rattle.explain_why.specs.declared.definitions.Definition.{Definition}
 use Rattle.explain_why.specs.declared.ahead.NextStatement.TheVariants as variant
 use Rattle.explain_why.specs.declared.lines.LinePlace.{LinePlace}
+use Rattle.explain_why.specs.declared.obstacles.Bringer.{Bringer}
 
 -- What a writer holds grows by a text in which such a text occurs.
 abbrev pub WritesOne : (List ℕ → Type 0) → Option (List ℕ) → Option (List ℕ) → Type 0
@@ -120,7 +122,8 @@ pub record IsFound (settings : Settings) (script : List ℕ) (line : ℕ) (s : S
 -- The statement of a line in a script is explained: the lines before it are whole parts, with these answers; its own
 -- are the next, of which the line is one; and by what they ask for, what is written has the text of the statement's
 -- first cause, the place of its area, whose the pages of a reading are, or how many changes are kept or undone, in the
--- state of the statements in effect before it, run alone. It ends in the answer, and says whether that is a refusal.
+-- state of the statements in effect before it, run alone; and the line that brought what keeps it from its effect. It
+-- ends in the answer, and says whether that is a refusal.
 pub record IsExplained (settings : Settings) (script : List ℕ) (line : ℕ) (old new : Option (List ℕ)) (refused : Bool) :
     Type 0 where
   pub place : ℕ
@@ -142,6 +145,9 @@ pub record IsExplained (settings : Settings) (script : List ℕ) (line : ℕ) (o
   pub definition : Definition
   pub defined : IsItsDefinition settings (alone_now settings (stands_all settings nothing_stands before))
       (take place script) asked definition
+  pub bringer : Option Bringer
+  pub brought : IsItsBringer settings (alone_now settings (stands_all settings nothing_stands before))
+      (take place script) asked bringer
   pub detail : WritesDetail (length lines + 1) own (alone_now settings (stands_all settings nothing_stands before))
-      asked definition old new
+      asked definition bringer old new
   pub answer : WritesAnswer settings script before (length lines + 1) line old new refused

@@ -1,6 +1,7 @@
 pub mod Ahead
 pub mod Undefined
 pub mod Defined
+pub mod Obstacles
 pub mod Details
 pub mod Told
 pub mod Answers

@@ -1,4 +1,5 @@
-//! Where a wrong statement is wrong, and which name isn't defined.
+//! Where a wrong statement is wrong, which name isn't defined, and which line brought what keeps a statement from its
+//! effect.
 ghost use Rattle.std.specs.Prelude.{◌≡◌, ◌++◌, List, ℕ, option_map, codes, decimal, map, OnOk};
 ghost use Rattle.macro_operands.specs.Requests.{asked_in};
 ghost use Rattle.macro_reader.specs.Columns.{Line, used};
@@ -7,18 +8,21 @@ ghost use Rattle.explain_faults.specs.Places.{card_in, first_card, further_cards
 ghost use Rattle.text_output.specs.Writing.{Puts};
 ghost use Rattle.explain_why.specs.Details.{at_text, back_text, definition_text, discarded_text, made_text};
 ghost use Rattle.explain_why.specs.Details.{name_text, undefined_text, undone_text, PutsDetail};
+ghost use Rattle.explain_why.specs.Obstacles.{bringer_text, brought_text, did_text};
 
 use crate::ahead::{Ahead, NextStatement};
 use crate::definitions::Definition;
+use crate::obstacles::{Bringer, Obstacle};
 use crate::undefined::undefined_name;
 use bench_core::Bench;
 use explain_faults::carets::{Caret, caret_of};
 use explain_faults::gathered::TextPlace;
 use explain_faults::hints::add_hint;
 use explain_faults::lines::OpenLines;
-use explain_text::Words;
+use explain_text::{Piece, Words, put_line};
 use macro_reader::{FaultKind, Name};
 use std::io::Write;
+use storage_core::Obtain;
 use text_output::{Gathered, put_decimal};
 
 /// Puts a place in a statement whose first line has this number.
@@ -172,8 +176,90 @@ fn put_undefined<W: Write>(
     }
 }
 
-/// Puts of lines that begin a text, the first of this number: where their statement is wrong, or which name in its
-/// values isn't defined, and what became of its definition.
+/// Puts what the statement of a line did at an address.
+fn put_did<W: Write>(gathered: &mut Gathered, writer: &mut W, line: u32, did: &str, address: u32)
+    ensures { Puts (W.contents writer.old) (W.contents writer.new) gathered.old gathered.new
+        (did_text line did.now address) }
+{
+    put_line(
+        gathered,
+        writer,
+        &[
+            Piece::Text("line "),
+            Piece::Number(line),
+            Piece::Text(did),
+            Piece::Address(address),
+        ],
+    );
+}
+
+/// Puts that the statement of a line took the last room for an area.
+fn put_took_room<W: Write>(gathered: &mut Gathered, writer: &mut W, line: u32, o: Obtain)
+    ensures { Puts (W.contents writer.old) (W.contents writer.new) gathered.old gathered.new
+        (brought_text line (Obstacle.NoRoom o)) }
+{
+    put_line(
+        gathered,
+        writer,
+        &[
+            Piece::Text("line "),
+            Piece::Number(line),
+            Piece::Text(" took the last room for it: it fitted before"),
+        ],
+    );
+}
+
+/// Puts how the statement of a line brought an obstacle.
+fn put_brought<W: Write>(gathered: &mut Gathered, writer: &mut W, line: u32, obstacle: Obstacle)
+    ensures { Puts (W.contents writer.old) (W.contents writer.new) gathered.old gathered.new
+        (brought_text line obstacle) }
+{
+    match obstacle {
+        Obstacle::Taken(address) => put_did(
+            gathered,
+            writer,
+            line,
+            " obtained what is at ",
+            address,
+        ),
+        Obstacle::Untaken(address) => put_did(
+            gathered,
+            writer,
+            line,
+            " released what was at ",
+            address,
+        ),
+        Obstacle::UsedCell(address) => put_did(
+            gathered,
+            writer,
+            line,
+            " got the cell at ",
+            address,
+        ),
+        Obstacle::FreeCell(address) => put_did(
+            gathered,
+            writer,
+            line,
+            " freed the cell at ",
+            address,
+        ),
+        Obstacle::NoRoom(o) => put_took_room(gathered, writer, line, o),
+    }
+}
+
+/// Puts which line brought an obstacle, if one did.
+fn put_bringer<W: Write>(gathered: &mut Gathered, writer: &mut W, bringer: Option<Bringer>)
+    ensures { Puts (W.contents writer.old) (W.contents writer.new) gathered.old gathered.new
+        (bringer_text bringer) }
+{
+    match bringer {
+        Some(bringer) => put_brought(gathered, writer, bringer.line, bringer.obstacle),
+        None => (),
+    }
+}
+
+/// Puts of lines that begin a text, the first of this number: where their statement is wrong; or which name in its
+/// values isn't defined, what became of its definition, and which line brought what keeps it from its effect.
 pub(crate) fn put_detail<W: Write>(
     gathered: &mut Gathered,
     writer: &mut W,
@@ -182,9 +268,10 @@ pub(crate) fn put_detail<W: Write>(
     first: u32,
     ahead: &Ahead,
     definition: Definition,
+    bringer: Option<Bringer>,
 )
     ensures detail { (own : List Line) → map (card_in text.now) ahead.now.places.lines.items ≡ map used own
-        → PutsDetail first own (bench_of bench.now).present ahead.now.asked definition
+        → PutsDetail first own (bench_of bench.now).present ahead.now.asked definition bringer
         (W.contents writer.old) (W.contents writer.new) gathered.old gathered.new }
     ensures some { (its : List ℕ) × Puts (W.contents writer.old) (W.contents writer.new) gathered.old gathered.new its }
 {
@@ -192,6 +279,7 @@ pub(crate) fn put_detail<W: Write>(
         NextStatement::Request(request) => {
             let name = undefined_name(bench, request);
             put_undefined(gathered, writer, &name, definition);
+            put_bringer(gathered, writer, bringer);
         }
         NextStatement::Fault(kind) => {
             put_fault_place(gathered, writer, text, first, &ahead.places, *kind)

@@ -10,7 +10,7 @@ pub enum WhyFault {
     TooLong,
     /// The writer takes nothing further.
     Write,
-    /// There is no memory for the text that JSON is made of.
+    /// There is no memory for the text, or for the statements in effect before it, once more.
     Memory,
     /// The script has no such line: it has this number of lines.
     NoLine(u32),

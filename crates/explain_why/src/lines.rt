@@ -19,14 +19,17 @@ ghost use Rattle.explain_why.specs.Answers.{PutsAnswer, WritesAnswer, answer_tex
 ghost use Rattle.explain_why.specs.Answers.{no_memory_text, note_text, tells_refusal};
 ghost use Rattle.explain_why.specs.Defined.{IsItsDefinition};
 ghost use Rattle.explain_why.specs.Details.{WritesDetail};
+ghost use Rattle.explain_why.specs.Obstacles.{IsItsBringer};
 ghost use Rattle.explain_why.specs.Told.{PutsBeginning, TellsAhead};
 
 use crate::ahead::{Ahead, NextStatement, read_ahead, rest_from};
 use crate::causes::put_reasons;
 use crate::definitions::{Definition, definition_of};
 use crate::details::put_detail;
+use crate::earlier::bringer_of;
 use crate::faults::WhyFault;
 use crate::headings::put_fault_heading;
+use crate::obstacles::Bringer;
 use crate::undefined::undefined_name;
 use bench_core::{Bench, Refusal};
 use script_steps::{LINES, NumberedResponse, ReaderState, Response, Session, Watch, put_response};
@@ -378,6 +381,27 @@ fn definition_before<P: Watch>(
     }
 }
 
+/// Which of the lines before a statement brought what keeps it from its effect on a bench, if one did.
+fn bringer_before<P: Watch>(
+    alloc: Global,
+    settings: Settings,
+    before: &[u8],
+    bench: &Bench,
+    asked: &NextStatement,
+    watch: &mut P,
+) -> Result<Option<Bringer>, WhyFault>
+    ensures its { settings_in bench.now ≡ settings → IfOk result (IsItsBringer settings (bench_of bench.now).present
+        before.now asked.now) }
+    ensures other { IfErr result IsOtherFault }
+{
+    match asked {
+        NextStatement::Request(request) => {
+            bringer_of(alloc, settings, before, bench, request, watch)
+        }
+        NextStatement::Aside | NextStatement::Fault(_) | NextStatement::Open => Ok(None),
+    }
+}
+
 /// Writes why the statement at a place, up to which the session has taken the script, is answered as it is. `true` if
 /// it's refused.
 fn tell<W: Write>(
@@ -386,6 +410,7 @@ fn tell<W: Write>(
     line: u32,
     place: &LinePlace,
     definition: Definition,
+    bringer: Option<Bringer>,
     out: &mut W,
 ) -> Result<bool, WhyFault>
     requires { place.now.at ≤ length script.now }
@@ -395,7 +420,7 @@ fn tell<W: Write>(
     ensures detail { (own : List Line) → map (card_in (drop place.now.at script.now))
         place.now.ahead.places.lines.items ≡ map used own
         → OnOk result (WritesDetail place.now.first own (bench_of session.bench).present place.now.ahead.asked
-        definition (W.contents out.old) (W.contents out.new)) }
+        definition bringer (W.contents out.old) (W.contents out.new)) }
     ensures answer { (settings : Settings) (before : List Marked)
         → Took settings (take place.now.at script.now) before session
         → IfOk result (WritesAnswer settings script.now before place.now.first line
@@ -413,6 +438,7 @@ fn tell<W: Write>(
         place.first,
         &place.ahead,
         definition,
+        bringer,
     );
     let refused = put_answer_at(&mut gathered, out, session, script, place.at)?;
     match gathered.finish(out) {
@@ -422,7 +448,7 @@ fn tell<W: Write>(
 }
 
 /// Writes as text why the statement of a line is answered as it is. `true` if it's refused. Its faults are those of
-/// [`why`](crate::why), except `Memory`.
+/// [`why`](crate::why).
 pub(crate) fn why_text<W: Write, P: Watch>(
     alloc: Global,
     script: &[u8],
@@ -444,5 +470,13 @@ pub(crate) fn why_text<W: Write, P: Watch>(
         &place.ahead.asked,
         watch,
     )?;
-    tell(session, script, line, &place, definition, out)
+    let bringer = bringer_before(
+        alloc,
+        settings,
+        &script[..place.at],
+        session.bench(),
+        &place.ahead.asked,
+        watch,
+    )?;
+    tell(session, script, line, &place, definition, bringer, out)
 }

@@ -40,11 +40,13 @@ fn write_text<W: Write>(text: &[u8], out: &mut W) -> Result<(), WriteFault>
 /// before it, the reason that decides if it's refused, what the rules look at, and the answer. `true` if that is a
 /// refusal.
 ///
-/// The lines before it are carried out on a new bench under the settings; `watch` is called for each.
+/// The lines before it are carried out on a new bench under the settings, and once more to look for what brought the
+/// reason; `watch` is called for each.
 ///
 /// `New` if no such bench can be made; `TooLong` if a byte up to the statement's end passes a bound; `NoLine`, `Aside`
-/// and `Dropped` if the line belongs to no statement; `Memory` if there is no memory for the text; `Write` if a write
-/// fails. After `Write` a prefix was written, after each other fault nothing.
+/// and `Dropped` if the line belongs to no statement; `Memory` if there is no memory for the text, or for the
+/// statements in effect before it, once more; `Write` if a write fails. After `Write` a prefix was written, after each
+/// other fault nothing.
 pub fn why<W: Write, P: Watch>(
     alloc: Global,
     script: &[u8],

@@ -119,8 +119,10 @@ IsAnswered settings script name form (question.List only) old new code =
     (outcome : Result Bool ListFault)
     × Listed (record { form = form; only_refused = only }) settings script old new outcome
     × (code ≡ list_status outcome)
-IsAnswered settings script name form question.Check old new code =
-    (outcome : Result Bool ListFault) × Checked settings script name old new outcome × (code ≡ list_status outcome)
+IsAnswered settings script name form (question.Check leaks) old new code =
+    (outcome : Result Bool ListFault)
+    × Checked settings script (record { form = form; leaks = leaks }) name old new outcome
+    × (code ≡ list_status outcome)
 IsAnswered settings script name form (question.Why line) old new code =
     (outcome : Result Bool WhyFault) × Explains settings script line old new outcome
     × (code ≡ why_status outcome)

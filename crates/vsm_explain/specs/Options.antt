@@ -43,7 +43,7 @@ pub record CommandRules : Type 0 where
 abbrev pub check_form : CommandRules
 check_form = record {
   name = codes "check";
-  rules = operand (codes "FILE") ∷ [];
+  rules = flag (codes "leaks") ∷ flag (codes "json") ∷ operand (codes "FILE") ∷ [];
 }
 
 abbrev pub list_form : CommandRules

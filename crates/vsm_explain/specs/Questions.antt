@@ -209,9 +209,9 @@ IsWhoAsked said (question.Who it oldest) =
     (count_asked said ≤ 1) × IsAboutAsked said it × (oldest ≡ is_set (codes "oldest-first") said)
 IsWhoAsked said _ = ⊥
 
--- `check` asks what is wrong with a script.
+-- `check` asks what is wrong with a script, with --leaks also what is left of each statement.
 abbrev pub IsCheckAsked : Said → Question → Type 0
-IsCheckAsked said question.Check = ⊤
+IsCheckAsked said (question.Check leaks) = leaks ≡ is_set (codes "leaks") said
 IsCheckAsked said _ = ⊥
 
 -- `list` asks for the listing.

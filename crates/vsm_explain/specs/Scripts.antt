@@ -30,7 +30,7 @@ file_in asking = option_map (λ s. s.now) asking.file
 
 abbrev pub is_listing : Question → Bool
 is_listing (question.List only) = true
-is_listing question.Check = true
+is_listing (question.Check leaks) = true
 is_listing _ = false
 
 -- a byte X'00'

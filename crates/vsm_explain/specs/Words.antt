@@ -7,7 +7,7 @@ use Rattle.vsm_bench.specs.Words.{Asked, Syntax, any, asked, nothing, settings_o
 
 abbrev pub check_syntax : Syntax
 check_syntax = record {
-  options = settings_options;
+  options = settings_options ++ (codes "leaks", nothing) ∷ (codes "json", nothing) ∷ [];
   operands = codes "FILE" ∷ [];
   needed = [];
   has_version = false;

@@ -10,7 +10,7 @@ use crate::questions::{About, Asking, Place, Question};
 use crate::refusals::WordRefusal;
 use crate::scripts::excess_of;
 use explain_areas::{AreaOrder, AreasFault, areas};
-use explain_check::check;
+use explain_check::{CheckLayout, check};
 use explain_list::{Layout, ListFault, list};
 use explain_report::{ReportFault, over_time, report};
 use explain_text::Form;
@@ -293,8 +293,9 @@ pub(crate) fn answer<'a, W: Write, P: Watch>(
             let outcome = list(alloc, script, settings, layout, out, watch);
             gone_over(script, outcome)
         }
-        Question::Check => {
-            let outcome = check(alloc, script, settings, name.as_bytes(), out, watch);
+        Question::Check { leaks } => {
+            let layout = CheckLayout { form, leaks };
+            let outcome = check(alloc, script, settings, layout, name.as_bytes(), out, watch);
             gone_over(script, outcome)
         }
         Question::Why { line } => {

@@ -104,7 +104,7 @@ fn name_of<'a>(asking: &Asking<'a>) -> &'a str
 fn is_listing(question: &Question<'_>) -> bool
     ensures { result ≡ is_listing question.now }
 {
-    matches!(question, Question::List { .. } | Question::Check)
+    matches!(question, Question::List { .. } | Question::Check { .. })
 }
 
 /// The whole script that is asked about.

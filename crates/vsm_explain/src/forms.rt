@@ -47,11 +47,19 @@ static CHECK: CommandForm = CommandForm {
     name: "check",
     about: CHECK_ABOUT,
     after: CHECK_AFTER,
-    rows: &[WordRow {
-        name: "FILE",
-        kind: WordKind::Operand("FILE"),
-        help: "The script, or - [default: standard input]",
-    }],
+    rows: &[
+        WordRow {
+            name: "leaks",
+            kind: WordKind::Flag,
+            help: "Print a line for each statement whose area or cell is left at the end",
+        },
+        JSON,
+        WordRow {
+            name: "FILE",
+            kind: WordKind::Operand("FILE"),
+            help: "The script, or - [default: standard input]",
+        },
+    ],
 };
 
 static LIST: CommandForm = CommandForm {

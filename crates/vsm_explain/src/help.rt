@@ -15,7 +15,7 @@ vsm-statements(5) the statements of a script, vsm-messages(7) the answers.
 Exit status:
    0  the question was answered
    4  check, list: at least one line is FAULT, REFUSED or ABEND, or was not carried out; check: at least one is OUTSIDE
-      or STALE; why: the line's answer is FAULT, REFUSED or ABEND
+      or STALE or, with --leaks, LEFT; why: the line's answer is FAULT, REFUSED or ABEND
    8  the script can't be read, is empty or too long, or the output can't be written
   16  a wrong argument; a missing line, task or name; settings out of their limits; or no memory
 ";
@@ -25,8 +25,9 @@ pub(crate) const CHECK_ABOUT: &str = "Says what is wrong with a script, a line f
 pub(crate) const CHECK_AFTER: &str =
     "Prints FILE:LINE:COLUMN: WORD: text, as compilers do, so that an editor can go there; COLUMN counts bytes. WORD is
 that of a FAULT, ABEND or REFUSED with the reason, WARNING, or NOT CARRIED OUT; or of a statement that is answered
-well: OUTSIDE (bytes outside of their area or cell), STALE (a name whose area or cell has ended), or PART (a release
-that isn't of one area). RC=4 isn't wrong.
+well: OUTSIDE (bytes outside of their area or cell), STALE (a name whose area or cell has ended), PART (a release that
+isn't of one area), UNSET (a byte is read that nothing stored since its area or cell was obtained), or, with --leaks,
+LEFT (an area or a cell that the script leaves taken). RC=4 isn't wrong.
 
 Example: if the file example.vsm has ' STORAGE OBTAIN,LENGHT=8', 'vsm-explain check example.vsm' prints
 'example.vsm:1:17: OPERAND: no operand of STORAGE OBTAIN; LENGTH?'.

@@ -72,8 +72,10 @@ pub(crate) enum Question<'a> {
     List {
         only_refused: bool,
     },
-    /// What is wrong with it, by places.
-    Check,
+    /// What is wrong with it, by places; perhaps with what is left of each statement.
+    Check {
+        leaks: bool,
+    },
     /// Why the statement of this line was answered as it was.
     Why {
         line: u32,
@@ -384,7 +386,8 @@ fn check_asked<'a>(matches: &ArgMatches<'a>) -> AskedOfScript<'a>
     ensures askable { IsAskable result.0 }
     ensures file { IsOfFile (said_of matches.now) result.0 (option_map (λ s. s.now) result.1) }
 {
-    (Question::Check, text_of(matches, "FILE"))
+    let leaks = is_set(matches, "leaks");
+    (Question::Check { leaks }, text_of(matches, "FILE"))
 }
 
 /// What `list` asks.

@@ -1,4 +1,4 @@
-use Rattle.std.proofs.Common.{◌≡◌, ◌++◌, Some, inr, refl, sym, ◌∙◌}
+use Rattle.std.proofs.Common.{◌++◌, Some, inr, refl, sym, ◌∙◌}
 use Rattle.explain_report.proofs.Following.{answered_end, quiet_end, read_by}
 use Rattle.explain_report.proofs.Told.{no_answer, some_answer}
 use Rattle.explain_areas.proofs.Stops.{silent_there}

@@ -1,4 +1,4 @@
-use Rattle.std.proofs.Common.{Some, take, sym, subst, arith}
+use Rattle.std.proofs.Common.{Some, take, sym, subst}
 use Rattle.script_steps.specs.Script.{NoFeed}
 use Rattle.script_steps.specs.Taken.{Took}
 use Rattle.explain_report.proofs.Following.{script_past, whole_script}

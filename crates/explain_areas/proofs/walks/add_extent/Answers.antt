@@ -2,8 +2,8 @@ use Rattle.std.proofs.Common.{◌+◌, ◌/◌, ◌∙◌, sym, arith}
 use Rattle.explain_areas.proofs.Bounds.{ends_within, same_to}
 use Rattle.explain_areas.proofs.walks.add_extent.Goals as goal
 
-pub add_taken-requires-clause-order : goal.add_taken-requires-clause-order
-add_taken-requires-clause-order c =
+pub add_taken-requires : goal.add_taken-requires
+add_taken-requires c =
     let (next, free) = c.in-Some.ensures.next c.args.subpool c.loop-area.at c.loop-area.invariant.place in
     next.from
 

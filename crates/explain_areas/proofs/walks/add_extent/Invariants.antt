@@ -9,7 +9,7 @@ invariant-loop-area l = record {
   from : 512 * l.fn.extent.start ≤ l.at;
   within : l.at ≤ 512 * (l.fn.extent.start + l.fn.extent.len);
   place : IsFreeFrom l.storage l.subpool l.place l.at;
-  areas : (f : ℕ → Option ℕ) (others : List AreaIn) → AreLinesOf l.takings l.storage l.subpool f
+  areas : (f : ℕ → Option ℕ) (others : List AreaIn) → AreLinesOf l.lines l.storage l.subpool f
       → reverse l.fn.areas.items ≡ areas_to l.subpool f (512 * l.fn.extent.start) others
       → reverse l.areas.items ≡ areas_to l.subpool f l.at others;
 }

@@ -10,7 +10,7 @@ use Rattle.explain_areas.proofs.walks.areas_with.Given as goal
 abbrev pub invariant-loop-subpool : goal.invariant-loop-subpool
 invariant-loop-subpool l = record {
   place : IsSubpoolPlace l.storage l.place;
-  areas : (f : Subpool → ℕ → Option ℕ) → ((p : Subpool) → AreLinesOf l.takings l.storage p (f p))
+  areas : (f : Subpool → ℕ → Option ℕ) → ((p : Subpool) → AreLinesOf l.lines l.storage p (f p))
       → l.areas.items ++ flat_map (λ p. areas_of p (f p)) (subpools_left l.storage l.place)
       ≡ flat_map (λ p. areas_of p (f p)) (subpools_in_order (state_in_place l.storage).subpools);
 }

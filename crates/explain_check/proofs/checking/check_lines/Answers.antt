@@ -1,7 +1,6 @@
 use Rattle.std.proofs.Common.{◌≡◌, ◌≤◌, ◌+◌, ◌-◌, ◌++◌, ◌∙◌, length, ap, inr, sym, subst, arith}
 use Rattle.macro_statements.specs.Requests.{asked_in}
 use Rattle.bench_core.specs.Stands.{bench_of, settings_in}
-use Rattle.explain_findings.specs.Tables.{found_on}
 use Rattle.explain_list.specs.Listing.{Carries}
 use Rattle.explain_list.specs.Pages.{Follow, fault_told, marks_in, open_of, shown_of}
 use Rattle.explain_list.specs.declared.pages.ListingPage.{ListingPage}
@@ -10,6 +9,8 @@ use Rattle.explain_list.proofs.Lines.{first_lines, step_follow}
 use Rattle.explain_list.proofs.Marked.{page_marks}
 use Rattle.explain_list.proofs.Rests.{rest_none}
 use Rattle.explain_list.proofs.Steps.{same_page, step_page}
+use Rattle.explain_check.specs.Checked.{found_by_source}
+use Rattle.explain_check.specs.Lines.{manner_of}
 use Rattle.explain_check.proofs.checking.check_lines.Goals as goal
 
 pub loop-at-init : goal.loop-at-init
@@ -26,8 +27,8 @@ loop-at-preserved g c =
       λ settings first held.
           let h = c.loop-at.invariant.1 settings first held in
           let script = c.args.source.now.script.now in
-          let name = c.args.source.now.name.now in
-          let found = found_on c.args.source.now.findings.now in
+          let manner = manner_of c.args.source.now.manner in
+          let found = found_by_source c.args.source.now in
           let e = asks settings h.answers h.took in
           let its = c.take_line.new.self in
           let more = whole.1 h.room in
@@ -40,9 +41,9 @@ loop-at-preserved g c =
             answers = h.answers ++ e.0;
             took = e.4;
             listed = h.listed ++ shown_of its;
-            held = checks_page settings name script found first _ _ _ _ h.answers e.0 (bench_of c.take_line.new.session.bench) told asked h.listed (shown_of its)
+            held = checks_page settings manner script found first _ _ _ _ h.answers e.0 (bench_of c.take_line.new.session.bench) told asked h.listed (shown_of its)
                 (marks_in (shown_of its) its.fault) e.1 e.3 e.4.led (page_marks script (fault_told told) its shown paged.whole)
-                (page_under settings (settings_in c.bench-bench.result.now) name found (marks_in (shown_of its) its.fault) (bench_of c.bench-bench.result.now) (bench_of c.take_line.new.session.bench) asked told _ _ _ _
+                (page_under settings (settings_in c.bench-bench.result.now) manner found (marks_in (shown_of its) its.fault) (bench_of c.bench-bench.result.now) (bench_of c.take_line.new.session.bench) asked told _ _ _ _
                 (ap settings_in c.bench-bench.ensures ∙ e.4.under) (ap bench_of c.bench-bench.ensures) c.put_page-its.ensures.puts) h.held;
             wrongs = wrong_more settings found h.answers e.0 told c.loop-at.wrong c.put_page-its.result c.either-wrong.result e.1 h.wrongs c.put_page-its.ensures.wrong c.either-wrong.ensures;
             follow = step_follow h.listed (shown_of its) (open_of its) (open_of c.loop-at.page) more.0 c.loop-at.at c.in-Ok-Some.step.next more.3 (more.1 ∙ place.0)

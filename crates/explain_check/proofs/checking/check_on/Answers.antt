@@ -2,20 +2,21 @@ use Rattle.std.proofs.Common.{◌≤◌, List, [], length, refl, inl, sym, subst
 use Rattle.std.proofs.KnownBytes.{Appends-nil}
 use Rattle.text_output.proofs.Gathering.{empty_holds}
 use Rattle.explain_faults.specs.declared.lines.SourceLine.{SourceLine}
-use Rattle.explain_findings.specs.Tables.{found_on}
 use Rattle.explain_list.specs.Pages.{Follow}
 use Rattle.explain_check.proofs.Checks.{holds_file}
 use Rattle.explain_list.proofs.Steps.{first_page}
+use Rattle.explain_check.specs.Checked.{found_by_source, sum_by_source}
+use Rattle.explain_check.specs.Lines.{manner_of}
 use Rattle.explain_check.proofs.checking.check_on.Goals as goal
 
 pub returns-in-Ok : goal.returns-in-Ok
 returns-in-Ok g c = λ new.
     let settings = c.args.settings in
-    let name = c.args.source.now.name.now in
+    let manner = manner_of c.args.source.now.manner in
     let script = c.args.source.now.script.now in
-    let found = found_on c.args.source.now.findings.now in
+    let found = found_by_source c.args.source.now in
     let first = g.W.Write.contents c.args.out.now in
-    let held = holds_file settings name script found first _ _ _ _ c.put_file_check.ensures (empty_holds _ _ _ [] c.new-gathered.ensures (Appends-nil _)) in
+    let held = holds_file settings manner script found first _ _ _ _ c.put_file_check.ensures (c.put_head_in.ensures first [] (empty_holds _ _ _ [] c.new-gathered.ensures (Appends-nil _))) in
     let checks = c.in-Ok.ensures.checks settings first (record {
       answers = [];
       took = c.new-session.ensures settings new;
@@ -33,11 +34,11 @@ returns-in-Ok g c = λ new.
 pub returns-in-Err : goal.returns-in-Err
 returns-in-Err g c = λ new.
     let settings = c.args.settings in
-    let name = c.args.source.now.name.now in
+    let manner = manner_of c.args.source.now.manner in
     let script = c.args.source.now.script.now in
-    let found = found_on c.args.source.now.findings.now in
+    let found = found_by_source c.args.source.now in
     let first = g.W.Write.contents c.args.out.now in
-    let held = holds_file settings name script found first _ _ _ _ c.put_file_check.ensures (empty_holds _ _ _ [] c.new-gathered.ensures (Appends-nil _)) in
+    let held = holds_file settings manner script found first _ _ _ _ c.put_file_check.ensures (c.put_head_in.ensures first [] (empty_holds _ _ _ [] c.new-gathered.ensures (Appends-nil _))) in
     let checks = c.in-Err.ensures.checks settings first (record {
       answers = [];
       took = c.new-session.ensures settings new;
@@ -50,4 +51,4 @@ returns-in-Err g c = λ new.
       room = subst (λ (ls : List SourceLine). length ls ≤ 9) (sym c.new-page.ensures.open) (omega arith);
       carries = first_page settings script c.new-page.result c.new-session.result c.new-page.ensures.open c.new-page.ensures.current (c.new-session.ensures settings new);
     }) in
-    c.stop.ensures settings script name found first checks
+    c.stop.ensures settings script manner found (sum_by_source c.args.source.now) first checks

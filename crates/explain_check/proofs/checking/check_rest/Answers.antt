@@ -1,11 +1,12 @@
 use Rattle.std.proofs.Common.{◌++◌, take, subst, sym, arith}
 use Rattle.script_steps.specs.Script.{NoFeed}
 use Rattle.script_steps.specs.Taken.{Took}
-use Rattle.explain_findings.specs.Tables.{found_on}
 use Rattle.explain_list.specs.Pages.{Follow, open_of}
 use Rattle.explain_list.proofs.Lines.{first_lines, rest_line}
 use Rattle.explain_list.proofs.Rests.{whole_script, script_past}
 use Rattle.explain_list.proofs.Steps.{rest_page}
+use Rattle.explain_check.specs.Checked.{found_by_source, sum_by_source}
+use Rattle.explain_check.specs.Lines.{manner_of}
 use Rattle.explain_check.proofs.checking.check_rest.Goals as goal
 
 pub take_bytes-requires : goal.take_bytes-requires
@@ -37,4 +38,4 @@ pub returns-in-Err : goal.returns-in-Err
 returns-in-Err g c = λ settings first h.
     let script = c.args.source.now.script.now in
     let past = c.in-Err.ensures settings (take c.args.checked.at script) h.answers h.took in
-    c.stop.ensures settings script c.args.source.now.name.now (found_on c.args.source.now.findings.now) first (h.answers, h.listed, script_past settings script c.args.checked.at _ h.answers c.rest_from-rest.ensures past, first_lines c.args.checked.at h.listed (open_of c.args.page.now) h.follow, h.held)
+    c.stop.ensures settings script (manner_of c.args.source.now.manner) (found_by_source c.args.source.now) (sum_by_source c.args.source.now) first (h.answers, h.listed, script_past settings script c.args.checked.at _ h.answers c.rest_from-rest.ensures past, first_lines c.args.checked.at h.listed (open_of c.args.page.now) h.follow, h.held)

@@ -1,9 +1,13 @@
-use Rattle.std.proofs.Common.{min}
+use Rattle.std.proofs.Common.{[], ◌∷◌, refl}
 use Rattle.explain_check.specs.Findings.{part}
-use Rattle.explain_check.proofs.Said.{said_found}
+use Rattle.explain_check.specs.Lines.{found, line_at, manner_of}
+use Rattle.explain_check.proofs.Said.{checks_no, one_line}
 use Rattle.explain_check.proofs.found_checks.put_part_check.Goals as goal
 
 pub returns-in-Some : goal.returns-in-Some
 returns-in-Some g c =
-    rw c.in-Some.is
-    (said_found c.args.spot.now.name.now c.args.spot.now.number (min c.args.spot.now.column 100000) (part c.in-Some.part) _ _ _ _ _ _ _ _ c.put_position.ensures c.put_part.ensures c.put.ensures.puts)
+    let its = part c.in-Some.part in
+    rw c.in-Some.is (one_line (manner_of c.args.spot.now.manner) (line_at c.args.spot.now.place (found its)) [] [] (its ∷ []) _ _ _ _ tt refl refl refl c.put_check_line.ensures)
+
+pub returns-in-None : goal.returns-in-None
+returns-in-None g c = rw c.in-None.is (checks_no (manner_of c.args.spot.now.manner) _ _)

@@ -5,14 +5,14 @@ use Rattle.explain_faults.specs.declared.carets.Caret.{Caret}
 use Rattle.explain_list.specs.Pages.{fault_at}
 use Rattle.explain_list.specs.Rows.{marks_on}
 use Rattle.explain_check.specs.Findings.{found_to, if_on}
-use Rattle.explain_check.specs.Lines.{PutsChecks}
+use Rattle.explain_check.specs.Lines.{PutsChecks, manner_of}
 use Rattle.explain_check.proofs.Said.{checks_each}
 use Rattle.explain_check.proofs.page_checks.put_line_checks.Goals as goal
 
 pub returns : goal.returns
 returns g c =
     let shown = c.args.shown.now in
-    let name = shown.name.now in
+    let name = manner_of shown.manner in
     let line = c.args.line.now in
     let marks = marks_on line (fault_at shown.page.now.fault c.args.index) in
     let finds = if_on shown.place.line c.args.index (found_to c.args.answered.now) in

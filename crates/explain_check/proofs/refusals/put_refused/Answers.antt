@@ -22,5 +22,5 @@ returns-in-Name g c =
 pub returns-in-NoMemory : goal.returns-in-NoMemory
 returns-in-NoMemory g c =
     let b = c.args.answered.now.bench.now in
-    let words = c.one_line.result.now in
-    (words, subst (λ w. IsReason (settings_in b) (bench_of b).present (asked_in c.args.answered.now.request.now) (Some w) words) (sym c.in-NoMemory.is) tt, c.one_line.ensures, c.put_refusal.ensures)
+    let words = c.one_line-words.result.now in
+    (words, subst (λ w. IsReason (settings_in b) (bench_of b).present (asked_in c.args.answered.now.request.now) (Some w) words) (sym c.in-NoMemory.is) tt, c.one_line-words.ensures, c.put_words.ensures)

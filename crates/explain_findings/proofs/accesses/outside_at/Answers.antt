@@ -3,7 +3,7 @@ use Rattle.std.specs.Prelude.{option_map}
 use Rattle.storage_core.specs.Meaning.{state_of}
 use Rattle.explain_findings.specs.Accesses.{first_outside, words_of}
 use Rattle.explain_findings.specs.Homes.{home_at}
-use Rattle.explain_findings.specs.LineMaps.{line_in}
+use Rattle.explain_areas.specs.NumberMaps.{number_in}
 use Rattle.explain_findings.specs.declared.findings.Outside.{Outside}
 use Rattle.explain_findings.specs.declared.homes.Home.{Home}
 use Rattle.explain_findings.proofs.accesses.outside_at.Goals as goal
@@ -15,7 +15,7 @@ pub returns-in-Some : goal.returns-in-Some
 unfolding there
 returns-in-Some c =
     let a = c.args in
-    let homes : ℕ → Home = home_at (state_of a.storage.now) (line_in a.lines.now) in
+    let homes : ℕ → Home = home_at (state_of a.storage.now) (number_in a.lines.now) in
     let word = a.address / 4 in
     let first : Some c.in-Some.at ≡ first_outside homes (homes word) (words_of a.address a.count) word =
     c.in-Some.ensures.first ∙ ap (λ h. first_outside homes h c.words_of-count.result word) c.home_at-first.ensures

@@ -10,8 +10,8 @@ returns g c =
     let g1 = c.put.new.self in
     let w2 = g.W.Write.contents c.put-2.new.writer in
     let g2 = c.put-2.new.self in
-    let t1 : List ℕ = codes "line,low_pages,low_taken,low_free,low_areas,low_largest" in
-    let t2 : List ℕ = codes ",high_pages,high_taken,high_free,high_areas,high_largest\n" in
+    let t1 : List ℕ = codes "line,low_pages,low_taken,low_free,low_areas,low_largest,low_could_get" in
+    let t2 : List ℕ = codes ",high_pages,high_taken,high_free,high_areas,high_largest,high_could_get\n" in
     (puts_both w0 w1 w2 g0 g1 g2 (t1) t2
     (c.put.ensures.puts)
     (c.put-2.ensures.puts))

@@ -41,9 +41,9 @@ returns-in-Ok-clause-detail g c = λ own cards.
     let second = c.put_why.new.gathered in
     let third = c.put_detail.new.gathered in
     let last = c.put_answer_at.new.gathered in
-    detail_written number own (bench_of c.args.session.bench).present asked c.args.definition old now then later new first second third last c.new-gathered.ensures
+    detail_written number own (bench_of c.args.session.bench).present asked c.args.definition c.args.bringer old now then later new first second third last c.new-gathered.ensures
     (some_begun (first_text number c.args.line) old now first second c.put_why.ensures.begins)
-    (subst (λ x. PutsDetail number own (bench_of x).present asked c.args.definition now then second third) c.bench-2.ensures
+    (subst (λ x. PutsDetail number own (bench_of x).present asked c.args.definition c.args.bringer now then second third) c.bench-2.ensures
     (c.put_detail.ensures.detail own
     (subst (λ (t : List ℕ). map (card_in t) c.args.place.now.ahead.places.lines.items ≡ map used own) (sym c.rest_from-text.ensures) cards)))
     c.in_ok-refused.ensures.some c.in-Ok.ensures

@@ -1,0 +1,17 @@
+use Rattle.std.proofs.Common.{◌≡◌, ◌<◌, ◌^◌, ℕ, List, map, take}
+use Rattle.macro_statements.specs.Requests.{Act}
+use Rattle.vsm_model.specs.declared.limits.Settings.{Settings}
+use Rattle.explain_areas.specs.Carried.{IsCarried}
+use Rattle.explain_findings.specs.Left.{asker, asker_ended, bytes_of, sum_bytes, sum_of, with_areas}
+use Rattle.explain_findings.specs.LeftTables.{IsPlaced, left_kept}
+use Rattle.explain_findings.proofs.left.LeftTable.add_areas.Given as goal
+
+abbrev pub invariant-loop-area : goal.invariant-loop-area
+invariant-loop-area l =
+    record {
+      placed : IsPlaced l.self;
+      left : (settings : Settings) (xs : List (ℕ × Act)) → IsCarried settings xs l.carried → (line : ℕ) → line < 2 ^ 32 →
+          left_kept l.self line
+          ≡ with_areas line (asker settings xs line) (asker_ended settings xs line) (take l.area-index l.areas) (left_kept l.initial.self line);
+      sum : sum_of l.self.sum ≡ record (sum_of l.initial.self.sum) { bytes = sum_bytes (map bytes_of (take l.area-index l.areas)) l.initial.self.sum.bytes };
+    }
