@@ -32,7 +32,7 @@ export function editorOf(parts, edited, chosen, refused) {
     }));
     const top = number => ABOVE + (number - 1) * line - area.scrollTop;
     marks.replaceChildren(...faults.filter(it => shown.includes(it.line)).map(it => make('div', {
-      class: it.text.startsWith('WARNING') ? 'warning' : null,
+      class: it.look,
       style: `top:${top(it.line)}px;left:calc(${LEFT - area.scrollLeft}px + ${it.column - 1}ch);width:${it.length}ch`
     })));
     for (const it of [numbers, replies]) it.style.transform = `translateY(${first * line - area.scrollTop}px)`;

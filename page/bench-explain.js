@@ -1,13 +1,13 @@
-// The panel that explains the present statement, and the faults of a script, by the module of vsm-explain.
+// The panel that explains the present statement, and what is wrong in a script, by the module of vsm-explain.
 import { bytesOf, gunzipped } from './bench-keep.js';
 import { runnerOf } from './bench-runner.js';
 import { latin } from './bytes.js';
-import { make } from './elements.js';
-import { placesIn, shell } from './explain-questions.js';
+import { make, withLinks } from './elements.js';
+import { findingsIn, shell } from './explain-questions.js';
 
 const SETTLING = 50; // milliseconds from a step until its questions are asked, so that those passed by aren't
 const MOST_SHOWN = 2 ** 20; // characters of an answer
-const MOST_FAULTS = 200, MOST_LINKS = 4000;
+const MOST_FAULTS = 200;
 const PARTS = ['why', 'who', 'areas'];
 const NOT_ASKED = 'No address is named here. You can ask about one, a register, a name or a subpool.';
 export const NO_RUN = { script: '', words: [], name: '' };
@@ -19,18 +19,10 @@ function shownText({ status, output, errors }) {
   return `${text.slice(0, MOST_SHOWN)}\n.. and ${(text.length - MOST_SHOWN).toLocaleString('en')} characters more.\n`;
 }
 
-/** A text in which each `line 6` leads to that line. */
-function withLinks(text, chosen) {
-  const pieces = text.split(/\b(line \d+)\b/);
-  if (pieces.length > MOST_LINKS) return [text];
-  return pieces.map((it, k) => k % 2
-    ? make('button', { type: 'button', class: 'to-line', onclick: () => chosen(+it.slice(5)) }, it) : it);
-}
-
 export class Explainer {
   /** `parts` are elements by name; `source` is the worker's text; `module` is the element that holds the module (JSON
-      of a text: gzip'd, in base64), or nothing; `found` is called with the faults of the script, and `chosen` with a
-      line that is clicked. */
+      of a text: gzip'd, in base64), or nothing; `found` is called with what is wrong in the script, and `chosen` with
+      a line that is clicked. */
   constructor(parts, source, module, found, chosen) {
     Object.assign(this, { parts, source, module, found, chosen, runner: null, ready: null, asking: null });
     this.isThere = module.textContent !== '';
@@ -46,7 +38,7 @@ export class Explainer {
 
   /** Takes another run: its script, options and name. Nothing of the one before is shown any longer. */
   begin(run) {
-    Object.assign(this, { run, place: null, hasFaults: false, isChecked: false });
+    Object.assign(this, { run, place: null, hasRun: false, isChecked: false });
     this.stop();
     this.found([]);
     this.say('There’s no statement to explain.');
@@ -69,9 +61,9 @@ export class Explainer {
     this.askSoon();
   }
 
-  /** Looks for faults, which the answers have. */
+  /** Looks for what is wrong in the script, once it has run. */
   check() {
-    this.hasFaults = true;
+    this.hasRun = true;
     this.askSoon();
   }
 
@@ -101,8 +93,8 @@ export class Explainer {
       list.push({ key: 'who', words: ['who', ...words, '-'], bytes, asked: own || undefined });
       list.push({ key: 'areas', words: ['report', '--areas', ...words, '-'], bytes });
     }
-    if (!this.isChecked && (this.hasFaults || panel.open && script))
-      list.push({ key: 'faults', words: ['check', ...words, '-'] });
+    if (!this.isChecked && this.hasRun && script)
+      list.push({ key: 'check', words: ['check', '--leaks', '--json', ...words, '-'] });
     return list;
   }
 
@@ -139,7 +131,7 @@ export class Explainer {
   told(message) {
     if (message.kind === 'fault') this.fail(message.why);
     else if (message.kind === 'end') this.showBusy();
-    else if (message.key === 'faults') this.showFaults(message);
+    else if (message.key === 'check') this.showFindings(message);
     else this.showAnswer(message);
   }
 
@@ -147,9 +139,9 @@ export class Explainer {
     this.say(`The module of vsm-explain can’t be used: ${why}.`);
   }
 
-  showFaults({ output }) {
+  showFindings({ status, output }) {
     this.isChecked = true;
-    this.found(placesIn(output, this.run.script));
+    this.found(status > 4 ? [] : findingsIn(output));
   }
 
   showAnswer(answer) {
@@ -185,7 +177,7 @@ export function partsOfPanel(byId) {
 export function faultsList(element, chosen) {
   let key = '';
   const itemOf = it => make('li', {}, make('button', {
-    type: 'button', class: it.text.startsWith('WARNING') ? 'warning' : null, onclick: () => chosen(it)
+    type: 'button', class: it.look, onclick: () => chosen(it)
   }, `line ${it.line}, column ${it.column}: ${it.text}`));
   return faults => {
     const shown = faults.slice(0, MOST_FAULTS), more = faults.length - shown.length;

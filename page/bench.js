@@ -10,6 +10,7 @@ import { runnerOf } from './bench-runner.js';
 import { editorText, faultOfScript, optionsIn } from './bench-script.js';
 import { latin, latinText } from './bytes.js';
 import { make } from './elements.js';
+import { FOUND } from './explain-questions.js';
 import { kindOf } from './replies.js';
 import { showRun } from './view.js';
 
@@ -53,10 +54,10 @@ class Bench {
       marks: byId('marks')
     };
     this.editor = editorOf(parts, () => this.edited(), line => this.goToLine(line), text => this.refusePaste(text));
-    this.faults = [];
+    Object.assign(this, { faults: [], findings: [] });
     this.listFaults = faultsList(byId('faults'), it => this.editor.select(it));
     this.explainer = new Explainer(
-      partsOfPanel(byId), data.explainer, byId('explain-module'), it => this.foundFaults(it),
+      partsOfPanel(byId), data.explainer, byId('explain-module'), it => this.found(it),
       line => this.goToLine(line)
     );
     byId('identity').textContent = data.identity.line;
@@ -331,8 +332,11 @@ class Bench {
     }
   }
 
-  foundFaults(faults) {
-    this.faults = faults;
+  /** Takes what check has found: what is left stands only at its statements, since it may be much. */
+  found(all) {
+    this.faults = all.filter(it => it.word !== 'LEFT');
+    this.findings = all.filter(it => FOUND.includes(it.word)).map(({ line, text }) => ({ line, text }));
+    this.view?.take(this.findings);
     this.showBeside();
   }
 
@@ -443,6 +447,7 @@ class Bench {
       revealed: line => this.editor.reveal(line) });
     if (this.result !== result) return view?.close();
     this.view = view;
+    view?.take(this.findings);
     if (!this.isTeaching) view?.go(this.place);
     this.showBeside();
   }
@@ -461,7 +466,7 @@ class Bench {
     this.sayEnding();
     if (status > 4) byId('status').classList.add('bad');
     this.markOld();
-    if (/^\d{7} FAULT /m.test(this.result.output)) this.explainer.check();
+    this.explainer.check();
   }
 
   /** Says why there was no run, or why it didn't end. */
@@ -638,7 +643,8 @@ class Bench {
     const { mapped, name } = this.result;
     if (!mapped) return this.note('There’s no picture to save', make('p', {}, 'Run the script first.'));
     const output = base64Of(await gzipped(mapped));
-    const told = { ...this.dataOf(this.result), output, program: this.data.identity.line };
+    const { findings, data: { identity } } = this;
+    const told = { ...this.dataOf(this.result), findings, output, program: identity.line };
     const title = make('title', {}, `${name} · vsm`).outerHTML;
     const data = `id="data">${JSON.stringify(told).replaceAll('<', '\\u003c')}`;
     const page = this.data.page.replace('<title></title>', () => title).replace('id="data">', () => data);

@@ -767,6 +767,7 @@ def try_same_page(page: BenchPage, folder: Path, program: str, trials: Trials) -
             page.put("examples", name, "change")
         page.ended()
         page.wait("document.querySelector('#picture .said strong')", 20)
+        page.wait("document.getElementById('explain').getAttribute('aria-busy') === 'false'", 20)
         page.js("""window.saved = null; URL.createObjectURL = (real => blob => {
             blob.text().then(it => { if (it.includes('id="data"')) window.saved ??= it; });
             return real.call(URL, blob); })(URL.createObjectURL)""")
@@ -777,6 +778,8 @@ def try_same_page(page: BenchPage, folder: Path, program: str, trials: Trials) -
         ours, theirs = page_data(page.js("window.saved")), page_data(view)
         for data in (ours, theirs):
             data.pop("name", None)
+            if not page.js("document.getElementById('explain-module').textContent"):
+                data.pop("findings", None)
         trials.want(f"the saved page of {name} has the data of vsm-view's", ours == theirs,
             [key for key in theirs if ours.get(key) != theirs[key]])
 

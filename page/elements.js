@@ -43,6 +43,16 @@ export function tag(run, subpool, { shared = false, own = false } = {}) {
     `SP ${subpool.number}${own ? '' : ` T${subpool.owner}`}`);
 }
 
+const MOST_LINKS = 4000;
+
+/** A text in which each `line 6` leads to that line. */
+export function withLinks(text, chosen) {
+  const pieces = text.split(/\b(line \d+)\b/);
+  if (pieces.length > MOST_LINKS) return [text];
+  return pieces.map((it, k) => k % 2
+    ? make('button', { type: 'button', class: 'to-line by', onclick: () => chosen(+it.slice(5)) }, it) : it);
+}
+
 /** A line drawing of 16 by 16, next to its button's label. */
 export const icon = (d, filled) => make(
   'svg', {class: filled ? 'icon filled' : 'icon', viewBox: '0 0 16 16', 'aria-hidden': 'true'},

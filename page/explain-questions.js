@@ -11,17 +11,17 @@ export function whoAsked(why) {
   return place?.[1] ?? '';
 }
 
-// An operand: up to a comma or a blank outside apostrophes and parentheses.
-const OPERAND = /^(?:'[^']*'|\([^()]*\)|[^ ,])*/;
+/** The words of what is found at a statement whose answer is right. */
+export const FOUND = ['OUTSIDE', 'STALE', 'PART', 'UNSET', 'LEFT'];
+const MILD = ['WARNING', 'PART', 'UNSET']; // words of what is only worth a look
 
-/** The places that `check` prints: line, column, text, and the number of characters to mark there. */
-export function placesIn(output, script) {
-  const lines = script.split('\n');
-  return [...output.matchAll(/^.*?:(\d+):(\d+): (.*)$/gm)].map(([, line, column, text]) => {
-    const rest = (lines[line - 1] ?? '').slice(column - 1);
-    const length = text.startsWith('NOT CARRIED OUT') ? rest.length : OPERAND.exec(rest)[0].length;
-    return { line: Number(line), column: Number(column), text, length: Math.max(1, length) };
-  });
+/** What `check --json` prints: each with its word, line, column and text, the number of characters to mark there, and
+    how it looks. */
+export function findingsIn(output) {
+  const rows = output.split('\n').slice(1).filter(Boolean).map(it => JSON.parse(it));
+  return rows.filter(it => it.kind === 'finding').map(({ word, line, column, end, text }) => ({
+    word, line, column, text, length: Math.max(1, end - column), look: MILD.includes(word) ? 'warning' : null
+  }));
 }
 
 /** An argument as a shell needs it. */

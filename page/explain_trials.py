@@ -6,8 +6,8 @@ Usage: page/explain_trials.py [FOLDER [VSM-EXPLAIN]]
     them too.
 
 In node the module has to print what the rows of tests/explain.d say. In the browser the panel has to show, of each
-statement of each lesson, what the command line prints; the faults of a script are marked with their hints; and the
-bench works without that module.
+statement of each lesson, what the command line prints, and the picture what check finds there; the faults of a script
+are marked with their hints; and the bench works without that module.
 """
 from __future__ import annotations
 
@@ -32,7 +32,7 @@ from bench_trials import ODD_SCRIPTS, PALE, WIDE, BenchPage, Node, attach, encod
 from bench_trials import run_all, try_made, workers  # noqa: E402
 from build import BuildFault  # noqa: E402
 from chromium import Browser  # noqa: E402
-from on_page import probed  # noqa: E402
+from on_page import CARD, TICKS, found_at, probed  # noqa: E402
 from trials import Programs, Trials  # noqa: E402
 
 DIST = TOP / "dist"
@@ -157,11 +157,17 @@ def wanted_question(answer: str, asked: str) -> bool:
 
 
 def try_statements(panel: Panel, name: str, script: bytes, words: list[str], output: bytes, trials: Trials) -> None:
-    """Compares what the panel shows of each statement of a run with what the command line prints."""
+    """Compares what the panel and the picture show of each statement of a run with what the command line prints."""
     ends = fronts(script)
-    for answer in [it for it in output.decode("latin-1").split("\n") if it and it[0] != " "]:
-        line, reply = int(answer[:7]), answer[8:]
+    answers = [it for it in output.decode("latin-1").split("\n") if it and it[0] != " "]
+    begins = [int(it[:7]) for it in answers]
+    found = found_at(panel.printed(["check", "--leaks", *words, "-"], script), begins) if begins else {}
+    panel.quiet()
+    trials.equal(f"{name}: ticks of what is found", panel.page.js(TICKS), len(found))
+    for line, answer in zip(begins, answers):
+        reply = answer[8:]
         panel.go(line)
+        trials.equal(f"{name}, line {line}: what is found", panel.page.js(CARD), found.get(line, []))
         shown, asked = panel.shown(), panel.asked()
         wanted = {"why": panel.printed(["why", *words, "-", str(line)], script),
                   "who": panel.printed(["who", *words, "-", *asked.split()], ends[line]) if asked else NOT_ASKED,
@@ -267,8 +273,9 @@ def rows_of_faults() -> list[Any]:
 
 
 def places_of(printed: str) -> list[str]:
-    """The lines of `check` as the page has them."""
-    return [re.sub(r"^.*?:(\d+):(\d+): ", r"line \1, column \2: ", it) for it in printed.splitlines()]
+    """The lines of `check` as the page lists them; what is left stands only at its statements."""
+    found = [re.sub(r"^.*?:(\d+):(\d+): ", r"line \1, column \2: ", it) for it in printed.splitlines()]
+    return [it for it in found if ": LEFT: " not in it]
 
 
 def try_faults(panel: Panel, trials: Trials) -> None:
@@ -320,27 +327,58 @@ def try_marks(panel: Panel, trials: Trials) -> None:
     trials.equal("mended, none is marked", (page.js(FAULTS), page.js(MARKS)), ([], []))
 
 
-def try_starting(panel: Panel, trials: Trials) -> None:
-    """The module is started when the panel is opened or a fault appears, and not before."""
+FINDINGS = b""" STORAGE OBTAIN,LENGTH=16,ADDR=P,SP=1
+ STORAGE OBTAIN,LENGTH=32,ADDR=Q,SP=1
+ POKE P,X'000102030405060708090A0B0C0D0E0F10'
+ PEEK Q,4
+ STORAGE RELEASE,LENGTH=16,                                            X
+               ADDR=P,SP=1
+ PEEK P,1
+ STORAGE RELEASE,LENGTH=8,ADDR=Q,SP=1
+"""
+
+
+def try_findings(panel: Panel, trials: Trials) -> None:
+    """What is found is shown without the panel, after each run; it leads to its lines. Not in the teacher's mode."""
     page = panel.page
     page.open()
     page.forget()
     page.open()
     attach(page, True)
-    page.put("examples", "first-steps.vsm", "change")
-    page.ended()
-    time.sleep(0.5)
-    quiet = workers(page)
+    page.run(FINDINGS)
+    panel.quiet()
+    trials.equal("workers with the panel closed", workers(page), 2)
+    attach(page, False)
+    try_found(panel, trials)
     panel.open()
     trials.want("opened, the panel explains", panel.shown()["why"].startswith("line "), panel.shown())
-    trials.equal("workers before and after the panel is opened", (quiet, workers(page)), (1, 2))
-    attach(page, False)
-    page.open()
-    attach(page, True)
-    page.run(WRONG)
-    page.wait(f"({FAULTS}).length === 2", 10)
-    trials.equal("a fault starts it too", workers(page), 2)
-    attach(page, False)
+    page.click("teacher")
+    page.browser.settle()
+    trials.equal("in the teacher's mode nothing is found", page.js(f"[{CARD}, {TICKS}]"), [[], 0])
+    page.click("teacher")
+    page.run(b" MAP\n")
+    panel.quiet()
+    trials.equal("after another run nothing is found", page.js(f"[{CARD}, {TICKS}]"), [[], 0])
+
+
+def try_found(panel: Panel, trials: Trials) -> None:
+    """In cards, over the slider, in the list, and for screen readers."""
+    page = panel.page
+    wanted = found_at(panel.printed(["check", "--leaks", "-"], FINDINGS), list(fronts(FINDINGS)))
+    words = {it.partition(":")[0] for texts in wanted.values() for it in texts}
+    trials.equal("all five words are found", words, {"OUTSIDE", "STALE", "PART", "UNSET", "LEFT"})
+    trials.equal("ticks", page.js(TICKS), len(wanted))
+    for line in fronts(FINDINGS):
+        panel.go(line)
+        trials.equal(f"line {line}: what is found", page.js(CARD), wanted.get(line, []))
+        spoken = page.js("document.querySelector('[aria-live=polite].unseen').textContent")
+        trials.want(f"line {line}: it's spoken", all(it in spoken for it in wanted.get(line, [])), spoken)
+    trials.equal("the list", page.js(FAULTS), places_of(panel.printed(["check", "-"], FINDINGS)))
+    panel.go(3)
+    page.js("document.querySelector('.said .finding .to-line').click()")
+    page.browser.settle()
+    shown = page.js("document.querySelector('.where').textContent")
+    trials.want("a line that was found leads there", shown.endswith("line 2"), shown)
 
 
 def try_teacher(panel: Panel, trials: Trials) -> None:
@@ -449,7 +487,7 @@ def try_module(module: Path, explain: Path, program: str, browser: Browser, tria
             panel = Panel(BenchPage(browser, path), program)
             run_all([lambda: try_lessons(panel, trials), lambda: try_questions(panel, trials),
                      lambda: try_sentences(panel, trials), lambda: try_faults(panel, trials),
-                     lambda: try_marks(panel, trials), lambda: try_starting(panel, trials),
+                     lambda: try_marks(panel, trials), lambda: try_findings(panel, trials),
                      lambda: try_teacher(panel, trials), lambda: try_long(panel, trials),
                      lambda: try_looks(panel, trials),
                      lambda: try_without(browser, nodes[1], folder, module, trials)], trials)

@@ -17,12 +17,14 @@ const TEXTS = [
   'Each row of the storage is a page of 4,096 bytes; its colour and number are those of its subpool, and T ' +
     'is the owner. A strong colour is taken, a faint one free, also for cells; thin lines separate areas that ' +
     'touch. An outline surrounds what the statement was granted, and a dot marks what it changed.',
-  'Over the slider are ticks at what was refused (long), answered 4 (low) and a step (high); the storage of the ' +
-    'whole run, a row for each page or some of them, the stronger the more of it is taken; and, on one scale, curves ' +
-    'of the bytes taken (filled), of the pages below (line) and above (dashes) the 16 MB line, and of the largest ' +
-    'free area (dots), with what each reaches. With many statements, each point has the greatest and the least value.',
-  'All of it is what vsm printed: a map before and after each statement, and PEEKs of what POKEs store. Only ' +
-    'which line obtained an area, and which statements are undone, is derived from the replies.',
+  'Over the slider are ticks at what was refused (long), answered 4 (low), a step (high) and what check found ' +
+    '(middle); the storage of the whole run, a row for each page or some of them, the stronger the more of it is ' +
+    'taken; and, on one scale, curves of the bytes taken (filled), of the pages below (line) and above (dashes) the ' +
+    '16 MB line, and of the largest free area (dots), with what each reaches. With many statements, each point has ' +
+    'the greatest and the least value.',
+  'All of it is what vsm printed: a map before and after each statement, and PEEKs of what POKEs store; and what ' +
+    'vsm-explain check finds. Only which line obtained an area, and which statements are undone, is derived from the ' +
+    'replies.',
 ];
 
 /** A switch for keys of one character: with speech input they may be in the way. */

@@ -16,7 +16,18 @@ READY = "document.querySelector('.where')?.textContent || document.querySelector
 STILL = {"prefers_reduced_motion": "reduce"}  # so there is nothing to wait for
 MOST_STEPS = 200  # of a page whose drawings are added up
 IN_PAGE = PAGE // UNIT  # doublewords
+CARD = "[...document.querySelectorAll('.said .finding')].map(it => it.textContent)"
+TICKS = "document.querySelectorAll('.ticks .finding').length"
+FOUND = re.compile(r"(?m)^.*?:(\d+):\d+: ((?:OUTSIDE|STALE|PART|UNSET|LEFT): .*)$")
 WIDE, ROWS = 64, 8  # of the chosen page, in doublewords
+
+
+def found_at(printed: str, begins: list[int]) -> dict[int, list[str]]:
+    """What `check --leaks` prints at statements, by their first lines."""
+    found: dict[int, list[str]] = {}
+    for line, text in FOUND.findall(printed):
+        found.setdefault(max(it for it in begins if it <= int(line)), []).append(text)
+    return found
 
 
 def probed(call: str) -> str:

@@ -2,7 +2,7 @@
 // them in node, joined with their imports.
 import assert from 'node:assert';
 import test from 'node:test';
-import { placesIn, shell, whoAsked } from './explain-questions.js';
+import { findingsIn, shell, whoAsked } from './explain-questions.js';
 import { meaningOf } from './meanings.js';
 import { bucketsOf, CourseRows } from './course.js';
 import { withoutRemarks } from './remarks.js';
@@ -217,18 +217,20 @@ test('who is asked about the bytes or the area of a statement, or about nothing'
   for (const [why, question] of Object.entries(asked)) assert.equal(whoAsked(why), question);
 });
 
-test('places of faults mark an operand, a word, or a dropped line', () => {
-  const script = ' STORAGE OBTAIN,LENGHT=8,SP=1\n REST\n';
-  const long = placesIn('a:1:2: VALUE: x\na:1:10: VALUE: x\na:1:22: OPERAND: x', " X'A, B',LOC=(E,24),(8,9");
-  assert.deepEqual(long.map(it => it.length), [7, 10, 1]);
-  const output = 'standard input:1:17: OPERAND: no operand of STORAGE OBTAIN; LENGTH?\n' +
-    'a:b 1:2:1: NOT CARRIED OUT: line 1 has 2:1: in column 72\nx:3:1: WARNING: a tab\n';
-  assert.deepEqual(placesIn(output, script), [
-    { line: 1, column: 17, text: 'OPERAND: no operand of STORAGE OBTAIN; LENGTH?', length: 8 },
-    { line: 2, column: 1, text: 'NOT CARRIED OUT: line 1 has 2:1: in column 72', length: 5 },
-    { line: 3, column: 1, text: 'WARNING: a tab', length: 1 }
+test('what check prints is read, and what is only worth a look has another look', () => {
+  const rows = [
+    { version: 1, command: 'check' },
+    { kind: 'finding', word: 'OPERAND', line: 1, column: 17, end: 25, text: 'OPERAND: no operand', counts: true },
+    { kind: 'more' },
+    { kind: 'finding', word: 'UNSET', line: 3, column: 7, end: 8, text: 'UNSET: nothing ..', counts: false, took: 2 }
+  ];
+  const output = rows.map(it => `${JSON.stringify(it)}\n`).join('');
+  assert.deepEqual(findingsIn(output), [
+    { word: 'OPERAND', line: 1, column: 17, text: 'OPERAND: no operand', length: 8, look: null },
+    { word: 'UNSET', line: 3, column: 7, text: 'UNSET: nothing ..', length: 1, look: 'warning' }
   ]);
-  assert.deepEqual(placesIn('', script), []);
+  assert.deepEqual(findingsIn('{"version":1,"command":"check"}\n'), []);
+  assert.deepEqual(findingsIn(''), []);
 });
 
 test('arguments are quoted for a shell', () => {

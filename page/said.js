@@ -1,6 +1,6 @@
 // The statement, its reply, and what that means; in the teacher's mode a question in place of a hidden answer.
 import { inSlices } from './course.js';
-import { count, make } from './elements.js';
+import { count, make, withLinks } from './elements.js';
 import { meaningOf } from './meanings.js';
 import { kindOf } from './replies.js';
 import { inColumns, shownLine } from './shown.js';
@@ -13,7 +13,8 @@ export function spoken(view) {
   const statement = view.textOfStatement(view.step), { reply } = view.run.statement(view.step);
   const answer =
     view.step > view.told ? 'The answer is hidden.' : `${reply}. ${meaningOf(reply, statement).meaning}`;
-  return `Statement ${view.step}. ${statement.split('\n')[0].trim()}. ${answer}`;
+  const found = view.foundAt(view.step).map(it => ` ${it}.`).join('');
+  return `Statement ${view.step}. ${statement.split('\n')[0].trim()}. ${answer}${found}`;
 }
 
 const LONG = 80; // characters of an answer that has smaller letters
@@ -79,7 +80,9 @@ export function saidPart(view) {
     const line = changedLine(view);
     line?.append(endOf(view.step));
     const look = `${kindOf(reply)}${reply.length > LONG ? ' long' : ''}`;
-    const told = [make('strong', { class: look }, reply), line, make('p', {}, meaning)];
+    const found = view.foundAt(view.step).map(
+      it => make('p', { class: 'finding' }, ...withLinks(it, chosen => view.toLine(chosen))));
+    const told = [make('strong', { class: look }, reply), line, ...found, make('p', {}, meaning)];
     return [...told.filter(Boolean), ...more ? [moreOf(view, more)] : []];
   }
   /** If the map's history isn't what the replies add up to, the page doesn't know all of vsm's answers. */

@@ -6,7 +6,8 @@ import { PAGE } from './map.js';
 import { kindOf } from './replies.js';
 
 const MOST_TICKS = 600, MOST_POINTS = 600;
-const SHAPES = { refused: '0v1', four: '.5v.5', step: '0v.45' }; // a tick's begin and length, by kind
+// A tick's begin and length, by kind.
+const SHAPES = { step: '0v.45', four: '.5v.5', finding: '.25v.5', refused: '0v1' };
 const ICONS = {
   first: 'M4 3v10M12.5 3l-5 5 5 5',
   back: 'M10.5 3l-5 5 5 5',
@@ -16,9 +17,9 @@ const ICONS = {
   last: 'M12 3v10M3.5 3l5 5-5 5',
 };
 
-/** Marks over the slider: refused, return code 4, and steps. In a long script a mark is for several statements, and is
-    the paler the fewer of them are of its kind. */
-function ticksOf(run, told) {
+/** Marks over the slider: refused, return code 4, steps, and what check found. In a long script a mark is for several
+    statements, and is the paler the fewer of them are of its kind. */
+function ticksOf({ run, told, findings, teaching }) {
   const svg = make('svg', {
     class: 'ticks',
     preserveAspectRatio: 'none',
@@ -27,16 +28,16 @@ function ticksOf(run, told) {
   });
   const each = Math.max(1, Math.ceil(run.steps / MOST_TICKS));
   for (let first = 1; first <= told; first += each) {
-    const kinds = Array.from(
-      { length: Math.min(each, told + 1 - first) }, (_, k) => kindOf(run.statement(first + k).reply)
-    );
-    for (const kind of ['step', 'four', 'refused']) {
+    const steps = Array.from({ length: Math.min(each, told + 1 - first) }, (_, k) => first + k);
+    const kinds = steps.map(it => kindOf(run.statement(it).reply));
+    if (!teaching) kinds.push(...steps.filter(it => findings.has(it)).map(() => 'finding'));
+    for (const [kind, shape] of Object.entries(SHAPES)) {
       const found = kinds.filter(it => it === kind).length;
       if (found)
         svg.append(make('path', {
           class: kind,
-          d: `M${first - .5 + (each - 1) / 2} ${SHAPES[kind]}`,
-          'stroke-opacity': Math.max(.25, found / kinds.length).toFixed(2)
+          d: `M${first - .5 + (each - 1) / 2} ${shape}`,
+          'stroke-opacity': Math.max(.25, found / steps.length).toFixed(2)
         }));
     }
   }
@@ -126,7 +127,7 @@ export function transportPart(view) {
     },
     'Teacher’s mode'
   );
-  let ticks = make('svg', { class: 'ticks' }), curves = make('svg', { class: 'ticks curves' });
+  let ticks = make('svg', { class: 'ticks' }), curves = make('svg', { class: 'ticks curves' }), drawn = [];
   let reach = make('div', { class: 'reach' });
   const course = coursePart(view, drawCurves), find = findPart(view);
   const element = make(
@@ -168,9 +169,10 @@ export function transportPart(view) {
     play.replaceChildren(icon(view.playing ? ICONS.stop : ICONS.play, true));
     teacher.setAttribute('aria-checked', String(view.teaching));
     course.draw();
-    if (ticks.dataset.told === String(told)) return;
-    const fresh = ticksOf(run, told);
-    fresh.dataset.told = told;
+    const key = [told, view.findings, view.teaching];
+    if (key.every((it, k) => it === drawn[k])) return;
+    drawn = key;
+    const fresh = ticksOf(view);
     ticks.replaceWith(fresh);
     ticks = fresh;
     drawCurves();

@@ -47,6 +47,7 @@ class View {
     Object.assign(this, { container, run, options, id: `run-${++made}` });
     Object.assign(this, { step: 0, told: run.steps, asked: 0, teaching: false, chosen: null, picked: null });
     Object.assign(this, { clock: null, drawing: null, noting: null, isMoreOpen: false, hasLetters: true });
+    this.findings = new Map();
     for (const act of ['play', 'ask', 'help']) this[act] = this[act].bind(this);
     this.dialog = helpDialog(this);
     this.asking = askingDialog(() => this.teach());
@@ -92,6 +93,17 @@ class View {
     const step = this.run.stepAt(number);
     if (!step) return text[0] === '*' ? '*' : '';
     return step <= this.told ? text : this.textOfStatement(step).split('\n')[number - this.run.linesOf(step)[0]] ?? '';
+  }
+
+  /** Takes what check has found, each with its line. */
+  take(findings) {
+    this.findings = Map.groupBy(findings, it => this.run.stepAt(it.line));
+    this.draw();
+  }
+
+  /** The texts of what was found at a step's statement; in the teacher's mode they'd tell what is still to come. */
+  foundAt(step) {
+    return this.teaching ? [] : (this.findings.get(step) ?? []).map(it => it.text);
   }
 
   listen() {
@@ -277,10 +289,11 @@ class View {
 
 /** Shows a run in an element, replacing its contents, and returns the view, whose close() ends it; null if a sentence
     is shown instead. `data` has `name`, `options` (arguments), `script` (text), `skipped` (the number of answers before
-    the first map), perhaps `question` (the lesson's), `bytes` (see Run) and `program` (its identity), and what vsm
-    printed for the script with inserted maps: `text`, or `output`, gzip'd and in base64. Options: `address` keeps the
-    statement in the page's address; `teacher` begins in the teacher's mode; `moved` is called with the view whenever
-    it's drawn, and `revealed` with a line that was looked up. */
+    the first map), perhaps `question` (the lesson's), `bytes` (see Run), `findings` (of check, each a `line` and a
+    `text`) and `program` (its identity), and what vsm printed for the script with inserted maps: `text`, or `output`,
+    gzip'd and in base64. Options: `address` keeps the statement in the page's address; `teacher` begins in the
+    teacher's mode; `moved` is called with the view whenever it's drawn, and `revealed` with a line that was looked up.
+    */
 export async function showRun(container, data, options = {}) {
   try {
     const lack = lackOf();
@@ -288,7 +301,7 @@ export async function showRun(container, data, options = {}) {
     const view = new View(container, await Run.of(data), options);
     if (options.teacher) view.teach(0);
     else if (options.address) view.followAddress();
-    view.draw();
+    view.take(data.findings ?? []);
     return view;
   } catch (fault) {
     apologise(container, fault);

@@ -19,7 +19,7 @@ import colours
 from bench import option_words
 from chromium import Browser
 from expected import Page, shown_line
-from on_page import READY, STILL, probed, try_drawings, try_page
+from on_page import CARD, READY, STILL, TICKS, found_at, probed, try_drawings, try_page
 from sight import try_sight
 from trials import Programs, Trials
 from vsmtools.lines import split_lines
@@ -179,6 +179,22 @@ def try_taken(trials: Trials, browser: Browser, script: Path, explain: str) -> N
     trials.equal("what is still taken, by line", browser.evaluate(probed("taken()")), wanted)
 
 
+def try_found(trials: Trials, browser: Browser, script: Path, page: Page, explain: str) -> None:
+    """At each step of a lesson, the card has what check finds there; ticks show where. Not in the teacher's mode."""
+    words = [explain, "check", "--leaks", *option_words(script), str(script)]
+    told = subprocess.run(words, stdin=subprocess.DEVNULL, capture_output=True, timeout=MADE_SECONDS).stdout.decode()
+    begins = [page.line_of(it) for it in page.shown]
+    wanted = found_at(told, begins)
+    steps = list(range(1, page.steps + 1))
+    found = browser.evaluate(probed(f"at({steps}, () => {CARD})"))
+    trials.equal("what is found at each step", found, [wanted.get(it, []) for it in begins])
+    trials.equal("ticks of what is found", browser.evaluate(TICKS), len(wanted))
+    browser.evaluate("document.querySelector('.teacher').click()")
+    browser.settle()
+    trials.equal("in the teacher's mode nothing is found", browser.evaluate(f"[{CARD}, {TICKS}]"), [[], 0])
+    browser.evaluate("document.querySelector('.teacher').click()")
+
+
 def try_ends(trials: Trials, browser: Browser, page: Path) -> None:
     """What the card of an obtain says of its end."""
     ends = ("Released by line 7.", "Never released.", "Partly released by line 6.", "Undone by line 5.")
@@ -317,6 +333,7 @@ def try_all(trials: Trials, browser: Browser, programs: Programs) -> None:
         for page, script in zip(pages, scripts):
             try_page(trials, browser, page)
             try_taken(trials, browser, script, programs.explain)
+            try_found(trials, browser, script, Page.of(page), programs.explain)
             try_sight(trials, browser, Page.of(page))
         script = folder / "ends.vsm"
         script.write_bytes(ENDS)

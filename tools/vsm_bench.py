@@ -50,14 +50,14 @@ class Answer(NamedTuple):
     @property
     def kept(self) -> Optional[int]:
         """How many changes are kept after a step."""
-        return int(self.text[5:]) if self.text.startswith("KEPT=") else None
+        return self._number("KEPT", 10) if self.text.startswith("KEPT=") else None
 
-    def _value(self, key: str) -> Optional[str]:
-        found = re.search(r"(?:^| )%s=(\w+)" % key, self.text)
+    def _value(self, key: str, form: str) -> Optional[str]:
+        found = re.search("(?:^| )%s=(%s)(?: |$)" % (key, form), self.text)
         return found[1] if found and not self.is_refused else None
 
     def _number(self, key: str, base: int) -> Optional[int]:
-        value = self._value(key)
+        value = self._value(key, "[0-9]{1,10}" if base == 10 else "[0-9A-F]{8}")
         return None if value is None else int(value, base)
 
     rc = property(lambda it: it._number("RC", 10), doc="The return code.")
@@ -73,7 +73,7 @@ class Answer(NamedTuple):
     @property
     def data(self) -> Optional[bytes]:
         """The bytes that PEEK shows."""
-        value = self._value("D")
+        value = self._value("D", "(?:[0-9A-F]{2})+")
         return None if value is None else bytes.fromhex(value)
 
     @property

@@ -17,6 +17,7 @@ from protocols import check_dap, check_lsp
 TOOLS = Path(__file__).resolve().parents[1]
 SECONDS = 60
 Message = dict[str, Any]
+FOUND = {"OUTSIDE", "STALE", "PART", "UNSET", "LEFT"}    # the codes of what a check finds
 # What no client should send.
 BAD = [b"Content-Length: x\r\n\r\n{}", b"Content-Length: 99999999999\r\n\r\n", b"Content-Length: 2\r\n\r\n[]",
        b"rubbish\r\n\r\n", b"Content-Length: 4\r\n\r\n{\xff}}", b"Content-Length: 5\r\n\r\n{\"a\"}", b"\r\n\r\n",
@@ -270,12 +271,14 @@ class Edited(Wire):
         self.notify("textDocument/didOpen", {"textDocument": item})
         return self.diagnostics(uri)
 
-    def diagnostics(self, uri: str, version: Optional[int] = None) -> list[Message]:
+    def diagnostics(self, uri: str, version: Optional[int] = None, is_checked: bool = False) -> list[Message]:
+        """The next diagnostics of a script, without what a check has found, or with it."""
         while True:
             for k, it in enumerate(self.told):
                 params = it.get("params", {})
                 if it.get("method") == "textDocument/publishDiagnostics" and params["uri"] == uri \
-                        and version in (None, params.get("version")):
+                        and version in (None, params.get("version")) \
+                        and is_checked == any(one["code"] in FOUND for one in params["diagnostics"]):
                     del self.told[k]
                     return params["diagnostics"]
             self.hear()

@@ -14,6 +14,32 @@ WIDER = ["--low", "2048", "--high", "1024", "--history", "16"]
 OTHERS = (0, 1, 15)     # registers that aren't brought back
 
 
+def map_lines(shown: maps.Map) -> list[str]:
+    """The lines of a map, as vsm prints them."""
+    lines: list[str] = []
+    for task in shown.tasks:
+        lines.append(" TASK %d PARENT %d%s" % (task.number, task.parent, " CURRENT" if task.is_current else ""))
+        for start in (0, 8):
+            words = task.registers[start:start + 8]
+            lines.append("  R%d" % start + "".join(" %08X" % word for word in words))
+    for subpool in shown.subpools:
+        lines.append(" SUBPOOL %d OWNER %d SHARERS %s" % (subpool.number, subpool.owner, maps.sharers(subpool)))
+        lines += ["  EXTENT %08X %08X" % (it.start, it.length) for it in subpool.extents]
+        lines += ["  FREE %08X %08X" % (it.start, it.length) for it in subpool.free]
+    for pool in shown.cell_pools:
+        lines.append(" CELLPOOL %s SUBPOOL %d OWNER %d SIZE %d PRIMARY %d SECONDARY %d LOC %d%s" % (
+            pool.name, pool.subpool, pool.owner, pool.size, pool.primary, pool.secondary, pool.location,
+            "" if pool.header is None else " HDR '%s'" % pool.header))
+        lines += ["  EXTENT %08X %08X" % (it.start, it.length) for it in pool.extents]
+        lines += ["  FREECELL %08X" % cell for cell in pool.free_cells]
+    lines.append(" PAGES LOW %d OF %d HIGH %d OF %d" % (
+        shown.low_assigned, shown.low_pages, shown.high_assigned, shown.high_pages))
+    lines.append(" BYTES TAKEN %d FREE %d" % (shown.taken, shown.free))
+    lines += [" NAME %s %08X" % (it.name, it.word) for it in shown.names]
+    lines.append(" HISTORY KEPT %d OF %d" % (shown.kept, shown.history))
+    return lines
+
+
 class Plain:
     """What a person writes: areas, cell pools and tasks that are made, used, and mostly released again."""
 

@@ -27,7 +27,7 @@ from vsmtools.debugging import Adapter
 from vsmtools.lines import is_continued, options_for, statements
 from vsmtools.maps import Map, parse_map
 from vsmtools.rpc import Stream, parsed
-from vsmtools.walking import Script
+from vsmtools.walking import History, Lost, Script, State
 
 EXAMPLES = sorted((TOP / "examples").glob("*.vsm"))
 FIRST = TOP / "examples" / "first-steps.vsm"
@@ -505,6 +505,9 @@ def test_a_bad_message_is_said_and_passed_over(client: Debugged, data: bytes) ->
 def test_wrong_requests_are_refused_and_it_lives(client: Debugged, tmp_path: Path) -> None:
     assert client.refused("threads") == "initialize comes first"
     client.initialize()
+    client.open[0] = "threads"
+    client.write({"seq": True, "type": "request", "command": "threads"})    # the answer has 0
+    assert not client.response(0)["success"]
     binary = written(tmp_path, "\x00\x01\udcff" * 1000 + "\n" + " MAP\udcfe\n" * 3)
     wrong = [("variables", {"variablesReference": 5}), ("nothing", {}), ("launch", {}), ("launch", {"program": "/"}),
              ("launch", {"program": "/nowhere"}), ("launch", {"program": "/dev/stdin"}), ("launch", {"program": str(FIRST), "vsm": "/nowhere"}),
@@ -702,6 +705,13 @@ def test_vsm_killed_beneath_it(client: Debugged) -> None:
     os.kill(client.children()[0], signal.SIGKILL)
     assert "ended by signal 9" in client.refused("evaluate", expression="map", context="repl")
     assert client.until("terminated")
+
+
+@pytest.mark.parametrize("here, answer", [(History(State()), "KEPT=1"), (History(State(), 2), "KEPT=1")])
+def test_a_step_to_a_state_that_is_none_ends_the_walk(here: History, answer: str) -> None:
+    """A program in the place of vsm may answer it."""
+    with pytest.raises(Lost, match=answer):
+        here.after(bench.Answer(1, answer), (), 9)
 
 
 @pytest.mark.parametrize("status", [0, 16])

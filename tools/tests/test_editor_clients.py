@@ -115,7 +115,7 @@ def test_neovim(trial: Callable[..., None], vsm: str, tmp_path: Path) -> None:
         path.write_bytes(data)
         words = ["check", *options_for("", data), str(path)]
         said = bench.run_anyhow(bench.find_explain(vsm), words, b"").output.decode()
-        found = re.findall(r"(?m)^.*?\.vsm:(\d+:\d+: (?!NOT CARRIED OUT|WARNING|ABEND|REFUSED|OUTSIDE|STALE|PART).*)", said)
+        found = re.findall(r"(?m)^.*?\.vsm:(\d+:\d+: (?!NOT CARRIED OUT|WARNING|ABEND|REFUSED|OUTSIDE|STALE|PART|UNSET|LEFT:).*)", said)
         path.with_suffix(".vsm.wanted").write_text("".join(it + "\n" for it in found))
         files.append(str(path))
     words = ["nvim", "--headless", "-u", configuration("init.lua", tmp_path), "-i", "NONE", "-c", "luafile neovim.lua"]
@@ -123,7 +123,7 @@ def test_neovim(trial: Callable[..., None], vsm: str, tmp_path: Path) -> None:
 
 
 def test_eglot(trial: Callable[..., None], tmp_path: Path) -> None:
-    for name in ("refusals.vsm", "bytes-and-names.vsm"):
+    for name in ("refusals.vsm", "bytes-and-names.vsm", "overlay.vsm"):
         shutil.copy(EXAMPLES / name, tmp_path)
     trial([*EMACS, configuration("init.el", tmp_path), "-l", "eglot.el", tmp_path], judge_lsp, "eglot")
 

@@ -10,9 +10,9 @@ from typing import Callable, Iterable
 import pytest
 import stored
 from conftest import TOP, loaded, one_line
-from load_scripts import KINDS, map_of, told
+from load_scripts import KINDS, map_lines, map_of, told
 
-from vsmtools import bench, maps
+from vsmtools import bench
 from vsmtools.lines import options_for
 from vsmtools.maps import HIGH_START, LOW_START, PAGE, Area, CellPool, Map, Name, Subpool, Task
 
@@ -147,7 +147,7 @@ def hand_map(them: list[Task], subpools: list[Subpool], pools: Iterable[CellPool
              for is_high in (False, True)]
     free = sum(area.length for it in subpools for area in it.free)
     shown = Map(them, subpools, list(pools), pages[0], 16, pages[1], 16, sum(pages) * PAGE - free, free, list(names))
-    return "".join(line + "\n" for line in maps.map_lines(shown)).encode()
+    return "".join(line + "\n" for line in map_lines(shown)).encode()
 
 
 def test_a_map_by_hand_without_registers(run: Callable, vsm: str) -> None:

@@ -15,15 +15,14 @@ from typing import Any, Callable, Iterator
 import pytest
 from conftest import TOP
 import editors
-from editors import BAD, LIES, Edited, Message, damaged_value, framed
+from editors import BAD, FOUND, LIES, Edited, Message, damaged_value, framed
 from test_damaged import SCRIPTS, damaged
 from test_dap import Expected, generated
 
 from vsmtools import bench, language, listing, manuals
-from vsmtools.command import Fault
 from vsmtools.documents import Document
 from vsmtools.lines import options_for, statements
-from vsmtools.rpc import Code
+from vsmtools.rpc import WRONG, Code
 from vsmtools.tracking import world_at
 from vsmtools.words import FORMS, KEYWORDS
 
@@ -85,7 +84,7 @@ def test_faults_are_at_the_columns_that_check_says(client: Edited, explain: str,
         words = [explain, "check", *options_for("", text), str(path)]
         said = bench.run_anyhow(words[0], words[1:], b"").output.decode()
         lines, wanted = text.split(b"\n"), set()
-        for line, column, rest in re.findall(r":(\d+):(\d+): (?!NOT CARRIED OUT|ABEND|REFUSED|OUTSIDE|STALE|PART)(.*)", said):
+        for line, column, rest in re.findall(r":(\d+):(\d+): (?!NOT CARRIED OUT|ABEND|REFUSED|OUTSIDE|STALE|PART|UNSET|LEFT:)(.*)", said):
             # An editor has no columns after a line's end, and none within a letter.
             before = lines[int(line) - 1][:int(column) - 1].decode("utf-8", "ignore").encode()
             wanted.add("%s:%d: %s" % (line, len(before) + 1, rest))
@@ -161,7 +160,7 @@ def test_a_listing_is_read() -> None:
             b'"pool":"C","address":28672}\n')
     found = listing.parse(head + rows)
     assert found.warnings == [listing.Mark(1, 0, 0, "on the file")]
-    assert found.faults == [listing.Mark(2, 16, 24, "no operand; LENGTH?", "OPERAND", "LENGTH")]
+    assert found.faults == [listing.Mark(2, 16, 24, "no operand; LENGTH?", "OPERAND", "LENGTH")] and found.found == []
     assert found.faults[0].message == "OPERAND: no operand; LENGTH?"
     assert found.dropped == [listing.Mark(3, 0, 8, "NOT CARRIED OUT")]
     assert [(*it.extent, it.text, it.cause, it.name, it.word, it.pool, it.address) for it in found.answers] == [
@@ -170,8 +169,123 @@ def test_a_listing_is_read() -> None:
     for wrong in (b"", b"{}\n", head[:-1] + head, head + b"7\n", head + b'{"kind":"fault"}\n',
                   head + b'{"kind":"answer"\n', b'{"version":2,"command":"list"}\n', b"      1   MAP\n",
                   head + b"\xff\n"):
-        with pytest.raises(Fault, match="another form"):
+        with pytest.raises(WRONG):
             listing.parse(wrong)
+
+
+CHECK = '{"version":1,"command":"check"}\n'
+OUTSIDE = ('{"kind":"finding","word":"OUTSIDE","line":1,"column":7,"end":8,"text":"OUTSIDE: 00006018 is in the area of '
+           'line 2","counts":true,"took":2}\n')
+
+
+def test_what_a_check_says_is_read() -> None:
+    """Only what a listing doesn't say; unknown fields, kinds and words are passed over, other versions are a fault."""
+    rows = OUTSIDE + ('{"kind":"finding","word":"VALUE","line":1,"column":7,"end":8,"text":"VALUE: no number"}\n'
+                      '{"kind":"finding","word":"MORE","line":1}\n{"kind":"more"}\n'
+                      '{"kind":"finding","word":"LEFT","line":9,"column":2,"end":9,"text":"LEFT: 8 bytes at .."}\n')
+    assert listing.findings((CHECK + rows).encode()) == [
+        listing.Mark(1, 6, 7, "00006018 is in the area of line 2", "OUTSIDE"), listing.Mark(9, 1, 8, "8 bytes at ..", "LEFT")]
+    for wrong in ("", "{}\n", '{"version":1,"command":"list"}\n', CHECK + "7\n", CHECK + CHECK, "script.vsm:1:1: MISSING\n",
+                  CHECK + '{"kind":"finding","word":"PART"}\n', CHECK + OUTSIDE.replace(":7,", ':"7",')):
+        with pytest.raises(WRONG):
+            listing.findings(wrong.encode())
+
+
+# Bytes after an area's end and that nothing has stored, an area that is released in part and by an old name, and
+# others that are left.
+FINDINGS = """ STORAGE OBTAIN,LENGTH=16,ADDR=P,SP=1
+ STORAGE OBTAIN,LENGTH=32,ADDR=Q,SP=1
+ POKE P,X'000102030405060708090A0B0C0D0E0F10'
+ PEEK Q,4
+ STORAGE RELEASE,LENGTH=16,ADDR=P,SP=1
+ PEEK P,1
+ STORAGE RELEASE,LENGTH=8,ADDR=Q,SP=1
+"""
+
+
+def test_what_a_check_finds_is_shown(client: Edited, explain: str, tmp_path: Path) -> None:
+    """After the listing, which it adds to; at the places that check --leaks names, also in lessons."""
+    client.begin(UTF8)
+    path, words = tmp_path / "script.vsm", set()
+    for text in [FINDINGS, FINDINGS.replace("ADDR=P", "RELATED='é€😀',ADDR=P"), *(it.read_text() for it in EXAMPLES)]:
+        path.write_text(text)
+        said = bench.run_anyhow(explain, ["check", "--leaks", *options_for("", text.encode()), str(path)], b"").output
+        wanted = sorted(re.findall(r"(?m)^.*?:(\d+:\d+: (?:%s): .*)$" % "|".join(FOUND), said.decode()))
+        listed = client.edit(path.as_uri(), text)
+        assert not [it for it in listed if it["code"] in FOUND]
+        checked = client.diagnostics(path.as_uri(), is_checked=True) if wanted else listed
+        found = [it for it in checked if it["code"] in FOUND]
+        assert wanted == sorted("%d:%d: %s" % (it["range"]["start"]["line"] + 1, it["range"]["start"]["character"] + 1,
+                                               it["message"]) for it in found)
+        assert [it for it in checked if it not in found] == listed    # each of them once
+        for it in found:
+            assert it["severity"] == (2 if it["code"] in ("OUTSIDE", "STALE") else 4) and "tags" not in it
+            begin, end = it["range"]["start"], it["range"]["end"]
+            assert begin["line"] == end["line"] and begin["character"] < end["character"]
+        words |= {it["code"] for it in found}
+    assert words == FOUND
+
+
+def checking(tmp_path: Path, explain: str, act: str) -> str:
+    """A vsm-explain that does something else for `check`, and counts the times."""
+    program = tmp_path / "explain"
+    program.write_text("#!/bin/sh\n[ \"$1\" = check ] || exec '%s' \"$@\"\necho $$ >> '%s/checks'\n%s\n"
+                       % (explain, tmp_path, act))
+    program.chmod(0o755)
+    return str(program)
+
+
+def checks(tmp_path: Path, count: int) -> list[int]:
+    """The processes that were asked for a check, once there are that many."""
+    path, end = tmp_path / "checks", time.monotonic() + 60
+    while len(found := path.read_text().split() if path.exists() else []) < count:
+        assert time.monotonic() < end, found
+        time.sleep(0.02)
+    return [int(it) for it in found]
+
+
+def test_a_check_comes_half_a_second_after_the_last_key(vsm: str, explain: str, tmp_path: Path) -> None:
+    """Not after each, and later than the listing; one that is overtaken ends, and says nothing."""
+    client = Edited(vsm, checking(tmp_path, explain, "cat >/dev/null; echo '%s'; sleep 100" % (CHECK + OUTSIDE).strip()))
+    client.begin()
+    assert client.edit(URI, " MAP\n") == []
+    first = checks(tmp_path, 1)
+    for version in range(2, 12):
+        client.change(URI, version, {"text": " MAP\n" * version})
+        time.sleep(0.1)
+    last = time.monotonic()
+    assert client.diagnostics(URI, 11) == [] and not os.path.exists("/proc/%d" % first[0])
+    assert len(checks(tmp_path, 1)) == 1    # a listing follows after 0.2 seconds
+    second = checks(tmp_path, 2)
+    assert time.monotonic() - last > 0.3
+    client.change(URI, 12, {"text": " MAPS\n"})
+    assert len(client.diagnostics(URI, 12)) == 1 and client.told == []
+    checks(tmp_path, 3)
+    assert not os.path.exists("/proc/%d" % second[1])
+    client.finish()
+
+
+def test_a_vsm_explain_without_such_a_check(vsm: str, explain: str, tmp_path: Path) -> None:
+    """It ends with status 16, and all is as the listing has it."""
+    client = Edited(vsm, checking(tmp_path, explain, "echo \"vsm-explain: no option '--json'\" >&2; exit 16"))
+    client.begin()
+    assert len(client.edit(URI, FINDINGS + " FOO\n")) == 1 and checks(tmp_path, 1)
+    assert client.at("hover", URI, 3, 6)["contents"]["value"] == "Q = 00006010 by line 2" and client.told == []
+    client.change(URI, 2, {"text": " FOO\n"})
+    assert len(client.diagnostics(URI, 2)) == 1 and client.told == [] and checks(tmp_path, 2)
+    client.finish()
+
+
+@pytest.mark.parametrize("act, said", [
+    ("kill -9 $$", "vsm-explain ended by signal 9"), ("echo no; exit 8", "no"), ("exec cat", "another form")])
+def test_a_check_that_fails_is_reported_after_what_the_listing_says(
+        vsm: str, explain: str, tmp_path: Path, act: str, said: str) -> None:
+    client = Edited(vsm, checking(tmp_path, explain, act))
+    client.begin()
+    listed = client.edit(URI, " FOO\n")
+    *rest, last = client.diagnostics(URI)
+    assert rest == listed and (last["severity"], last["code"]) == (1, "settings") and said in last["message"]
+    client.finish()
 
 
 def test_quick_fixes(client: Edited) -> None:
@@ -605,6 +719,17 @@ def test_vsm_explain_killed_beneath_it(vsm: str, explain: str) -> None:
     client.finish()
 
 
+def test_a_change_that_is_only_half_right_ends_the_listing_of_the_text_before(vsm: str, explain: str) -> None:
+    client = Edited(vsm, explain)
+    client.begin()
+    item = {"uri": URI, "languageId": "vsm", "version": 1, "text": " FOO\n" * 50_000}
+    client.notify("textDocument/didOpen", {"textDocument": item})
+    client.started()
+    client.change(URI, 2, {"text": " MAP\n"}, {"text": 7})
+    assert client.diagnostics(URI) == []
+    client.finish()
+
+
 def test_no_program_beneath_it(vsm: str, explain: str, tmp_path: Path) -> None:
     """A program that went away, says something else or never ends is reported in the script's first line, or to the
     request."""
@@ -612,7 +737,11 @@ def test_no_program_beneath_it(vsm: str, explain: str, tmp_path: Path) -> None:
     shutil.copy(explain, program)
     client = Edited(vsm, str(program))
     client.begin()
-    for text in ("", "#!/bin/sh\nexit 8\n", "#!/bin/sh\nexec cat\n", "#!/bin/sh\nexec yes MAP\n"):
+    lists = "#!/bin/sh\necho '{\"version\":1,\"command\":\"list\"}'\necho '%s'\n"
+    beyond = '{"kind":"answer","first":9,"last":9,"answer":"ABEND S878"}'
+    cut = '{"refused":false,\n{"kind":"answer","first":1,"last":1,"answer":"REFUSED NAME"}'
+    for text in ("", "#!/bin/sh\nexit 8\n", "#!/bin/sh\nexec cat\n", "#!/bin/sh\nexec yes MAP\n",
+                 lists % beyond, lists % cut):
         program.unlink(missing_ok=True)
         if text:
             program.write_text(text)
@@ -621,7 +750,7 @@ def test_no_program_beneath_it(vsm: str, explain: str, tmp_path: Path) -> None:
         assert [(it["severity"], it["code"]) for it in found] == [(1, "settings")], text
         assert "explain" in found[0]["message"], (text, found)
         where = {"textDocument": {"uri": URI}, "position": {"line": 0, "character": 1}}
-        assert text.endswith("cat\n") or client.error("textDocument/hover", where) == Code.FAILED
+        assert text.endswith(("cat\n", "'\n")) or client.error("textDocument/hover", where) == Code.FAILED
     client.finish()
 
 

@@ -296,6 +296,12 @@ def test_a_line_of_a_megabyte_is_refused_at_once(vsm: str, text: str, piece: str
     stepped(lambda: features.actions(None, document, where, 1))    # type: ignore[arg-type]
 
 
+def test_a_long_file_of_comments_is_passed_over_at_once() -> None:
+    prompt, start = Prompt(SimpleNamespace(show=print, log=[])), time.process_time()    # type: ignore[arg-type]
+    prompt.load("long", b"* c\n" * 200_000, None)
+    assert len(prompt.bench.log) == 200_000 and time.process_time() - start < 5
+
+
 def refuse(_lines: object) -> None:
     raise Fault("short enough")
 

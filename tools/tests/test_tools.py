@@ -13,6 +13,7 @@ from typing import Callable
 import pytest
 import stored
 from conftest import SECONDS, TOOLS, TOP, one_line
+from load_scripts import map_lines
 
 from vsmtools import bench, lines, maps
 from vsmtools.command import Fault
@@ -56,7 +57,9 @@ def test_a_missing_vsm(run: Callable, tool: str, program: str) -> None:
 
 @pytest.mark.parametrize("tool", RUNNING)
 def test_a_vsm_that_is_none(run: Callable, tool: str, tmp_path: Path) -> None:
-    for text in (b"#!/bin/sh\nexit 3\n", b"#!/bin/sh\necho hello\n", b"#!/bin/sh\nkill -9 $$\n", b"\0\0\0\0"):
+    for text in (b"#!/bin/sh\nexit 3\n", b"#!/bin/sh\necho hello\n", b"#!/bin/sh\nkill -9 $$\n", b"\0\0\0\0",
+                 b"#!/bin/sh\nexit 0\n", b"#!/bin/sh\nwhile read line; do echo; done\n",
+                 b"#!/bin/sh\nread line; echo 0000001 KEPT=x\n"):
         path = tmp_path / "vsm"
         path.write_bytes(text)
         path.chmod(0o755)
@@ -145,7 +148,7 @@ def test_maps_are_read_and_written_alike(vsm: str) -> None:
         done = bench.run_anyhow(vsm, options, script)
         for answer in done.answers if done.status in (0, 4) else []:
             if answer.is_map:
-                assert maps.map_lines(maps.parse_map(answer.rest)) == list(answer.rest), name
+                assert map_lines(maps.parse_map(answer.rest)) == list(answer.rest), name
                 compared += 1
     assert compared > 80
 
@@ -210,6 +213,12 @@ def test_what_an_answer_has(vsm: str) -> None:
         (4, None, None, None, None, None), (None,) * 6]
     shown = got[-1].map
     assert shown and shown.tasks[0].number == 1 and got[0].map is None
+
+
+def test_an_answer_of_another_form_has_no_values() -> None:
+    for text in ("KEPT=", "KEPT=x", "RC=x A=zz L=8", "RC=0x", "T=" + "9" * 5000, "D=0", "D=zz"):
+        it = bench.Answer(1, text)
+        assert (it.rc, it.address, it.length, it.task, it.kept, it.data) == (None,) * 6, text
 
 
 @pytest.mark.parametrize("words", [["bash", ".ci/run"], ["tests/cited"], ["tests/lint"]])

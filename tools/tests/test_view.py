@@ -126,6 +126,22 @@ def test_a_part_behind_all(program: Path) -> None:
     assert made(program, b"* A\n")["skipped"] == 0
 
 
+def test_what_a_check_finds_is_in_the_page(program: Path) -> None:
+    """If a vsm-explain is next to vsm; only what a reply doesn't tell."""
+    explain = program.with_name("vsm-explain")
+    rows = ['{"version":1,"command":"check"}', *(
+        '{"kind":"finding","word":"%s","line":%d,"column":2,"end":3,"text":"%s: line 1"}' % (it, k, it)
+        for k, it in enumerate(("OPERATION", "STALE", "LEFT"), 1))]
+    explain.write_text("#!/bin/sh\necho \"$*\" > '%s/asked'\necho '%s'\n" % (program.parent, "\n".join(rows)))
+    explain.chmod(0o755)
+    assert made(program, b" A\n", "--low", "16")["findings"] == [
+        {"line": 2, "text": "STALE: line 1"}, {"line": 3, "text": "LEFT: line 1"}]
+    assert (program.parent / "asked").read_text() == "check --leaks --json --low 16\n"
+    for other in ("echo no option >&2; exit 16", "echo '%s'; kill -9 $$" % rows[0], "exec cat"):
+        explain.write_text("#!/bin/sh\n%s\n" % other)
+        assert made(program, b" A\n")["findings"] == []
+
+
 def test_options_go_to_vsm(program: Path) -> None:
     data = made(program, b" A\n", "--high", "96", "--low=64", "--residence", "31", "--history", "9")
     assert data["options"] == ["--low", "64", "--high", "96", "--residence", "31", "--history", "9"]

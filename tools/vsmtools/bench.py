@@ -226,7 +226,7 @@ class Partner:
         except (OSError, ValueError):
             raise self.end() from None
         end = time.monotonic() + self.seconds
-        answer = answers(self._line(end))[0]
+        answer = (answers(self._line(end)) or [Answer(0, "")])[0]
         if answer.line != first:
             raise Fault("%s answered line %d where line %d was asked" % (self.program, answer.line, first))
         rest: list[str] = []

@@ -27,8 +27,7 @@ SUPPORTED = (
     "EvaluateForHovers", "ReadMemoryRequest", "WriteMemoryRequest", "DataBreakpoints", "DataBreakpointBytes",
     "ExceptionInfoRequest", "BreakpointLocationsRequest")
 CAPABILITIES = {
-    **{"supports" + it: True for it in SUPPORTED}, "supportTerminateDebuggee": True,
-    "exceptionBreakpointFilters": [
+    **{"supports" + it: True for it in SUPPORTED}, "supportTerminateDebuggee": True, "exceptionBreakpointFilters": [
         {"filter": it, "label": "answers " + it, "default": it == "FAULT"} for it in FILTERS]}
 
 
@@ -66,7 +65,7 @@ class Adapter:
     def respond(self, request: rpc.Message, is_good: bool, **more: Any) -> None:
         self.answered = request
         number = request.get("seq")
-        self.send({"type": "response", "request_seq": number if isinstance(number, int) else 0, "success": is_good,
+        self.send({"type": "response", "request_seq": number if type(number) is int else 0, "success": is_good,
                    "command": str(request.get("command", "")), **more})
 
     def answer(self, request: rpc.Message, body: Optional[dict[str, Any]] = None) -> None:
@@ -530,5 +529,4 @@ REQUESTS: dict[str, Request] = {
     "reverseContinue": running(is_back=True), "pause": Adapter.pause, "threads": Adapter.threads,
     "stackTrace": Adapter.stack, "scopes": Adapter.scopes, "variables": Adapter.variables,
     "setVariable": Adapter.set_variable, "readMemory": Adapter.read_memory, "writeMemory": Adapter.write_memory,
-    "exceptionInfo": Adapter.exception, "evaluate": Adapter.evaluate,
-}
+    "exceptionInfo": Adapter.exception, "evaluate": Adapter.evaluate}

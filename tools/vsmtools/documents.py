@@ -46,7 +46,9 @@ class Document:
     def __init__(self, uri: str, version: Any, text: str, units: str) -> None:
         self.uri, self.path, self.version, self.units = uri, path_of(uri), version, units
         self.text, self.ends = cut_lines(text)
+        self.changed = 0.0                      # when the last key was pressed
         self.due: Optional[float] = 0.0         # when it's to be listed
+        self.check_due: Optional[float] = None  # and then checked
         self.listing: Optional[Listing] = None
         self.valid = 0                          # the first line for which the listing is out of date
         self.world: tuple[int, Any] = (-1, None)    # what exists after that many answers, by vsmtools.tracking

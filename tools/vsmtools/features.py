@@ -2,6 +2,7 @@
 from __future__ import annotations
 
 import re
+from itertools import groupby
 from typing import TYPE_CHECKING, Any, Callable, Optional
 
 from . import manuals
@@ -76,11 +77,12 @@ def hover(server: Server, document: Document, params: Message, number: Any) -> A
     is_asked = statement.operation is not None and statement.has(statement.operation, at)
 
     def told(output: bytes, status: int) -> None:
-        wrong = server.failed(output, status)
-        if wrong:
-            server.fail(number, Code.FAILED, wrong)
+        try:
+            said = server.whole(output, status).decode("utf-8", "replace")
+        except Fault as fault:
+            server.fail(number, Code.FAILED, fault.text)
             return
-        why = fenced(output.decode("utf-8", "replace").rstrip("\n").replace("/dev/stdin: ", ""))
+        why = fenced(said.rstrip("\n").replace("/dev/stdin: ", ""))
         text = why + ("\n\n" + fenced(form) if form and is_asked else "")
         server.reply(number, {"contents": {"kind": "markdown", "value": text}, "range": where})
     server.why(document, extent, told, number)
@@ -253,17 +255,11 @@ def folds(_server: Server, document: Document, _params: Message, _number: Any) -
     """Statements over several lines, and comments over several."""
     found = [{"startLine": document.begins[it.first - 1], "endLine": document.begins[it.last - 1]}
              for it in document.extents if it.first < it.last]
-    inner = {line for it in document.extents for line in range(it.first, it.last + 1)}
-    begin: Optional[int] = None
-    for number, line in enumerate([*document.raw, b""], 1):
-        is_comment = line.startswith(b"*") and number not in inner
-        if is_comment and begin is None:
-            begin = number
-        elif not is_comment and begin is not None:
-            if number - begin > 1:
-                found.append({"startLine": document.begins[begin - 1], "endLine": document.begins[number - 2],
-                              "kind": "comment"})
-            begin = None
+    raw, begins = document.raw, document.begins
+    for is_comment, lines in groupby(range(len(raw)), lambda it: not document.kinds[it] and raw[it].startswith(b"*")):
+        first, *others = lines
+        if is_comment and others:
+            found.append({"startLine": begins[first], "endLine": begins[others[-1]], "kind": "comment"})
     return found
 
 

@@ -3,21 +3,24 @@ from __future__ import annotations
 
 import os
 import time
+from contextlib import suppress
 from itertools import islice
 from typing import Any, Callable, Iterator, Optional
 
 from . import features, listing, manuals, rpc
 from .bench import EXPLAIN_LAUNCHER, MOST_OUTPUT, WITHOUT_INPUT, find_explain, find_program, not_compiled
-from .command import Fault, one_line, version
+from .command import WORDS, Fault, one_line, version
 from .documents import FAR, Document
 from .lines import Extent, options_for
 from .rpc import WRONG, Code, Failure, Message
 from .runs import Runs
 
-QUIET = 0.2           # seconds after the last change
+QUIET, SETTLED = 0.2, 0.5    # seconds from the last change until it's listed, and checked
 MOST_SHOWN = 10000    # diagnostics
 ERROR, WARNING, HINT = 1, 2, 4
 REFUSED = ("ABEND ", "REFUSED ")
+OTHER_FORM = "vsm-explain answers in another form than vsm-lsp reads: take both of one release"
+COUNTED = ("OUTSIDE", "STALE")    # findings that are wrong, not only worth a look
 CAPABILITIES = {
     "textDocumentSync": {"openClose": True, "change": 2, "save": {"includeText": False}},
     "hoverProvider": True, "definitionProvider": True, "referencesProvider": True, "documentHighlightProvider": True,
@@ -52,7 +55,7 @@ class Server:
                 self.lacking = "vsm-explain is being compiled, once: about 2 minutes"
                 self.runs.compile(self.explain, WITHOUT_INPUT, self.compiled)
             while not self.is_ended and not self.stream.is_ended:
-                due = [it.due for it in self.documents.values() if it.due is not None]
+                due = [at for it in self.documents.values() for at in (it.due, it.check_due) if at is not None]
                 ready = self.stream.read(max(0.0, min(due) - time.monotonic()) if due else None, self.runs.sources)
                 try:
                     self.runs.gather(ready)
@@ -62,6 +65,8 @@ class Server:
                 for it in list(self.documents.values()):
                     if it.due is not None and it.due <= time.monotonic():
                         self.list(it)
+                    if it.check_due is not None and it.check_due <= time.monotonic():
+                        self.check(it)
             self.stream.flush()
         finally:
             self.runs.end_all()
@@ -200,11 +205,12 @@ class Server:
 
     def changed(self, params: Message) -> None:
         document = self.document(params)
+        self.end_runs(document.uri)    # also if only the first changes can be applied
+        document.changed = time.monotonic()
+        document.due, document.check_due = document.changed + QUIET, None
         for it in params["contentChanges"]:
             document.apply(it)
         document.version = params["textDocument"].get("version")
-        document.due = time.monotonic() + QUIET
-        self.end_runs(document.uri)
 
     def closed(self, params: Message) -> None:
         document = self.document(params)
@@ -234,7 +240,7 @@ class Server:
 
     def list(self, document: Document) -> None:
         """Runs vsm-explain list over a document, as soon as that is possible."""
-        document.due = None
+        document.due = document.check_due = None
         document.read()
         if self.lacking:
             return
@@ -246,35 +252,56 @@ class Server:
             self.runs.start([self.explain, "list", "--json", *options], document.data,
                             lambda output, status: self.listed(document, output, status), document.uri)
         except Fault as fault:
-            self.publish(document, [self.diagnostic(document.lines_range(fault.line or 1, fault.line or 1), ERROR,
-                                                    fault.text, "settings")])
+            self.publish(document, [self.not_run(document, fault)])
 
     def listed(self, document: Document, output: bytes, status: int) -> None:
         try:
-            wrong = self.failed(output, status)
-            if wrong:
-                raise Fault(wrong)
-            document.take(listing.parse(output))
-        except Fault as fault:
-            found = self.diagnostic(document.lines_range(1, 1), ERROR, fault.text, "settings")
-            self.publish(document, [found] if document.data else [])
-        else:
-            self.publish(document, self.diagnostics(document))
+            document.take(listing.parse(self.whole(output, status)))
+            found = self.diagnostics(document)
+            document.check_due = document.changed + SETTLED
+        except (Fault, *WRONG) as fault:    # also of a row that is read only now, or is about a line that doesn't exist
+            found = [self.not_run(document, fault)] if document.data else []
+        self.publish(document, found)
         for it in ("codeLens", "inlayHint"):
             if self.has("workspace", it, "refreshSupport"):
                 self.ask("workspace/%s/refresh" % it)
 
+    def check(self, document: Document) -> None:
+        """Runs vsm-explain check over a document that is listed."""
+        document.check_due = None
+        with suppress(Fault):    # it can't be started any longer: the next listing says so
+            self.runs.start([self.explain, "check", "--json", "--leaks", *self.options(document)], document.data,
+                            lambda output, status: self.checked(document, output, status), document.uri)
+
+    def checked(self, document: Document, output: bytes, status: int) -> None:
+        """Adds what was found to what the listing says. A vsm-explain without these options finds nothing."""
+        if status == WORDS:
+            return
+        try:
+            assert document.listing
+            document.listing.found = listing.findings(self.whole(output, status))
+            if document.listing.found:
+                self.publish(document, self.diagnostics(document))
+        except (Fault, *WRONG) as fault:
+            document.listing.found = []
+            self.publish(document, [*self.diagnostics(document), self.not_run(document, fault)])
+
     @staticmethod
-    def failed(output: bytes, status: int) -> str:
-        """Why a run of vsm-explain has no result; empty if it has one."""
+    def whole(output: bytes, status: int) -> bytes:
+        """The output of a run of vsm-explain; a fault if it has no result."""
         if len(output) > MOST_OUTPUT:
-            return "vsm-explain printed more than %d MiB" % (MOST_OUTPUT >> 20)
-        if status in (0, 4):
-            return ""
+            raise Fault("vsm-explain printed more than %d MiB" % (MOST_OUTPUT >> 20))
         if status < 0:
-            return "vsm-explain ended by signal %d" % -status
-        said = output.decode("utf-8", "replace").strip().split("\n")[-1].replace("/dev/stdin: ", "")
-        return said.replace("/dev/stdin", "the script") or "vsm-explain ended with status %d" % status
+            raise Fault("vsm-explain ended by signal %d" % -status)
+        if status not in (0, 4):
+            said = output.decode("utf-8", "replace").strip().split("\n")[-1].replace("/dev/stdin: ", "")
+            raise Fault(said.replace("/dev/stdin", "the script") or "vsm-explain ended with status %d" % status)
+        return output
+
+    def not_run(self, document: Document, fault: Exception) -> Message:
+        """Why a script isn't listed, or not checked."""
+        line, text = (fault.line or 1, fault.text) if isinstance(fault, Fault) else (1, OTHER_FORM)
+        return self.diagnostic(document.lines_range(line, line), ERROR, text, "settings")
 
     def publish(self, document: Document, found: list[Message]) -> None:
         told = {"uri": document.uri, "diagnostics": found}
@@ -292,7 +319,7 @@ class Server:
     @staticmethod
     def diagnostic(where: Message, severity: int, text: str, code: str) -> Message:
         return {"range": where, "severity": severity, "source": "vsm", "code": code, "message": text,
-                **({"tags": [1]} if severity == HINT else {})}
+                **({"tags": [1]} if code == "DROPPED" else {})}
 
     def diagnostics(self, document: Document) -> list[Message]:
         found = list(islice(self.all_diagnostics(document), MOST_SHOWN))
@@ -304,11 +331,12 @@ class Server:
     def all_diagnostics(self, document: Document) -> Iterator[Message]:
         shown = document.listing
         assert shown
-        for marks, severity, code in ((shown.faults, ERROR, ""), (shown.dropped, HINT, "DROPPED"),
-                                      (shown.warnings, WARNING, "WARNING")):
+        for marks, severity, code in ((shown.faults, ERROR, "FAULT %s"), (shown.dropped, HINT, "DROPPED"),
+                                      (shown.warnings, WARNING, "WARNING"), (shown.found, HINT, "%s")):
             for it in marks:
                 where = document.range((it.line, it.begin), (it.line, it.end if it.end > it.begin else FAR))
-                yield self.diagnostic(where, severity, it.message, code or "FAULT " + it.fault)
+                yield self.diagnostic(where, WARNING if it.word in COUNTED else severity, it.message,
+                                      code.replace("%s", it.word))
         for answer in shown.refused:
             if answer.text.startswith(REFUSED):
                 part = document.statement(answer.extent).operation

@@ -1,4 +1,4 @@
-"""What vsm-explain list says of a script, as data: its JSON, which docs/EXPLAIN.md describes."""
+"""What vsm-explain says of a script, as data: the JSON of list and check, which docs/EXPLAIN.md describes."""
 from __future__ import annotations
 
 import json
@@ -6,26 +6,26 @@ from dataclasses import dataclass, field
 from functools import cached_property
 from typing import Any, NamedTuple, Union
 
-from .command import Fault
 from .lines import Extent
 
-HEAD = {"version": 1, "command": "list"}
+FOUND = ("OUTSIDE", "STALE", "PART", "UNSET", "LEFT")    # what only check says
 # What only the row of an accepted statement has: in a text each quotation mark follows a backslash.
 ACCEPTED = b'"refused":false,'
 
 
 class Mark(NamedTuple):
-    """A fault, a warning or a dropped line: its line from 1, and bytes from 0; a fault's word, and one proposed."""
+    """A fault, a warning, a dropped line or what check found: its line from 1, and bytes from 0; the word of a fault or
+    a finding, and one proposed."""
     line: int
     begin: int
     end: int
     text: str
-    fault: str = ""
+    word: str = ""
     hint: str = ""
 
     @property
     def message(self) -> str:
-        return ": ".join(filter(None, [self.fault, self.text]))
+        return ": ".join(filter(None, [self.word, self.text]))
 
 
 class Listed(NamedTuple):
@@ -46,6 +46,7 @@ class Listing:
     faults: list[Mark] = field(default_factory=list)
     dropped: list[Mark] = field(default_factory=list)
     warnings: list[Mark] = field(default_factory=list)
+    found: list[Mark] = field(default_factory=list)
     refused: list[Listed] = field(default_factory=list)
     rows: list[Union[bytes, Listed]] = field(default_factory=list)
 
@@ -59,25 +60,32 @@ def answer_of(it: dict[str, Any]) -> Listed:
                   it.get("word", 0), it.get("pool", "").upper(), it.get("address", 0))
 
 
+def rows_of(output: bytes, command: str) -> list[bytes]:
+    head, *rows = output.splitlines() or [b""]
+    if json.loads(head) != {"version": 1, "command": command}:
+        raise ValueError
+    return rows
+
+
 def parse(output: bytes) -> Listing:
-    """The listing that a program wrote; a fault if it's in another form."""
+    """The listing that a program wrote; an error of rpc.WRONG if it's in another form."""
     found = Listing()
     marks = {"fault": found.faults, "dropped": found.dropped, "warning": found.warnings}
-    head, *rows = output.splitlines() or [b""]
-    try:
-        if json.loads(head) != HEAD:
-            raise ValueError
-        for row in rows:
-            if ACCEPTED in row:
-                found.rows.append(row)
-                continue
-            it = json.loads(row)
-            if it["kind"] == "answer":
-                found.refused.append(answer_of(it))
-                found.rows.append(found.refused[-1])
-            elif it["kind"] in marks:
-                marks[it["kind"]].append(Mark(it["line"], it["column"] - 1, it["end"] - 1, it["text"],
-                                              it.get("fault", ""), it.get("hint", "")))
-    except (LookupError, TypeError, ValueError, AttributeError):
-        raise Fault("vsm-explain lists in another form than vsm-lsp reads: take both of one release") from None
+    for row in rows_of(output, "list"):
+        if ACCEPTED in row:
+            found.rows.append(row)
+            continue
+        it = json.loads(row)
+        if it["kind"] == "answer":
+            found.refused.append(answer_of(it))
+            found.rows.append(found.refused[-1])
+        elif it["kind"] in marks:
+            marks[it["kind"]].append(Mark(it["line"], it["column"] - 1, it["end"] - 1, it["text"],
+                                          it.get("fault", ""), it.get("hint", "")))
     return found
+
+
+def findings(output: bytes) -> list[Mark]:
+    """What a check found that a listing doesn't say; such an error if it's in another form."""
+    return [Mark(it["line"], it["column"] - 1, it["end"] - 1, it["text"].removeprefix(it["word"] + ": "), it["word"])
+            for it in map(json.loads, rows_of(output, "check")) if it["kind"] == "finding" and it["word"] in FOUND]

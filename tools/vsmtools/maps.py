@@ -1,4 +1,4 @@
-"""The lines of a MAP as data, and back."""
+"""The lines of a MAP as data."""
 from __future__ import annotations
 
 import re
@@ -79,7 +79,7 @@ class Name:
 
 @dataclass
 class Map:
-    """All that a MAP shows. `line` of each part is the number of its first line, from 1."""
+    """All that a MAP shows, and its lines. `line` of each part is the number of its first line, from 1."""
     tasks: list[Task] = field(default_factory=list)
     subpools: list[Subpool] = field(default_factory=list)
     cell_pools: list[CellPool] = field(default_factory=list)
@@ -95,6 +95,7 @@ class Map:
     pages_line: int = 0
     bytes_line: int = 0
     history_line: int = 0
+    lines: Sequence[str] = ()
 
     def subpool(self, number: int, owner: int) -> Optional[Subpool]:
         return next((it for it in self.subpools if (it.number, it.owner) == (number, owner)), None)
@@ -148,7 +149,7 @@ TAKERS: dict[str, Callable[[Map, re.Match[str], int], None]] = {
 
 def parse_map(lines: Sequence[str], source: str = "the map", first: int = 1) -> Map:
     """A map's lines as data, each judged by itself; `first` is the first one's number in `source`, for faults."""
-    shown, before = Map(), ""
+    shown, before = Map(lines=lines), ""
     for number, line in enumerate(lines, first):
         word = next((it for it in line.split(" ")[1:3] if it), "")
         follows = FOLLOWS[before].split()
@@ -174,29 +175,3 @@ def parse_map(lines: Sequence[str], source: str = "the map", first: int = 1) -> 
 
 def sharers(it: Subpool) -> str:
     return ",".join(map(str, it.sharers)) or "NONE"
-
-
-def map_lines(shown: Map) -> list[str]:
-    """The lines of a map, as vsm prints them."""
-    lines: list[str] = []
-    for task in shown.tasks:
-        lines.append(" TASK %d PARENT %d%s" % (task.number, task.parent, " CURRENT" if task.is_current else ""))
-        for start in (0, 8):
-            words = task.registers[start:start + 8]
-            lines.append("  R%d" % start + "".join(" %08X" % word for word in words))
-    for subpool in shown.subpools:
-        lines.append(" SUBPOOL %d OWNER %d SHARERS %s" % (subpool.number, subpool.owner, sharers(subpool)))
-        lines += ["  EXTENT %08X %08X" % (it.start, it.length) for it in subpool.extents]
-        lines += ["  FREE %08X %08X" % (it.start, it.length) for it in subpool.free]
-    for pool in shown.cell_pools:
-        lines.append(" CELLPOOL %s SUBPOOL %d OWNER %d SIZE %d PRIMARY %d SECONDARY %d LOC %d%s" % (
-            pool.name, pool.subpool, pool.owner, pool.size, pool.primary, pool.secondary, pool.location,
-            "" if pool.header is None else " HDR '%s'" % pool.header))
-        lines += ["  EXTENT %08X %08X" % (it.start, it.length) for it in pool.extents]
-        lines += ["  FREECELL %08X" % cell for cell in pool.free_cells]
-    lines.append(" PAGES LOW %d OF %d HIGH %d OF %d" % (
-        shown.low_assigned, shown.low_pages, shown.high_assigned, shown.high_pages))
-    lines.append(" BYTES TAKEN %d FREE %d" % (shown.taken, shown.free))
-    lines += [" NAME %s %08X" % (it.name, it.word) for it in shown.names]
-    lines.append(" HISTORY KEPT %d OF %d" % (shown.kept, shown.history))
-    return lines

@@ -504,11 +504,10 @@ class Paste:
 
     def operand(self, it: Macro, text: str) -> None:
         """Adds one operand, or drops it with a note."""
-        head = re.match(r"([A-Za-z]\w*)=(.*)$", text, re.S)
-        if not head:
+        key, value = keyed(text)
+        if not key:
             it.operands.append(self.positional(it, text))
             return
-        key, value = head[1].upper(), head[2]
         if key == "LA" and it.operation == "GETMAIN":
             raise Unknown("form %s has no LA=, which names a list: VC, VU, LC and LU have it" % it.form)
         if key in NO_MEANING or (key, it.operation) in (("BNDRY", "CPOOL"), ("MF", "ATTACH")):

@@ -5,6 +5,7 @@ import os
 import re
 import signal
 import tempfile
+from collections import deque
 from contextlib import contextmanager
 from itertools import count
 from typing import Callable, Iterator, Optional, Sequence
@@ -162,7 +163,7 @@ class Prompt:
         self.ended = False
         self.is_interrupted = False      # Ctrl+C was typed, and its line isn't ended yet
         self.has_carets = False          # at a fault of a statement that is typed
-        self.rest: list[list[str]] = []  # of the file: statements, and lines that are skipped
+        self.rest: deque[list[str]] = deque()    # of the file: statements, and lines that are skipped
 
     @property
     def prompt(self) -> str:
@@ -236,10 +237,9 @@ class Prompt:
     def load(self, name: str, data: bytes, stop: Optional[int]) -> None:
         """Carries out the statements of a file that begin before a line, and keeps the others for later."""
         lines = [line.decode("utf-8", "surrogateescape") for line in split_lines(data)]
-        longest = max(map(len, lines), default=0)
-        if longest > 65536:
-            raise Fault("a line has more than 65,536 characters", name,
-                        1 + [len(it) > 65536 for it in lines].index(True))
+        number = next((k for k, it in enumerate(lines, 1) if len(it) > 65536), None)
+        if number:
+            raise Fault("a line has more than 65,536 characters", name, number)
         found = statements([line.encode("utf-8", "surrogateescape") for line in lines])
         ends, at = {it.first - 1: it.last for it in found}, 0
         while at < len(lines):
@@ -250,7 +250,7 @@ class Prompt:
     def go(self, is_last: Callable[[Answer], bool], stop: Optional[int] = None) -> bool:
         """Continues in the file; whether that reached an answer that was the last one requested."""
         while self.rest and (stop is None or len(self.bench.log) + 1 < stop):
-            lines = self.rest.pop(0)
+            lines = self.rest.popleft()
             if is_passed_over(lines[0].encode("utf-8", "surrogateescape")):
                 self.bench.log += lines
             elif is_continued(lines[-1].encode("utf-8", "surrogateescape")):
@@ -363,7 +363,7 @@ class Prompt:
     def do_read(self, words: list[str]) -> None:
         if len(words) != 1:
             raise Fault("it's .read FILE")
-        rest, self.rest = self.rest, []
+        rest, self.rest = self.rest, deque()
         try:
             self.load(*read_input("./-" if words[0] == "-" else words[0]), None)
         finally:
@@ -435,6 +435,6 @@ class Prompt:
         lines, self.bench.log = self.bench.log, []
         self.bench.close()
         self.bench.start()
-        rest, self.rest = self.rest, []
+        rest, self.rest = self.rest, deque()
         self.load("the session", text_of(lines), None)
         self.rest = rest

@@ -9,7 +9,7 @@ from .lines import CONTINUED_FROM, LAST_COLUMN, comma_ends, is_continued
 from .words import FORMS
 
 HEAD = re.compile(r"([^ ]*)( +)([^ ]+)( *)")
-BLANK_OR_QUOTE = re.compile("[ ']")
+PIECE = re.compile("(?:[^ ']|'[^']*')*('[^']*)?")    # up to a blank outside apostrophes; from the last one, if it's open
 NAME = re.compile(r"(?<![\w$#@'])[A-Za-z$#@_][A-Za-z0-9$#@_]{0,62}(?![\w$#@'(])")
 REGISTER = re.compile(r"(?i)R(1[0-5]|[0-9])")
 WITH_FORM = ("STORAGE", "GETMAIN", "FREEMAIN", "CPOOL")
@@ -93,18 +93,9 @@ class Statement:
 
 def end_of_piece(text: str, at: int, is_quoted: bool) -> tuple[int, bool]:
     """The end of the operands on a line, at a blank or the line's end, and whether an apostrophe is open there."""
-    while at < len(text):
-        if is_quoted:
-            close = text.find("'", at)
-            if close < 0:
-                return len(text), True
-            at, is_quoted = close + 1, False
-            continue
-        found = BLANK_OR_QUOTE.search(text, at)
-        if found is None or found[0] == " ":
-            return found.start() if found else len(text), False
-        at, is_quoted = found.end(), True
-    return at, is_quoted
+    found = PIECE.match("'" * is_quoted + text[at:])
+    assert found
+    return at + found.end() - is_quoted, found[1] is not None
 
 
 def read(lines: Sequence[bytes]) -> Statement:

@@ -6,7 +6,7 @@ from dataclasses import dataclass
 from functools import partial
 from typing import Callable, Optional, Sequence
 
-from .maps import PAGE, Area, CellPool, Map, Subpool, Task, map_lines, sharers
+from .maps import PAGE, Area, CellPool, Map, Subpool, Task, sharers
 
 Children = Callable[[], list["Variable"]]
 REGISTER = re.compile(r"(?i)(?:\(R?(1[0-5]|[0-9])\)|R(1[0-5]|[0-9]))$")
@@ -126,7 +126,7 @@ def totals(shown: Map, undone: int) -> list[Variable]:
 def whole_lines(shown: Map) -> list[str]:
     """The lines of a map, each whole by itself: with its task, subpool or cell pool, and a register to a line."""
     head, found = "", []
-    for line in map_lines(shown):
+    for line in [*shown.lines[:-1], " HISTORY KEPT %d OF %d" % (shown.kept, shown.history)]:
         words = line.split()
         if not line.startswith("  "):
             head = " ".join(words[:4 if words[0] == "SUBPOOL" else 2])

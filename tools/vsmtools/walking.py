@@ -58,10 +58,12 @@ class History:
         """After a BACK or FORWARD to that number of kept changes."""
         state, undone = self.state, self.undone
         for _ in range(self.kept - kept):
-            assert state.parent is not None
+            if state.parent is None:
+                raise Lost("KEPT=%d is no answer to a step here" % kept)
             state, undone = state.parent, Undone(state, undone)
         for _ in range(kept - self.kept):
-            assert undone is not None
+            if undone is None:
+                raise Lost("KEPT=%d is no answer to a step here" % kept)
             state, undone = undone.state, undone.rest
         return History(state, kept, undone)
 

@@ -34,6 +34,10 @@
   (vsm-check "a fault at its operand" (seq-find (lambda (it) (and (equal (nth 2 it) "SP=2") (= (car it) 15))) found))
   (vsm-check "an abend at its operation"
              (seq-find (lambda (it) (and (equal (nth 2 it) "STORAGE") (string-match-p "ABEND" (nth 3 it)))) found))
+  (find-file (expand-file-name "overlay.vsm" folder))
+  (eglot--maybe-activate-editing-mode)
+  (setq found (vsm-wait (lambda () (seq-find (lambda (it) (string-match-p "OUTSIDE" (nth 3 it))) (vsm-shown)))))
+  (vsm-check "bytes outside an area, once a check has found them" (equal (seq-take found 3) '(4 7 "FIRST")) found)
   (find-file (expand-file-name "bytes-and-names.vsm" folder))
   (vsm-diagnostics (lambda () (eglot--maybe-activate-editing-mode)))
   (setq server (eglot-current-server))

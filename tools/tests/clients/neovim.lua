@@ -99,10 +99,25 @@ check('completion of a name', completed(7) == 'P', completed(7))
 check('completion of values', completed(8) == 'BELOW 24 ANY 31 RES', completed(8))
 check('the configuration sets omnifunc', vim.bo[buffer].omnifunc == 'v:lua.vim.lsp.omnifunc')
 
+-- What a check finds comes after the listing.
+local overlay = open(vim.env.EXAMPLES .. '/overlay.vsm')
+local function found(text)
+  for _, it in ipairs(vim.diagnostic.get(overlay)) do
+    if it.message:match('^' .. text) then return it end
+  end
+end
+wait('a check', function() return found('OUTSIDE: ') end)
+local outside, left = found('OUTSIDE: '), found('LEFT: ')
+check('bytes outside an area', outside.lnum == 3 and outside.col == 6
+  and outside.severity == vim.diagnostic.severity.WARN, outside.message)
+check('an area that is left', left.lnum == 0 and left.severity == vim.diagnostic.severity.HINT, left.message)
+vim.api.nvim_set_current_buf(buffer)
+
 -- Typing: letters of two, three and four bytes before a fault, and changes in the middle of such lines.
 set(buffer, 0, -1, { " STORAGE OBTAIN,RELATED='é€😀',FOO=1,LENGTH=8", ' MAP', '' })
+local function faults() return vim.diagnostic.get(buffer, { severity = vim.diagnostic.severity.ERROR }) end
 local function marked()
-  local found = vim.diagnostic.get(buffer)
+  local found = faults()
   return #found == 1 and line(found[1].lnum + 1):sub(found[1].col + 1, found[1].end_col) or #found
 end
 check('a fault after é€😀', marked() == 'FOO=1', marked())
@@ -116,7 +131,7 @@ change(buffer, function()
   vim.lsp.buf.code_action()
   wait('a code action', function() return line(1) == ' STORAGE OBTAIN,LENGTH=8' end)
 end)
-check('a code action', #vim.diagnostic.get(buffer) == 0, line(1))
+check('a code action', #faults() == 0, line(1))
 
 set(buffer, 0, -1, { ' STORAGE OBTAIN,LENGTH=8,ADDR=P,' .. (' '):rep(39) .. 'X', '               SP=1', ' POKE P,A(P)' })
 cursor(3, 6)
@@ -125,7 +140,7 @@ change(buffer, function()
   wait('a new name', function() return line(3) == ' POKE TABLE,A(TABLE)' end)
 end)
 check('rename', line(1) == ' STORAGE OBTAIN,LENGTH=8,ADDR=TABLE,' .. (' '):rep(35) .. 'X', line(1))
-check('no fault comes of it', #vim.diagnostic.get(buffer) == 0)
+check('no fault comes of it', #faults() == 0)
 
 vim.lsp.stop_client(vim.lsp.get_active_clients())
 wait('the end of the server', function() return #vim.lsp.get_active_clients() == 0 end)
