@@ -74,7 +74,7 @@ class Home:
             text = re.sub(r"(?:^|(?<=\| ))(vsm(?:-explain)?)(?= |$)", r"./\1", text)
             text = re.sub(r"^(vsm-\w+)(?= )", r"tools/\1", text)
         # A subcommand that a sentence names.
-        text = re.sub(r"^((?:\./)?vsm-explain [a-z]+)(?: --over-time| --areas)?$", r"\1 --help", text)
+        text = re.sub(r"^((?:\./)?vsm-explain [a-z]+)(?: --over-time| --areas| --leaks)?$", r"\1 --help", text)
         values = {**VALUES, "FILE": "lesson.vsm"} if re.match("(tools/)?vsm-test", text) else VALUES
         return " ".join(values.get(word, word) for word in text.split(" "))
 

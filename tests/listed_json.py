@@ -60,8 +60,11 @@ def as_check(it: Object) -> str:
 
 
 # What is found of a statement, of which a listing has nothing.
-FOUND = re.compile(r"\d+:\d+: (?:OUTSIDE|STALE|PART): .+")
+FOUND = re.compile(r"\d+:\d+: (?:OUTSIDE|STALE|PART|UNSET|LEFT): .+")
 
+# What `why` says of an earlier line, which a listing leaves out.
+EARLIER = re.compile(r"  line \d+ (obtained what is|released what was|(got|freed) the cell) at [0-9A-F]{8}|"
+                     r"  line \d+ took the last room for it: it fitted before")
 # An ABEND or REFUSED as `check` has it: its line and column, and the answer with the reason.
 REFUSAL = re.compile(r"(\d+):(\d+): ((?:ABEND|REFUSED) [^:]+): (.+)")
 
@@ -94,12 +97,13 @@ def compare_refusals(programs: Any, file: str, options: list[str], said: list[st
 
 
 def compare_check(check: bytes, programs: Any, script: Any, file: str, found: list[Object]) -> None:
-    """`check` has a line for each fault, dropped line and warning, and for each refusal, by line and then by column. What is
-    found of statements is left out."""
+    """`check` has a line for each fault, dropped line and warning, and for each refusal, by line and then by column,
+    and last the sum of what is left. What is found of statements is left out."""
     said = [shown(it).removeprefix(file + ":") for it in check.split(b"\n")[:-1]]
     compare("what is wrong", sorted(it for it in said if not REFUSAL.fullmatch(it) and not FOUND.fullmatch(it)),
             sorted(as_check(it) for it in found if it["kind"] != "answer"))
-    places = [tuple(map(int, it.split(":", 2)[:2])) for it in said]
+    places = [tuple(map(int, it.split(":", 2)[:2])) for it in said if not it.startswith("1:1: LEFT: ")]
+    compare("whether a line is after the sum", any(it.startswith("1:1: LEFT: ") for it in said[:-1]), False)
     compare("the order of places", places, sorted(places))
     compare_refusals(programs, file, script.options, said, found, script.data.split(b"\n"))
 
@@ -167,7 +171,8 @@ def compare_answers(found: list[Object], answers: list[Any], pages: list[Page], 
 
 def compare_causes(programs: Any, file: str, options: list[str], found: list[Object]) -> None:
     """An ABEND, and no other answer, has a cause: what `why` says between what is asked for and the answer, its lines as
-    one. Of a PEEK `why` also says which bytes are free. Of more than 200 ABENDs 200 are compared.
+    one, without an earlier line's. Of a PEEK `why` also says which bytes are free. Of more than 200 ABENDs 200 are
+    compared.
     """
     for it in found:
         compare(f"whether {it} has a cause", "cause" in it, it["answer"].startswith("ABEND "))
@@ -175,7 +180,7 @@ def compare_causes(programs: Any, file: str, options: list[str], found: list[Obj
     for it in random.Random(len(abends)).sample(abends, min(200, len(abends))):
         said = programs.explained(["why", *options, file, str(it["first"])]).output.decode().split("\n")
         compare(f"the last line of why {it}", said[-2], f"  answered: {it['answer']}")
-        wanted = "; ".join(line.strip() for line in said[1:-2])
+        wanted = "; ".join(line.strip() for line in said[1:-2] if not EARLIER.fullmatch(line))
         is_peek = re.match(r"line \d+.*: \d+ bytes? at [0-9A-F]{8}$", said[0])
         if it.get("cause") != wanted and not (is_peek and wanted.startswith(it["cause"] + "; ")):
             raise Failure(f"the cause of {it} isn't {wanted}")
