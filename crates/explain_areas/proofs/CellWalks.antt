@@ -16,13 +16,14 @@ use Rattle.storage_map.specs.Cells.{cell_pool}
 use Rattle.vsm_model.specs.CellPools.{CellPool, CellPools, cells_from, cells_of, extent_cells}
 use Rattle.vsm_model.specs.Cells.{is_in_use}
 use Rattle.vsm_model.specs.declared.limits.Settings.{Settings}
-use Rattle.explain_areas.proofs.PoolWalks.{each, fact_of, uses_same}
+use Rattle.explain_who.proofs.CellPools.{each, fact_of}
+use Rattle.explain_who.proofs.InUse.{uses_same}
 use Rattle.explain_areas.specs.Cells.{AddsCells, cells_among, cells_in_use, used_cells}
-use Rattle.explain_areas.specs.NumberMaps.{number_in}
-use Rattle.explain_areas.specs.Since.{got_since, is_cell_in_use, machine_after}
+use Rattle.explain_standing.specs.NumberMaps.{number_in}
+use Rattle.explain_standing.specs.Since.{got_since, is_cell_in_use, machine_after}
 use Rattle.explain_areas.specs.declared.cells.LineCell.{LineCell}
 use Rattle.explain_areas.specs.declared.cells.PoolCells.{PoolCells}
-use Rattle.explain_areas.proofs.UsedCells.{used}
+use Rattle.explain_standing.proofs.UsedCells.{used}
 
 -- ---- the cells of an extent
 

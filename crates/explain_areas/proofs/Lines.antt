@@ -20,9 +20,10 @@ use Rattle.subpool_storage.specs.Order.{subpools_in_order}
 use Rattle.subpool_storage.specs.Subpools.{is_there}
 use Rattle.explain_areas.specs.Ahead.{AreLinesOf}
 use Rattle.explain_areas.specs.Areas.{areas_of}
-use Rattle.explain_areas.specs.NumberMaps.{number_in}
-use Rattle.explain_areas.specs.Since.{acts, line_of, machine_after, since, storage_after, taken_areas, taken_since}
-use Rattle.explain_areas.specs.declared.number_map.NumberMap.{NumberMap}
+use Rattle.explain_standing.specs.NumberMaps.{number_in}
+use Rattle.explain_standing.specs.Since.{acts, machine_after, since, storage_after, taken_since}
+use Rattle.explain_areas.specs.Since.{line_of, taken_areas}
+use Rattle.explain_standing.specs.declared.number_map.NumberMap.{NumberMap}
 use Rattle.explain_areas.specs.declared.parts.LineArea.{LineArea}
 use Rattle.explain_areas.proofs.Bounds.{both_ways, free_in_page, is_false, same_to}
 

@@ -1,58 +1,44 @@
 -- What is written of a script is what the definitions say.
-use Rattle.std.proofs.Common.{◌≡◌, ℕ, List, Option, Ok, Err, [], map, reverse, take, sym, ap, subst, ◌∙◌}
-use Rattle.std.proofs.lemmas.List.{reverse-reverse}
-use Rattle.text_output.proofs.Known.{appends_nothing}
-use Rattle.macro_operands.specs.declared.requests.Statement.{Statement}
+use Rattle.std.proofs.Common.{◌≡◌, ℕ, List, Option, Result, Ok, Err, sym, subst, take}
+use Rattle.macro_statements.specs.Requests.{Act}
 use Rattle.vsm_model.specs.declared.limits.Settings.{Settings}
-use Rattle.explain_who.specs.Faults.{FollowsNot}
-use Rattle.explain_who.specs.Trails.{marks_of}
-use Rattle.explain_who.specs.declared.faults.WhoFault.{WhoFault}
-use Rattle.explain_who.specs.declared.faults.WhoFault.TheVariants as fault
-use Rattle.explain_who.specs.declared.trail.TrailEntry.{TrailEntry}
-use Rattle.bench_core.specs.Stands.{bench_of, settings_in}
-use Rattle.storage_core.specs.declared.storage.Storage.{Storage}
-use Rattle.storage_core.specs.Meaning.{state_of, settings_of}
-use Rattle.vsm_model.specs.Names.{NamedState}
-use Rattle.explain_areas.specs.declared.parts.LineArea.{LineArea}
-use Rattle.explain_areas.specs.Carried.{CarriesAll, IsCarried, line_act}
-use Rattle.explain_areas.specs.Orders.{IsInOrder}
-use Rattle.explain_areas.specs.Since.{taken_areas}
-use Rattle.explain_areas.specs.Standings.{IsFollowedBy}
-use Rattle.explain_text.specs.declared.json.Form.{Form}
-use Rattle.explain_areas.specs.Forms.{areas_in}
-use Rattle.explain_areas.specs.Told.{IsCarriedOut, IsLeftText, TellsPart, standing}
-use Rattle.explain_areas.specs.declared.carried.Carried.{Carried}
-use Rattle.explain_areas.specs.declared.orders.AreaOrder.{AreaOrder}
-use Rattle.explain_areas.specs.declared.standing.Followed.{Followed}
+use Rattle.script_steps.specs.Output.{Marked}
+use Rattle.script_steps.specs.Taken.{Ended}
+use Rattle.explain_standing.specs.Faults.{FollowsNot}
+use Rattle.explain_standing.specs.Lined.{standing}
+use Rattle.explain_areas.specs.Ends.{IsEndOf}
+use Rattle.explain_areas.specs.Told.{CanBeListed, TellsAfter, TellsAreas, TellsPart, WritesText, text_after}
+use Rattle.explain_areas.specs.declared.asked.AreasAsked.{AreasAsked}
+use Rattle.explain_areas.specs.declared.faults.AreasFault.{AreasFault}
+use Rattle.explain_areas.specs.declared.faults.AreasFault.TheVariants as fault
 
--- A script that isn't followed.
-pub areas_untold : (settings : Settings) (script : List ℕ) (form : Form) (order : AreaOrder) (old : Option (List ℕ)) (f : WhoFault) → FollowsNot settings script f →
-    TellsPart settings script form order old old (Err f)
-areas_untold settings script form order old (fault.New f) h = (h, appends_nothing old)
-areas_untold settings script form order old fault.TooLong h = (h, appends_nothing old)
-areas_untold settings script form order old fault.Memory h = appends_nothing old
-areas_untold settings script form order old fault.Count h = absurd h
-areas_untold settings script form order old (fault.NoTask task) h = absurd h
-areas_untold settings script form order old (fault.NoName name) h = absurd h
-areas_untold settings script form order old fault.Write h = absurd h
+module _ (settings : Settings) (script : List ℕ) (asked : AreasAsked) (old new : Option (List ℕ)) where
+  -- What can be listed is written.
+  pub after_told : (xs : List (ℕ × Act)) (r : Result (Unit {0}) AreasFault) → CanBeListed settings script asked xs →
+      WritesText (text_after settings script asked xs) old new r → TellsAfter settings script asked xs old new r
+  after_told xs (Ok u) can w = (can, w)
+  after_told xs (Err fault.Write) can w = (can, w)
+  after_told xs (Err (fault.Follow f)) can w = (can, w)
+  after_told xs (Err (fault.Since n)) can w = absurd w
+  after_told xs (Err (fault.NoTask task)) can w = absurd w
+  after_told xs (Err (fault.Line f)) can w = absurd w
 
--- The statements in effect of a script that was followed are carried out.
-pub all_carried : (settings : Settings) (script : List ℕ) (f : Followed) (entries : List (TrailEntry Statement)) (new carried : Carried) → IsFollowedBy settings script f →
-    entries ≡ take (marks_of f.trail).standing (marks_of f.trail).entries → IsCarried settings [] new → CarriesAll entries new carried →
-    IsCarriedOut settings script (Ok carried)
-all_carried settings script f entries new carried h are none all = (
-  h.answers,
-  h.ended,
-  subst (λ xs. IsCarried settings xs carried)
-      (ap (λ es. reverse (map line_act es)) are ∙ ap reverse h.acts ∙ reverse-reverse (standing settings h.answers)) (all settings none),
-)
+  -- So it is of a whole script,
+  pub part_told : (answers : List Marked) (r : Result (Unit {0}) AreasFault) → Ended settings script answers →
+      TellsAfter settings script asked (standing settings answers) old new r → TellsPart settings script asked old new r
+  part_told answers (Ok u) ended t = (answers, ended, t)
+  part_told answers (Err fault.Write) ended t = (answers, ended, t)
+  part_told answers (Err (fault.Follow f)) ended t = (subst (FollowsNot settings script) (sym t.1.0) tt, t.1.1)
+  part_told answers (Err (fault.Since n)) ended t = (answers, ended, t)
+  part_told answers (Err (fault.NoTask task)) ended t = (answers, ended, t)
+  part_told answers (Err (fault.Line f)) ended t = (answers, ended, t)
 
--- The text of the areas that are left.
-pub text_is : (settings : Settings) (script : List ℕ) (form : Form) (order : AreaOrder) (c : Carried) (h : IsCarriedOut settings script (Ok c)) (s : Storage) (areas shown : List LineArea) →
-    state_of s ≡ (bench_of c.bench).present.storage → settings_of s ≡ settings_in c.bench → IsInOrder order (taken_areas settings (standing settings h.0)) areas → shown ≡ areas →
-    IsLeftText settings script form order h.0 (areas_in form (settings_of s) (state_of s) script shown)
-text_is settings script form order c h s areas shown state under are same = (
-  shown,
-  subst (IsInOrder order (taken_areas settings (standing settings h.0))) (sym same) are,
-  λ i. areas_in form ((under ∙ h.2.under) i) ((state ∙ ap (λ (m : NamedState). m.storage) h.2.present) i) script shown,
-)
+  -- and of its part up to the end of a statement.
+  pub areas_told : (at : ℕ) (part : List ℕ) (r : Result (Unit {0}) AreasFault) → IsEndOf settings script asked.line at → part ≡ take at script →
+      TellsPart settings part asked old new r → TellsAreas settings script asked old new r
+  areas_told at part (Ok u) end is t = (at, end, subst (λ p. TellsPart settings p asked old new (Ok u)) is t)
+  areas_told at part (Err fault.Write) end is t = (at, end, subst (λ p. TellsPart settings p asked old new (Err fault.Write)) is t)
+  areas_told at part (Err (fault.Follow f)) end is t = (at, end, subst (λ p. TellsPart settings p asked old new (Err (fault.Follow f))) is t)
+  areas_told at part (Err (fault.Since n)) end is t = (at, end, subst (λ p. TellsPart settings p asked old new (Err (fault.Since n))) is t)
+  areas_told at part (Err (fault.NoTask task)) end is t = (at, end, subst (λ p. TellsPart settings p asked old new (Err (fault.NoTask task))) is t)
+  areas_told at part (Err (fault.Line f)) end is t = absurd t.2.1

@@ -8,8 +8,8 @@ use Rattle.storage_core.specs.declared.walks.ExtentPlace.{ExtentPlace}
 use Rattle.storage_core.specs.declared.walks.FreeAreaPlace.{FreeAreaPlace}
 use Rattle.storage_core.specs.Meaning.{state_in_place}
 use Rattle.storage_core.specs.Walks.{IsExtentPlace, IsFreeAreaPlace}
-use Rattle.explain_areas.specs.NumberMaps.{number_in}
-use Rattle.explain_areas.specs.declared.number_map.NumberMap.{NumberMap}
+use Rattle.explain_standing.specs.NumberMaps.{number_in}
+use Rattle.explain_standing.specs.declared.number_map.NumberMap.{NumberMap}
 
 -- From a number on the set has exactly these runs, none of which begins before it.
 pub record IsAhead (set : ℕ → Bool) (rs : List Run) (low : ℕ) : Type 0 where

@@ -1,8 +1,12 @@
 -- The areas of a subpool: the longest runs of its doublewords that the statement of one line took.
-use Rattle.std.specs.Prelude.{ℕ, zero, suc, ◌+◌, ◌^◌, Bool, ◌&&◌, ◌==◌, if◌then◌else◌, Option, Some, None, List, []}
-use Rattle.std.specs.Prelude.{◌∷◌, reverse}
+use Rattle.std.specs.Prelude.{ℕ, zero, suc, ◌+◌, ◌*◌, ◌^◌, min, Bool, ◌&&◌, ◌==◌, if◌then◌else◌, Option, Some, None}
+use Rattle.std.specs.Prelude.{List, [], ◌∷◌, reverse}
 use Rattle.vsm_model.specs.declared.Subpool.{Subpool}
 use Rattle.explain_areas.specs.declared.parts.LineArea.{LineArea}
+
+-- the address of an area
+abbrev pub shown_address : LineArea → ℕ
+shown_address a = min (8 * a.start) 4294967295
 
 -- an area begins at the end of another one of its subpool and line
 abbrev pub goes_on : LineArea → LineArea → Bool

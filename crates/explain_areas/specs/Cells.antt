@@ -8,8 +8,8 @@ use Rattle.macro_statements.specs.Requests.{Act}
 use Rattle.vsm_model.specs.declared.limits.Settings.{Settings}
 use Rattle.vsm_model.specs.CellPools.{CellPool, cells_of}
 use Rattle.vsm_model.specs.Cells.{is_in_use}
-use Rattle.explain_areas.specs.Since.{got_since, machine_after}
-use Rattle.explain_areas.specs.NumberMaps.{number_in}
+use Rattle.explain_standing.specs.Since.{got_since, machine_after}
+use Rattle.explain_standing.specs.NumberMaps.{number_in}
 use Rattle.explain_areas.specs.declared.cells.LineCell.{LineCell}
 use Rattle.explain_areas.specs.declared.cells.PoolCells.{PoolCells}
 

@@ -1,69 +1,87 @@
 -- What is written of a script: what is taken, by lines; and what each fault means.
-use Rattle.std.specs.Prelude.{◌≡◌, ℕ, List, [], map, take, Option, Result, Ok, Err}
+use Rattle.std.specs.Prelude.{◌≡◌, ◌<◌, ◌≤◌, ℕ, true, false, List, [], take, Option, Some, None, Result, Ok, Err}
 use Rattle.std.specs.Io.KnownBytes.{Appends}
-use Rattle.explain_text.specs.declared.json.Form.{Form}
 use Rattle.macro_statements.specs.Requests.{Act}
 use Rattle.text_output.specs.Writing.{AppendsFront}
+use Rattle.vsm_model.specs.State.{State, is_task}
 use Rattle.vsm_model.specs.declared.limits.Settings.{Settings}
-use Rattle.vsm_model.specs.Standing.{nothing_stands}
 use Rattle.script_steps.specs.Output.{Marked}
 use Rattle.script_steps.specs.Taken.{Ended}
-use Rattle.explain_who.specs.Faults.{FollowsNot}
-use Rattle.explain_who.specs.Lined.{lined_all}
-use Rattle.explain_who.specs.declared.faults.WhoFault.{WhoFault}
-use Rattle.explain_who.specs.declared.faults.WhoFault.TheVariants as fault
-use Rattle.explain_areas.specs.declared.parts.LineArea.{LineArea}
-use Rattle.explain_areas.specs.Carried.{IsCarried}
+use Rattle.explain_report.specs.Lines.{line_count}
+use Rattle.explain_standing.specs.Faults.{FollowsNot}
+use Rattle.explain_standing.specs.Lined.{standing}
+use Rattle.explain_standing.specs.Since.{machine_after}
+use Rattle.explain_standing.specs.declared.faults.FollowFault.TheVariants as unfollowed
 use Rattle.explain_areas.specs.Ends.{IsEndOf, LacksEndOf}
-use Rattle.explain_areas.specs.Forms.{areas_in}
-use Rattle.explain_areas.specs.Orders.{IsInOrder}
-use Rattle.explain_areas.specs.Since.{acts, storage_after, taken_areas}
-use Rattle.explain_areas.specs.declared.carried.Carried.{Carried}
+use Rattle.explain_areas.specs.RowTexts.{listed_text}
+use Rattle.explain_areas.specs.Rows.{pages_listed, rows_listed}
+use Rattle.explain_areas.specs.declared.asked.AreasAsked.{AreasAsked}
+use Rattle.explain_areas.specs.declared.asked.Listed.{Listed}
+use Rattle.explain_areas.specs.declared.asked.Listed.TheVariants as listed
 use Rattle.explain_areas.specs.declared.faults.AreasFault.{AreasFault}
-use Rattle.explain_areas.specs.declared.faults.AreasFault.TheVariants as not_written
-use Rattle.explain_areas.specs.declared.orders.AreaOrder.{AreaOrder}
+use Rattle.explain_areas.specs.declared.faults.AreasFault.TheVariants as fault
 
--- the statements in effect after these answers, each with its line, the newest first
-abbrev pub standing : Settings → List Marked → List (ℕ × Act)
-standing settings answers = map (λ x. x.statement) (lined_all settings nothing_stands answers).stood
+-- The script has the line after which is asked, if one is; or it has only n lines.
+abbrev pub HasLines : List ℕ → Option ℕ → Type 0
+HasLines script None = Unit {0}
+HasLines script (Some since) = since ≤ line_count script
 
--- The statements of a script in effect at its end are carried out, or the script can't be followed.
-abbrev pub IsCarriedOut : Settings → List ℕ → Result Carried WhoFault → Type 0
-IsCarriedOut settings script (Ok carried) =
-    (answers : List Marked) × Ended settings script answers × IsCarried settings (standing settings answers) carried
-IsCarriedOut settings script (Err fault) = FollowsNot settings script fault
+abbrev pub LacksLines : List ℕ → Option ℕ → ℕ → Type 0
+LacksLines script None n = ⊥
+LacksLines script (Some since) n = (n ≡ line_count script) × (n < since)
+
+-- The task exists whose subpool is asked for, if one is; or it doesn't.
+abbrev pub HasTask : State → Listed → Type 0
+HasTask s (listed.Areas None keeps) = Unit {0}
+HasTask s (listed.Areas (Some seen) keeps) = is_task s seen.0 ≡ true
+HasTask s (listed.Cells pool) = Unit {0}
+
+abbrev pub LacksTask : State → Listed → ℕ → Type 0
+LacksTask s (listed.Areas None keeps) task = ⊥
+LacksTask s (listed.Areas (Some seen) keeps) task = (task ≡ seen.0) × (is_task s task ≡ false)
+LacksTask s (listed.Cells pool) task = ⊥
+
+-- The text is written, or after a write fault a prefix of it; or nothing, if memory runs out.
+abbrev pub WritesText : List ℕ → Option (List ℕ) → Option (List ℕ) → Result (Unit {0}) AreasFault → Type 0
+WritesText text old new (Ok u) = Appends old new text
+WritesText text old new (Err fault.Write) = AppendsFront old new text
+WritesText text old new (Err (fault.Follow f)) = (f ≡ unfollowed.Memory) × Appends old new []
+WritesText text old new (Err (fault.Since n)) = ⊥
+WritesText text old new (Err (fault.NoTask task)) = ⊥
+WritesText text old new (Err (fault.Line f)) = ⊥
 
 module _ (settings : Settings) where
-  -- The text is the whole one of a script with these answers: all areas that are taken after the statements in effect.
-  abbrev pub IsLeftText : List ℕ → Form → AreaOrder → List Marked → List ℕ → Type 0
-  IsLeftText script form order answers text =
-      (shown : List LineArea) × IsInOrder order (taken_areas settings (standing settings answers)) shown
-      × (text ≡ areas_in form settings (storage_after settings (acts (standing settings answers))) script shown)
+  -- What is listed after these statements of a script, the newest first, and whether it can be.
+  abbrev pub text_after : List ℕ → AreasAsked → List (ℕ × Act) → List ℕ
+  text_after script asked xs =
+      listed_text asked.form asked.listed script (pages_listed settings xs asked.listed)
+      (rows_listed settings xs asked.since asked.listed)
 
-  -- All of the text of a whole script is written, or after a write fault a prefix of it; with each other fault nothing.
-  abbrev pub TellsPart : List ℕ → Form → AreaOrder → Option (List ℕ) → Option (List ℕ) → Result (Unit {0}) WhoFault
-      → Type 0
-  TellsPart script form order old new (Ok u) =
+  abbrev pub CanBeListed : List ℕ → AreasAsked → List (ℕ × Act) → Type 0
+  CanBeListed script asked xs =
+      HasLines script asked.since × HasTask (machine_after settings xs).storage asked.listed
+
+  -- It's written; or nothing is, if it can't be listed.
+  abbrev pub TellsAfter : List ℕ → AreasAsked → List (ℕ × Act) → Option (List ℕ) → Option (List ℕ)
+      → Result (Unit {0}) AreasFault → Type 0
+  TellsAfter script asked xs old new (Err (fault.Since n)) = LacksLines script asked.since n × Appends old new []
+  TellsAfter script asked xs old new (Err (fault.NoTask task)) =
+      LacksTask (machine_after settings xs).storage asked.listed task × Appends old new []
+  TellsAfter script asked xs old new r =
+      CanBeListed script asked xs × WritesText (text_after script asked xs) old new r
+
+  -- The same after the statements of a whole script that are in effect at its end.
+  abbrev pub TellsPart : List ℕ → AreasAsked → Option (List ℕ) → Option (List ℕ)
+      → Result (Unit {0}) AreasFault → Type 0
+  TellsPart script asked old new (Err (fault.Follow f)) = FollowsNot settings script f × Appends old new []
+  TellsPart script asked old new r =
       (answers : List Marked) × Ended settings script answers
-      × (text : List ℕ) × IsLeftText script form order answers text × Appends old new text
-  TellsPart script form order old new (Err fault.Write) =
-      (answers : List Marked) × Ended settings script answers
-      × (text : List ℕ) × IsLeftText script form order answers text × AppendsFront old new text
-  TellsPart script form order old new (Err fault.Memory) = Appends old new []
-  TellsPart script form order old new (Err fault.TooLong) =
-      FollowsNot settings script fault.TooLong × Appends old new []
-  TellsPart script form order old new (Err (fault.New f)) =
-      FollowsNot settings script (fault.New f) × Appends old new []
-  TellsPart script form order old new (Err fault.Count) = ⊥
-  TellsPart script form order old new (Err (fault.NoTask task)) = ⊥
-  TellsPart script form order old new (Err (fault.NoName name)) = ⊥
+      × TellsAfter script asked (standing settings answers) old new r
 
   -- The same of a script's part up to the end of the statement of a line, if one is asked for.
-  abbrev pub TellsAreas : List ℕ → Form → Option ℕ → AreaOrder → Option (List ℕ) → Option (List ℕ)
+  abbrev pub TellsAreas : List ℕ → AreasAsked → Option (List ℕ) → Option (List ℕ)
       → Result (Unit {0}) AreasFault → Type 0
-  TellsAreas script form asked order old new (Ok u) =
-      (at : ℕ) × IsEndOf settings script asked at × TellsPart (take at script) form order old new (Ok u)
-  TellsAreas script form asked order old new (Err (not_written.Areas f)) =
-      (at : ℕ) × IsEndOf settings script asked at × TellsPart (take at script) form order old new (Err f)
-  TellsAreas script form asked order old new (Err (not_written.Line f)) =
-      LacksEndOf settings script asked f × Appends old new []
+  TellsAreas script asked old new (Err (fault.Line f)) =
+      LacksEndOf settings script asked.line f × Appends old new []
+  TellsAreas script asked old new r =
+      (at : ℕ) × IsEndOf settings script asked.line at × TellsPart (take at script) asked old new r

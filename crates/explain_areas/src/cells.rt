@@ -7,12 +7,11 @@ ghost use Rattle.storage_core.specs.Meaning.{state_of};
 ghost use Rattle.storage_map.specs.Cells.{cell_pool};
 ghost use Rattle.vsm_model.specs.CellPools.{cells_from};
 ghost use Rattle.vsm_model.specs.declared.limits.Settings.{Settings as SettingsIn};
-ghost use Rattle.explain_areas.specs.Carried.{IsCarried};
+ghost use Rattle.explain_standing.specs.Carried.{IsCarried};
 ghost use Rattle.explain_areas.specs.Cells.{AddsCells, IsPoolOf, cells_in_use, used_cells};
-ghost use Rattle.explain_areas.specs.NumberMaps.{number_in};
+ghost use Rattle.explain_standing.specs.NumberMaps.{number_in};
 
-use crate::carried::Carried;
-use crate::number_map::NumberMap;
+use explain_standing::{Carried, NumberMap};
 use explain_who::PoolName;
 use std::alloc::{AllocError, Global};
 use storage_core::{Storage, Subpool};

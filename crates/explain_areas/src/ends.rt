@@ -7,10 +7,10 @@ ghost use Rattle.script_steps.specs.Taken.{Took};
 ghost use Rattle.explain_report.specs.Reports.{HasLine, IsRestAt, StaysTo};
 ghost use Rattle.explain_areas.specs.Ends.{EndsAs, EndsAt};
 
-use crate::standing::rest_from;
 use explain_report::{
     LastAnswer, ReportFault, TakenTo, lacks_answer, lines_with, take_to, unanswered,
 };
+use explain_standing::rest_from;
 use script_steps::{Bench, Session, Watch};
 use std::alloc::Global;
 use vsm_model::Settings;

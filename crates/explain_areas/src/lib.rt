@@ -1,30 +1,24 @@
 //! What is taken, and by which line: each area that a script leaves taken, and each cell in use, with the statement
-//! that took it. For that the statements in effect at the end are carried out once more, on a bench of their own.
+//! that took it.
 #![tactic(auto)]
 
-mod carried;
+mod asked;
 mod cells;
+mod choices;
 mod ends;
 mod faults;
-mod forms;
-pub mod laws;
-mod newly;
-mod number_map;
-mod objects;
-mod orders;
+mod keeps;
+mod line_counts;
+mod listed;
 mod output;
 mod parts;
-mod standing;
-mod starts;
-mod texts;
+mod rows;
+mod sums;
 mod walks;
 
-pub use carried::Carried;
+pub use asked::{AreasAsked, Listed};
 pub use cells::{LineCell, cells_left};
 pub use faults::AreasFault;
-pub use number_map::NumberMap;
-pub use orders::AreaOrder;
 pub use output::areas;
 pub use parts::LineArea;
-pub use standing::{Followed, Reading, follow};
 pub use walks::areas_left;

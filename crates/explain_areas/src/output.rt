@@ -1,168 +1,153 @@
 //! What is taken, written.
-ghost use Rattle.std.specs.Prelude.{◌≡◌, ◌≤◌, [], IfOk, List, ℕ, flat_map, length, take};
+ghost use Rattle.std.specs.Prelude.{◌≡◌, ◌≤◌, [], IfNone, IfSome, List, ℕ, length, map, take};
 ghost use Rattle.text_output.specs.Writing.{Puts};
-ghost use Rattle.storage_core.specs.Meaning.{settings_of, state_of};
+ghost use Rattle.storage_core.specs.Meaning.{state_of};
 ghost use Rattle.vsm_model.specs.declared.limits.Settings.{Settings as SettingsIn};
-ghost use Rattle.explain_who.specs.ScriptLines.{LinesBegin};
 ghost use Rattle.macro_statements.specs.Requests.{Act};
-ghost use Rattle.explain_areas.specs.Carried.{IsCarried};
-ghost use Rattle.explain_areas.specs.Forms.{area_in, areas_in};
-ghost use Rattle.explain_areas.specs.Orders.{IsInOrder};
-ghost use Rattle.explain_areas.specs.Since.{taken_areas};
-ghost use Rattle.explain_areas.specs.Told.{IsCarriedOut, TellsAreas, TellsPart};
+ghost use Rattle.explain_standing.specs.Carried.{IsCarried};
+ghost use Rattle.explain_who.specs.ScriptLines.{LinesBegin};
+ghost use Rattle.explain_areas.specs.Keeps.{page_of};
+ghost use Rattle.explain_areas.specs.RowTexts.{head_in, listed_text};
+ghost use Rattle.explain_areas.specs.Told.{HasTask, LacksTask, TellsAfter, TellsAreas, TellsPart, WritesText};
 
-use crate::carried::Carried;
+use crate::asked::{AreasAsked, Listed};
 use crate::ends::end_of;
 use crate::faults::AreasFault;
-use crate::forms::{put_area, put_head, put_sum};
-use crate::orders::{AreaOrder, put_in_order};
-use crate::parts::LineArea;
-use crate::standing::follow;
-use crate::starts::line_starts;
-use crate::walks::areas_left;
+use crate::keeps::put_pages;
+use crate::line_counts::lacks_lines;
+use crate::listed::{Found, all_found};
+use crate::rows::put_rows;
+use crate::sums::{put_sum, sum_of};
+use explain_standing::{Carried, FollowFault, carry_out_script};
 use explain_text::Form;
-use explain_who::WhoFault;
-use script_steps::{Bench, Watch};
-use std::alloc::{AllocError, Global};
+use explain_who::line_starts;
+use script_steps::Watch;
+use std::alloc::Global;
 use std::io::Write;
 use storage_core::Storage;
-use storage_map::totals;
 use text_output::Gathered;
 use vsm_model::Settings;
 
-/// Puts areas.
-fn put_areas<W: Write>(
-    gathered: &mut Gathered,
-    writer: &mut W,
-    form: Form,
-    script: &[u8],
-    starts: &[usize],
-    storage: &Storage,
-    areas: &[LineArea],
-)
-    requires { LinesBegin script.now script.now starts.now [] }
-    ensures { Puts (W.contents writer.old) (W.contents writer.new) gathered.old gathered.new
-        (flat_map (area_in form script.now (state_of storage.now).cell_pools) areas.now) }
+/// The task whose subpool is asked for, if it doesn't exist.
+fn lacks_task(storage: &Storage, listed: Listed) -> Option<u8>
+    ensures lacks { IfSome result (LacksTask (state_of storage.now) listed) }
+    ensures has { IfNone result (HasTask (state_of storage.now) listed) }
 {
-    for area in areas {
-        put_area(gathered, writer, form, script, starts, storage, area);
+    match listed {
+        Listed::Areas {
+            subpool: Some((task, _)),
+            ..
+        } => match storage.parent(task) {
+            Some(_) => None,
+            None => Some(task),
+        },
+        Listed::Areas { subpool: None, .. } | Listed::Cells { .. } => None,
     }
 }
 
-/// Puts areas, and their sum.
+/// Puts what the form begins with.
+#[tactic(auto, using(text_output::proofs::Gathering::puts_none))]
+fn put_head<W: Write>(gathered: &mut Gathered, writer: &mut W, form: Form)
+    ensures { Puts (W.contents writer.old) (W.contents writer.new) gathered.old gathered.new (head_in form) }
+{
+    match form {
+        Form::Text => (),
+        Form::Json => explain_text::put_head(gathered, writer, b"report"),
+    }
+}
+
+/// Puts all that is listed, and its sum.
 #[tactic(auto, using(text_output::proofs::Gathering::puts_both))]
-fn put_all<W: Write>(
+fn put_found<W: Write>(
     gathered: &mut Gathered,
     writer: &mut W,
-    form: Form,
+    asked: &AreasAsked,
     script: &[u8],
     starts: &[usize],
-    storage: &Storage,
-    areas: &[LineArea],
+    found: &Found,
 )
     requires { LinesBegin script.now script.now starts.now [] }
     ensures { Puts (W.contents writer.old) (W.contents writer.new) gathered.old gathered.new
-        (areas_in form (settings_of storage.now) (state_of storage.now) script.now areas.now) }
+        (listed_text asked.now.form asked.now.listed script.now (map page_of found.now.pages.items)
+        found.now.rows.items) }
 {
+    let form = asked.form;
+    let rows = found.rows.as_slice();
     put_head(gathered, writer, form);
-    put_areas(gathered, writer, form, script, starts, storage, areas);
-    put_sum(gathered, writer, form, areas.len(), totals(storage).taken);
+    put_pages(gathered, writer, form, found.pages.as_slice());
+    put_rows(gathered, writer, form, script, starts, rows);
+    put_sum(gathered, writer, form, asked.listed, sum_of(rows));
 }
 
-/// The statements of a script in effect at its end, carried out once more.
-fn carried_out<P: Watch>(
+/// Writes all that is listed, and its sum.
+fn write_found<W: Write>(
     alloc: Global,
     script: &[u8],
-    settings: Settings,
-    watch: &mut P,
-) -> Result<Carried, WhoFault>
-    ensures { IsCarriedOut settings script.now result }
-{
-    let followed = match follow(alloc, script, settings, watch) {
-        Ok(followed) => followed,
-        Err(fault) => return Err(fault),
-    };
-    let bench = match Bench::new(alloc, settings) {
-        Ok(bench) => bench,
-        Err(fault) => return Err(WhoFault::New(fault)),
-    };
-    let mut carried = Carried::new(alloc, bench);
-    match carried.carry_out_all(alloc, followed.trail.standing()) {
-        Ok(()) => Ok(carried),
-        Err(_) => Err(WhoFault::Memory),
-    }
-}
-
-/// What is left taken, in an order.
-fn left_in_order(
-    alloc: Global,
-    carried: &Carried,
-    order: AreaOrder,
-) -> Result<Vec<LineArea>, AllocError>
-    ensures { (settings : SettingsIn) (xs : List (ℕ × Act)) → IsCarried settings xs carried.now
-        → IfOk result (λ areas. IsInOrder order (taken_areas settings xs) areas.items) }
-{
-    let mut areas = areas_left(alloc, carried)?;
-    put_in_order(&mut areas, order)?;
-    Ok(areas)
-}
-
-/// What is left taken, in an order, and where the lines of the script begin.
-fn areas_and_starts(
-    alloc: Global,
-    script: &[u8],
-    carried: &Carried,
-    order: AreaOrder,
-) -> Result<(Vec<LineArea>, Vec<usize>), AllocError>
-    ensures areas { (settings : SettingsIn) (xs : List (ℕ × Act)) → IsCarried settings xs carried.now
-        → IfOk result (λ r. IsInOrder order (taken_areas settings xs) r.0.items) }
-    ensures starts { IfOk result (λ r. LinesBegin script.now script.now r.1.items []) }
-{
-    let areas = left_in_order(alloc, carried, order)?;
-    let starts = line_starts(alloc, script)?;
-    Ok((areas, starts))
-}
-
-/// Writes each area that a script leaves taken, in an order, and their sum.
-fn write_areas<W: Write, P: Watch>(
-    alloc: Global,
-    script: &[u8],
-    settings: Settings,
-    form: Form,
-    order: AreaOrder,
+    asked: &AreasAsked,
+    found: &Found,
     out: &mut W,
-    watch: &mut P,
-) -> Result<(), WhoFault>
-    ensures told { TellsPart settings script.now form order (W.contents out.old) (W.contents out.new) result }
+) -> Result<(), AreasFault>
+    ensures { WritesText (listed_text asked.now.form asked.now.listed script.now (map page_of found.now.pages.items)
+        found.now.rows.items) (W.contents out.old) (W.contents out.new) result }
 {
-    let carried = match carried_out(alloc, script, settings, watch) {
-        Ok(carried) => carried,
-        Err(fault) => return Err(fault),
+    let starts = match line_starts(alloc, script) {
+        Ok(starts) => starts,
+        Err(_) => return Err(AreasFault::Follow(FollowFault::Memory)),
     };
-    let (areas, starts) = match areas_and_starts(alloc, script, &carried, order) {
-        Ok(both) => both,
-        Err(_) => {
-            drop(carried);
-            return Err(WhoFault::Memory);
-        }
-    };
-    let storage = carried.bench.storage();
     let mut gathered = Gathered::new();
-    put_all(
-        &mut gathered,
-        out,
-        form,
-        script,
-        starts.as_slice(),
-        storage,
-        areas.as_slice(),
-    );
-    drop(areas);
+    put_found(&mut gathered, out, asked, script, starts.as_slice(), found);
     drop(starts);
-    drop(carried);
     match gathered.hand_out(out) {
         Ok(()) => Ok(()),
-        Err(_) => Err(WhoFault::Write),
+        Err(_) => Err(AreasFault::Write),
+    }
+}
+
+/// Writes what is listed after the statements that were carried out.
+fn write_after<W: Write>(
+    alloc: Global,
+    script: &[u8],
+    carried: &Carried,
+    asked: &AreasAsked,
+    out: &mut W,
+) -> Result<(), AreasFault>
+    ensures { (settings : SettingsIn) (xs : List (ℕ × Act)) → IsCarried settings xs carried.now
+        → TellsAfter settings script.now asked.now xs (W.contents out.old) (W.contents out.new) result }
+{
+    if let Some(lines) = lacks_lines(script, asked.since) {
+        return Err(AreasFault::Since(lines));
+    }
+    if let Some(task) = lacks_task(carried.bench.storage(), asked.listed) {
+        return Err(AreasFault::NoTask(task));
+    }
+    match all_found(alloc, carried, asked.since, asked.listed) {
+        Ok(found) => {
+            let outcome = write_found(alloc, script, asked, &found, out);
+            drop(found);
+            outcome
+        }
+        Err(_) => Err(AreasFault::Follow(FollowFault::Memory)),
+    }
+}
+
+/// Writes what is listed at the end of a script.
+fn write_part<W: Write, P: Watch>(
+    alloc: Global,
+    script: &[u8],
+    settings: Settings,
+    asked: &AreasAsked,
+    out: &mut W,
+    watch: &mut P,
+) -> Result<(), AreasFault>
+    ensures { TellsPart settings script.now asked.now (W.contents out.old) (W.contents out.new) result }
+{
+    match carry_out_script(alloc, script, settings, watch) {
+        Ok(carried) => {
+            let outcome = write_after(alloc, script, &carried, asked, out);
+            drop(carried);
+            outcome
+        }
+        Err(fault) => Err(AreasFault::Follow(fault)),
     }
 }
 
@@ -174,30 +159,26 @@ fn part_before(script: &[u8], at: usize) -> &[u8]
     &script[..at]
 }
 
-/// Writes each area that a script leaves taken, or its part up to the end of the statement of a line: the line that
-/// took it, its bytes, its address and its subpool, and the cell pool of which it's an extent; and their sum. In the
-/// form: lines, or an object for each of them.
+/// Writes what a script leaves taken, or its part up to the end of the statement of a line. Of each area: the line that
+/// took it, its bytes, its address and its subpool, the cell pool of which it's an extent, the task that asked for it,
+/// and whether that task has ended; after an extent, its cells in use. Or each cell in use. And their sum. In the form:
+/// lines, or an object for each of them. If it's asked for, pages come before the areas that few bytes keep.
 ///
 /// After the write fault a prefix of the text was written, after each other fault nothing.
 pub fn areas<W: Write, P: Watch>(
     alloc: Global,
     script: &[u8],
     settings: Settings,
-    form: Form,
-    line: Option<u32>,
-    order: AreaOrder,
+    asked: AreasAsked,
     out: &mut W,
     watch: &mut P,
 ) -> Result<(), AreasFault>
-    ensures told { TellsAreas settings script.now form line order (W.contents out.old) (W.contents out.new) result }
+    ensures told { TellsAreas settings script.now asked (W.contents out.old) (W.contents out.new) result }
 {
-    let end = match end_of(alloc, script, settings, line, watch) {
+    let end = match end_of(alloc, script, settings, asked.line, watch) {
         Ok(end) => end,
         Err(fault) => return Err(AreasFault::Line(fault)),
     };
     let part = part_before(script, end);
-    match write_areas(alloc, part, settings, form, order, out, watch) {
-        Ok(()) => Ok(()),
-        Err(fault) => Err(AreasFault::Areas(fault)),
-    }
+    write_part(alloc, part, settings, &asked, out, watch)
 }

@@ -1,10 +1,10 @@
 //! Areas, one after the other.
 ghost use Rattle.std.specs.Prelude.{◌≡◌, ◌+◌, ◌^◌, ◌<◌, ◌≤◌, ℕ, List, Option, OnOk, reverse};
-ghost use Rattle.explain_areas.specs.Areas.{areas_to, goes_on, joined};
-ghost use Rattle.explain_areas.specs.NumberMaps.{number_in};
+ghost use Rattle.explain_areas.specs.Areas.{areas_to, goes_on, joined, shown_address};
+ghost use Rattle.explain_standing.specs.NumberMaps.{number_in};
 ghost use Rattle.explain_areas.specs.declared.parts.LineArea.{LineArea as AreaIn};
 
-use crate::number_map::NumberMap;
+use explain_standing::NumberMap;
 use std::alloc::AllocError;
 use vsm_model::Subpool;
 
@@ -16,6 +16,13 @@ pub struct LineArea {
     pub start: u32,
     pub count: u32,
     pub line: u32,
+}
+
+/// The address of an area.
+pub(crate) fn shown_address(area: &LineArea) -> u32
+    ensures { result ≡ shown_address area.now }
+{
+    area.start.saturating_mul(8)
 }
 
 /// Whether an area begins at the end of another one of its subpool and line.

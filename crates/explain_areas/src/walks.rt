@@ -7,14 +7,13 @@ ghost use Rattle.storage_core.specs.Meaning.{state_in_place};
 ghost use Rattle.macro_statements.specs.Requests.{Act};
 ghost use Rattle.vsm_model.specs.declared.limits.Settings.{Settings as SettingsIn};
 ghost use Rattle.explain_areas.specs.Areas.{areas_of, areas_to};
-ghost use Rattle.explain_areas.specs.Carried.{IsCarried};
+ghost use Rattle.explain_standing.specs.Carried.{IsCarried};
 ghost use Rattle.explain_areas.specs.Since.{taken_areas};
 ghost use Rattle.explain_areas.specs.Ahead.{IsFreeFrom, IsNext, AreLinesOf};
 ghost use Rattle.explain_areas.specs.declared.parts.LineArea.{LineArea as AreaIn};
 
-use crate::carried::Carried;
-use crate::number_map::NumberMap;
 use crate::parts::{LineArea, add_taken};
+use explain_standing::{Carried, NumberMap};
 use std::alloc::{AllocError, Global};
 use storage_core::{Area as FreeArea, FreeAreaPlace, Run, Storage, Subpool};
 

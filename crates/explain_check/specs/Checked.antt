@@ -20,7 +20,7 @@ use Rattle.explain_list.specs.Pages.{AreAllLines, AreFirstLines, AreLinesOf, Fol
 use Rattle.explain_list.specs.Pages.{open_of}
 use Rattle.explain_list.specs.Listing.{AreAnswers, Carries, IsNewFault}
 use Rattle.explain_list.specs.Rows.{AreMarksOf, IsLineAt, Mark}
-use Rattle.explain_areas.specs.Told.{standing}
+use Rattle.explain_standing.specs.Lined.{standing}
 use Rattle.explain_findings.specs.Found.{finding_on}
 use Rattle.explain_findings.specs.Left.{Sum, left_after, left_in_all as sum_after, nothing_left}
 use Rattle.explain_findings.specs.Tables.{found_on, left_on, sum_left}

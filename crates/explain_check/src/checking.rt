@@ -23,7 +23,7 @@ use explain_faults::lines::SourceLine;
 use explain_findings::{Findings, find};
 use explain_list::pages::{ListingPage, rest_line};
 use explain_list::{ListFault, rest_from};
-use explain_who::WhoFault;
+use explain_standing::FollowFault;
 use macro_reader::Request;
 use script_steps::{Response, Session, TooLong, Watch};
 use std::alloc::Global;
@@ -262,15 +262,9 @@ fn findings_in<P: Watch>(
 {
     match find(alloc, script, settings, watch) {
         Ok(findings) => Ok(findings),
-        Err(fault) => match fault {
-            WhoFault::TooLong => Ok(Findings::nothing(alloc)),
-            WhoFault::New(fault) => Err(ListFault::New(fault)),
-            WhoFault::Memory
-            | WhoFault::Count
-            | WhoFault::NoTask(_)
-            | WhoFault::NoName(_)
-            | WhoFault::Write => Err(ListFault::Memory),
-        },
+        Err(FollowFault::TooLong) => Ok(Findings::nothing(alloc)),
+        Err(FollowFault::New(fault)) => Err(ListFault::New(fault)),
+        Err(FollowFault::Memory) => Err(ListFault::Memory),
     }
 }
 

@@ -1,3 +1,4 @@
+mod Distances
 mod Ends
 mod FieldBytes
 pub mod FieldOver

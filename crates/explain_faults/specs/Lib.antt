@@ -1,3 +1,4 @@
+pub mod Likeness
 pub mod Operands
 pub mod Places
 pub mod Roles

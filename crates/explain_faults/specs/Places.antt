@@ -86,7 +86,7 @@ is_of_operand fault.Missing = false
 is_of_operand fault.Value = true
 is_of_operand fault.LeftOut = true
 
--- Where the caret of a fault of the first line is, by columns 1 to 71 of it: in column 1, or where the operation begins,
+-- Where the caret of a fault of the first line is, by its columns 1 to 71: in column 1, or where the operation begins,
 -- if the line has one.
 abbrev pub IsHeadPlace : List ℕ → FaultKind → TextPlace → Type 0
 IsHeadPlace card fault.Column place = (place.line ≡ 0) × (place.column ≡ 1)

@@ -8,6 +8,7 @@ pub mod gathered;
 mod guesses;
 pub mod hints;
 mod laws;
+mod likeness;
 pub mod lines;
 mod missing;
 mod operand_hints;
@@ -19,3 +20,4 @@ mod values;
 pub mod warnings;
 
 pub use laws::field_bytes_are_there;
+pub use likeness::nearness;

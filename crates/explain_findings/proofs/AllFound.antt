@@ -4,25 +4,25 @@ use Rattle.std.proofs.lemmas.List.{reverse-reverse}
 use Rattle.macro_operands.specs.declared.requests.Statement.{Statement}
 use Rattle.vsm_model.specs.declared.limits.Settings.{Settings}
 use Rattle.vsm_model.specs.Standing.{nothing_stands}
-use Rattle.explain_areas.specs.Carried.{IsCarried}
-use Rattle.explain_areas.specs.Told.{standing}
-use Rattle.explain_areas.specs.declared.carried.Carried.{Carried}
-use Rattle.explain_who.specs.Trails.{marks_of}
-use Rattle.explain_who.specs.declared.trail.TrailEntry.{TrailEntry}
+use Rattle.explain_standing.specs.Carried.{IsCarried}
+use Rattle.explain_standing.specs.Lined.{standing}
+use Rattle.explain_standing.specs.declared.carried.Carried.{Carried}
+use Rattle.explain_standing.specs.Trails.{marks_of}
+use Rattle.explain_standing.specs.declared.trail.TrailEntry.{TrailEntry}
 use Rattle.explain_findings.specs.Found.{AreFound, either, judged, judged_readings, on_line}
-use Rattle.explain_areas.specs.NumberMaps.{number_in}
+use Rattle.explain_standing.specs.NumberMaps.{number_in}
 use Rattle.explain_findings.specs.LeftTables.{IsAllLeft}
 use Rattle.explain_findings.specs.NameEndings.{ending_kept, word_kept}
-use Rattle.explain_areas.specs.Readings.{readings_all}
+use Rattle.explain_standing.specs.Readings.{readings_all}
 use Rattle.explain_findings.specs.Replays.{IsNothingFound, IsReplayed, Knows, ReplaysAll}
-use Rattle.explain_areas.specs.Standings.{IsFollowedBy, acts_in, reading_in}
+use Rattle.explain_standing.specs.Standings.{IsFollowedBy, acts_in, reading_in}
 use Rattle.explain_findings.specs.Tables.{or_else}
 use Rattle.explain_findings.specs.declared.findings.Finding.{Finding}
 use Rattle.explain_findings.specs.declared.judging.Known.{Known}
 use Rattle.explain_findings.specs.declared.left.LeftTable.{LeftTable}
 use Rattle.explain_findings.specs.declared.replay.Replay.{Replay}
-use Rattle.explain_areas.specs.declared.standing.Followed.{Followed}
-use Rattle.explain_areas.specs.declared.standing.Reading.{Reading as ReadingKept}
+use Rattle.explain_standing.specs.declared.standing.Followed.{Followed}
+use Rattle.explain_standing.specs.declared.standing.Reading.{Reading as ReadingKept}
 
 -- Nothing is known at first,
 knows_nothing : (settings : Settings) (c : Carried) (known : Known) → IsCarried settings [] c → ((byte : ℕ) → number_in known.stored byte ≡ None) →

@@ -10,10 +10,10 @@ use Rattle.vsm_model.specs.State.{State}
 use Rattle.service_laws.proofs.Cases.{same_some}
 use Rattle.vsm_bench.proofs.Served.{accepted_is_its_service}
 use Rattle.explain_who.specs.Taken.{taken_at}
-use Rattle.explain_areas.specs.Carried.{IsCarried, state_in}
-use Rattle.explain_areas.specs.NumberMaps.{number_in}
-use Rattle.explain_areas.specs.Since.{machine_after, reply_to}
-use Rattle.explain_areas.specs.declared.carried.Carried.{Carried}
+use Rattle.explain_standing.specs.Carried.{IsCarried, state_in}
+use Rattle.explain_standing.specs.NumberMaps.{number_in}
+use Rattle.explain_standing.specs.Since.{machine_after, reply_to}
+use Rattle.explain_standing.specs.declared.carried.Carried.{Carried}
 use Rattle.explain_findings.specs.Endings.{can_end, ended_by, ends_at, first_line, gives, is_used}
 use Rattle.explain_findings.specs.NameEndings.{ended_now, ending_kept, word_kept}
 use Rattle.explain_findings.specs.Replays.{IsGiven, IsServed, Knows, is_among, word_given}

@@ -18,14 +18,14 @@ use Rattle.vsm_model.specs.Step.{step}
 use Rattle.service_laws.proofs.Cases.{same_some}
 use Rattle.vsm_bench.proofs.Served.{accepted_is_its_service}
 use Rattle.explain_findings.specs.Accesses.{outside_at}
-use Rattle.explain_areas.specs.Carried.{state_in}
-use Rattle.explain_areas.specs.Since.{got_since, is_cell_in_use, machine_after, reply_to, taken_since}
-use Rattle.explain_areas.specs.declared.carried.Carried.{Carried}
+use Rattle.explain_standing.specs.Carried.{state_in}
+use Rattle.explain_standing.specs.Since.{got_since, is_cell_in_use, machine_after, reply_to, taken_since}
+use Rattle.explain_standing.specs.declared.carried.Carried.{Carried}
 use Rattle.explain_findings.specs.Endings.{name_used, stale_name}
 use Rattle.explain_findings.specs.Found.{finding_at, read_outside, read_unset, reading_finding, released_part, stored_outside}
 use Rattle.explain_findings.specs.Homes.{home_after, home_at}
 use Rattle.explain_findings.specs.Judged.{finding_by, outside_by, part_by, read_by, reading_by, unset_by}
-use Rattle.explain_areas.specs.NumberMaps.{number_in}
+use Rattle.explain_standing.specs.NumberMaps.{number_in}
 use Rattle.explain_findings.specs.NameEndings.{ending_kept}
 use Rattle.explain_findings.specs.Parts.{part_at}
 use Rattle.explain_findings.specs.Replays.{Knows, part_kept}

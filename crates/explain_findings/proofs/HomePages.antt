@@ -1,10 +1,9 @@
 -- Where a fullword is, and pages that no subpool has.
-use Rattle.std.proofs.Common.{◌≡◌, ◌≤◌, ◌<◌, ◌-◌, ◌^◌, ◌/◌, ℕ, Bool, true, false, Option, Some, None, refl, sym, ap, ◌∙◌, arith}
+use Rattle.std.proofs.Common.{◌≡◌, ◌≤◌, ◌<◌, ◌-◌, ◌^◌, ◌/◌, ℕ, true, false, Option, Some, None, refl, sym, ap, ◌∙◌, arith}
 use Rattle.std.proofs.Props.{props}
 use mathlib.Core.Logic.{∥∥₁_elim}
 use Rattle.vsm_model.specs.declared.Subpool.{Subpool}
 use Rattle.vsm_model.specs.Areas.{is_free}
-use Rattle.vsm_model.specs.State.{is_task}
 use Rattle.service_laws.proofs.Words.{low_page}
 use Rattle.storage_changes.proofs.MeaningLemmas.{free_storage_is_free}
 use Rattle.storage_core.specs.declared.storage.Storage.{Storage}
@@ -41,12 +40,3 @@ module _ (s : Storage) where
     go : (o : Option Subpool) → (state_of s).pages (word / 1024) ≡ o → word < 2 ^ 30 - 1
     go None e = absurd (never_same first (sym (ap (λ o. same_home first (home_on (state_of s) lines word o)) e) ∙ same))
     go (Some p) e = let low = page_low (word / 1024) p e in omega (arith, low)
-
-  -- the number of a task is small
-  pub task_low : (task : ℕ) → 256 ≤ task → false ≡ is_task (state_of s) task
-  task_low task high = go (is_task (state_of s) task) refl where
-    go : (b : Bool) → is_task (state_of s) task ≡ b → false ≡ is_task (state_of s) task
-    go false is = sym is
-    go true is =
-        ∥∥₁_elim s.held.sound (hlevel props)
-        (λ sound. absurd (let its = sound.well_formed.tasks.numbered task is in omega (arith, high, its.1)))

@@ -10,7 +10,7 @@ use Rattle.vsm_model.specs.Subpools.{same_subpool}
 use Rattle.service_laws.proofs.Cases.{belongs_from, in_among}
 use Rattle.explain_who.specs.Taken.{cell_at, taken_by}
 use Rattle.explain_findings.specs.Homes.{home_at, home_by, home_on}
-use Rattle.explain_areas.specs.NumberMaps.{is_of_one, same_number}
+use Rattle.explain_standing.specs.NumberMaps.{is_of_one, same_number}
 use Rattle.explain_findings.specs.Parts.{goes_on, part_at}
 use Rattle.explain_findings.specs.declared.findings.Part.TheVariants as part
 use Rattle.explain_findings.specs.declared.homes.Home.{Home}

@@ -4,8 +4,8 @@ use Rattle.std.proofs.lemmas.Bool.{cases_eq, eq-eqb, eqb-true, false_from_ne_tru
 use Rattle.std.proofs.lemmas.Option.{slice_get-get_or}
 use Rattle.service_laws.proofs.Cases.{among_in, in_among}
 use Rattle.vsm_model.specs.Regions.{among}
-use Rattle.explain_areas.specs.NumberMaps.{number_in}
-use Rattle.explain_areas.specs.declared.number_map.NumberMap.{NumberMap}
+use Rattle.explain_standing.specs.NumberMaps.{number_in}
+use Rattle.explain_standing.specs.declared.number_map.NumberMap.{NumberMap}
 use Rattle.explain_findings.specs.LeftTables.{IsPlaced, at_place, left_kept}
 use Rattle.explain_findings.specs.declared.left.Left.{Left}
 use Rattle.explain_findings.specs.declared.left.LeftTable.{LeftTable}

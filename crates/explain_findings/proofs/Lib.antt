@@ -11,7 +11,6 @@ mod Replies
 mod KeptNames
 mod KeptLines
 mod UsedCells
-mod Askers
 mod LeftPlaces
 mod LeftLists
 mod Carried

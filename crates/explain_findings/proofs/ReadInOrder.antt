@@ -6,25 +6,25 @@ use Rattle.macro_operands.specs.declared.requests.Statement.{Statement}
 use Rattle.macro_statements.specs.Requests.{Act, written_in}
 use Rattle.vsm_model.specs.declared.limits.Settings.{Settings}
 use Rattle.bench_core.specs.Stands.{bench_of}
-use Rattle.explain_who.specs.declared.trail.TrailEntry.{TrailEntry}
+use Rattle.explain_standing.specs.declared.trail.TrailEntry.{TrailEntry}
 use Rattle.explain_findings.specs.Found.{is_something, judged_readings, on_line, reading_finding}
 use Rattle.explain_findings.specs.Homes.{home_at}
 use Rattle.explain_findings.specs.Judged.{reading_by}
-use Rattle.explain_areas.specs.NumberMaps.{number_in}
+use Rattle.explain_standing.specs.NumberMaps.{number_in}
 use Rattle.explain_findings.specs.NameEndings.{ending_kept, word_kept}
 use Rattle.explain_findings.specs.Replays.{AreRead, GoesTo, IsReplayed, Knows, Reads, ReplaysAll, first_acts, with_finding}
-use Rattle.explain_areas.specs.Carried.{line_act, state_in}
-use Rattle.explain_areas.specs.Standings.{acts_in, reading_in}
-use Rattle.explain_areas.specs.declared.carried.Carried.{Carried}
+use Rattle.explain_standing.specs.Carried.{line_act, state_in}
+use Rattle.explain_standing.specs.Standings.{acts_in, reading_in}
+use Rattle.explain_standing.specs.declared.carried.Carried.{Carried}
 use Rattle.explain_findings.specs.Tables.{on_table}
 use Rattle.explain_findings.specs.declared.endings.Endings.{Endings}
 use Rattle.explain_findings.specs.declared.findings.Finding.{Finding}
 use Rattle.explain_findings.specs.declared.judging.Known.{Known}
-use Rattle.explain_areas.specs.declared.number_map.NumberMap.{NumberMap}
+use Rattle.explain_standing.specs.declared.number_map.NumberMap.{NumberMap}
 use Rattle.explain_findings.specs.declared.replay.Replay.{Replay}
-use Rattle.explain_areas.specs.declared.standing.Reading.{Reading as ReadingKept}
+use Rattle.explain_standing.specs.declared.standing.Reading.{Reading as ReadingKept}
 use Rattle.explain_findings.specs.declared.tables.LineTable.{LineTable}
-use Rattle.explain_areas.proofs.Firsts.{firsts_more, firsts_of_all}
+use Rattle.explain_standing.proofs.Firsts.{firsts_more, firsts_of_all}
 use Rattle.explain_findings.proofs.FoundBefore.{found_of_reading}
 
 pub on_ok_both : {V E P Q R : Type 0} (r : Result V E) → (P → Q → R) → OnOk r P → OnOk r Q → OnOk r R

@@ -13,16 +13,16 @@ use Rattle.vsm_model.specs.declared.limits.Settings.{Settings}
 use Rattle.vsm_model.specs.declared.replies.Reply.{Reply}
 use Rattle.vsm_model.specs.Standing.{Standing, nothing_stands}
 use Rattle.script_steps.specs.Output.{Marked, alone_now}
-use Rattle.explain_areas.specs.Told.{standing}
-use Rattle.explain_who.specs.Lined.{lined_after, lined_all, plain}
-use Rattle.explain_who.specs.Trails.{marks_of}
-use Rattle.explain_who.specs.declared.trail.TrailEntry.{TrailEntry}
-use Rattle.explain_areas.specs.Readings.{Reading, if_shown, reading_asked, readings_after, readings_all}
+use Rattle.explain_standing.specs.Lined.{standing}
+use Rattle.explain_standing.specs.Lined.{lined_after, lined_all, plain}
+use Rattle.explain_standing.specs.Trails.{marks_of}
+use Rattle.explain_standing.specs.declared.trail.TrailEntry.{TrailEntry}
+use Rattle.explain_standing.specs.Readings.{Reading, if_shown, reading_asked, readings_after, readings_all}
 use Rattle.explain_findings.specs.Replays.{Rises, depths}
-use Rattle.explain_areas.specs.Carried.{line_act}
-use Rattle.explain_areas.specs.Standings.{IsFollowedBy, acts_in, reading_in}
-use Rattle.explain_areas.specs.declared.standing.Followed.{Followed}
-use Rattle.explain_areas.specs.declared.standing.Reading.{Reading as ReadingKept}
+use Rattle.explain_standing.specs.Carried.{line_act}
+use Rattle.explain_standing.specs.Standings.{IsFollowedBy, acts_in, reading_in}
+use Rattle.explain_standing.specs.declared.standing.Followed.{Followed}
+use Rattle.explain_standing.specs.declared.standing.Reading.{Reading as ReadingKept}
 
 -- the next of them
 pub its_turn : (rs : List ReadingKept) (i : ℕ) (r : ReadingKept) (low high : ℕ) → i < length rs → r ≡ get_or rs i r → Rises low (depths (drop i rs)) high →

@@ -11,7 +11,7 @@ use Rattle.vsm_model.specs.Cells.{is_in_use}
 use Rattle.vsm_model.specs.State.{State}
 use Rattle.explain_who.specs.Taken.{cell_at, cell_with, extent_with, taken_by, taken_cell}
 use Rattle.explain_who.specs.declared.takers.Taken.TheVariants as taken
-use Rattle.explain_areas.specs.Since.{is_cell_in_use}
+use Rattle.explain_standing.specs.Since.{is_cell_in_use}
 use Rattle.explain_findings.specs.Homes.{home_at, home_by, home_on}
 use Rattle.explain_findings.specs.Stores.{line_at_home}
 use Rattle.explain_findings.specs.declared.homes.Home.{Home}

@@ -10,7 +10,7 @@ use Rattle.vsm_model.specs.Names.{same_name, word_of}
 use Rattle.vsm_model.specs.Regions.{doublewords}
 use Rattle.vsm_model.specs.Services as services
 use Rattle.vsm_model.specs.Services.{Service}
-use Rattle.explain_areas.specs.Since.{machine_after, reply_to}
+use Rattle.explain_standing.specs.Since.{machine_after, reply_to}
 use Rattle.explain_who.specs.Taken.{taken_at}
 use Rattle.explain_who.specs.declared.takers.Taken.{Taken}
 use Rattle.explain_who.specs.declared.takers.Taken.TheVariants as taken

@@ -13,16 +13,16 @@ use Rattle.vsm_model.specs.Services.{Service}
 use Rattle.vsm_model.specs.Standing.{nothing_stands}
 use Rattle.script_steps.specs.Output.{Marked}
 use Rattle.script_steps.specs.Taken.{Ended}
-use Rattle.explain_areas.specs.Since.{taken_since}
-use Rattle.explain_areas.specs.Told.{standing}
-use Rattle.explain_who.specs.Faults.{FollowsNot}
-use Rattle.explain_who.specs.declared.faults.WhoFault.{WhoFault}
+use Rattle.explain_standing.specs.Since.{taken_since}
+use Rattle.explain_standing.specs.Lined.{standing}
+use Rattle.explain_standing.specs.Faults.{FollowsNot}
+use Rattle.explain_standing.specs.declared.faults.FollowFault.{FollowFault}
 use Rattle.explain_findings.specs.Accesses.{outside_at}
-use Rattle.explain_areas.specs.Since.{machine_after, reply_to}
+use Rattle.explain_standing.specs.Since.{machine_after, reply_to}
 use Rattle.explain_findings.specs.Endings.{name_used, stale_name}
 use Rattle.explain_findings.specs.Homes.{home_after}
 use Rattle.explain_findings.specs.Parts.{part_at}
-use Rattle.explain_areas.specs.Readings.{Reading, readings_all}
+use Rattle.explain_standing.specs.Readings.{Reading, readings_all}
 use Rattle.explain_findings.specs.declared.findings.Finding.{Finding}
 use Rattle.explain_findings.specs.declared.findings.Findings.{Findings}
 use Rattle.explain_findings.specs.declared.findings.Outside.{Outside}
@@ -108,7 +108,7 @@ module _ (settings : Settings) where
       (on_line (judged_readings (standing settings answers) (readings_all settings nothing_stands [] answers)) line)
 
   -- Exactly that is found in a script, or it can't be followed.
-  abbrev pub AreFound : List ℕ → Result Findings WhoFault → Type 0
+  abbrev pub AreFound : List ℕ → Result Findings FollowFault → Type 0
   AreFound script (Ok found) =
       (answers : List Marked) × Ended settings script answers
       × ((line : ℕ) → found_on found line ≡ finding_on answers line)

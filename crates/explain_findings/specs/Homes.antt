@@ -6,7 +6,7 @@ use Rattle.vsm_model.specs.declared.Subpool.{Subpool}
 use Rattle.vsm_model.specs.declared.limits.Settings.{Settings}
 use Rattle.vsm_model.specs.Areas.{is_free}
 use Rattle.vsm_model.specs.State.{State}
-use Rattle.explain_areas.specs.Since.{acts, storage_after, taken_since}
+use Rattle.explain_standing.specs.Since.{acts, storage_after, taken_since}
 use Rattle.explain_who.specs.Taken.{cell_at, taken_by}
 use Rattle.explain_who.specs.declared.takers.Taken.{Taken}
 use Rattle.explain_who.specs.declared.takers.Taken.TheVariants as taken

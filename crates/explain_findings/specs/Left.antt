@@ -1,16 +1,17 @@
 -- What is left taken at the end, by the lines that took it: areas, except extents of cell pools, and cells in use.
 -- Assembler Services Reference, STORAGE OBTAIN and CPOOL.
-use Rattle.std.specs.Prelude.{ℕ, ◌+◌, ◌*◌, min, Bool, true, false, not, ◌||◌, ◌==◌, nat_lt, if◌then◌else◌}
-use Rattle.std.specs.Prelude.{Option, Some, None, is_some, unwrap_or, List, [], ◌∷◌, filter, length, map, reverse}
+use Rattle.std.specs.Prelude.{ℕ, ◌+◌, ◌*◌, min, Bool, true, false, ◌||◌, ◌==◌, if◌then◌else◌}
+use Rattle.std.specs.Prelude.{Option, Some, None, is_some, List, [], ◌∷◌, filter, length, map, reverse}
 use Rattle.macro_statements.specs.Requests.{Act}
 use Rattle.vsm_model.specs.declared.limits.Settings.{Settings}
-use Rattle.vsm_model.specs.State.{State, is_task}
+use Rattle.vsm_model.specs.State.{State}
 use Rattle.explain_who.specs.Taken.{taken_by}
 use Rattle.explain_who.specs.declared.takers.Taken.{Taken}
 use Rattle.explain_who.specs.declared.takers.Taken.TheVariants as taken
 use Rattle.explain_areas.specs.Cells.{used_cells}
-use Rattle.explain_areas.specs.Since.{asked_by, began_since, machine_after, taken_areas}
-use Rattle.explain_areas.specs.Texts.{shown_address}
+use Rattle.explain_standing.specs.Since.{asker, asker_ended, machine_after}
+use Rattle.explain_areas.specs.Since.{taken_areas}
+use Rattle.explain_areas.specs.Areas.{shown_address}
 use Rattle.explain_areas.specs.declared.cells.LineCell.{LineCell}
 use Rattle.explain_areas.specs.declared.parts.LineArea.{LineArea}
 use Rattle.explain_findings.specs.declared.left.Left.{Left}
@@ -31,16 +32,6 @@ is_obtained s a = is_of_no_pool (taken_by a.subpool (shown_address a) s.cell_poo
 
 abbrev pub obtained_areas : Settings → List (ℕ × Act) → List LineArea
 obtained_areas settings xs = filter (is_obtained (machine_after settings xs).storage) (taken_areas settings xs)
-
--- ---- tasks
-
--- A task has ended since a line if it doesn't exist, or if the one that exists began later.
-abbrev pub is_later : Option ℕ → ℕ → Bool
-is_later None line = false
-is_later (Some began) line = nat_lt line began
-
-abbrev pub has_ended : State → Option ℕ → ℕ → ℕ → Bool
-has_ended s began task line = not (is_task s task) || is_later began line
 
 -- ---- what is left of one line
 
@@ -114,18 +105,11 @@ sum_bytes [] bytes = bytes
 sum_bytes (b ∷ bs) bytes = sum_bytes bs (min (bytes + b) most)
 
 module _ (settings : Settings) (xs : List (ℕ × Act)) where
-  abbrev pub asker : ℕ → ℕ
-  asker line = unwrap_or (asked_by settings xs line) 0
-
-  abbrev pub asker_ended : ℕ → Bool
-  asker_ended line =
-      has_ended (machine_after settings xs).storage (began_since settings xs (asker line)) (asker line) line
-
   -- what these statements, the newest first, leave of a line
   abbrev pub left_after : ℕ → Option Left
   left_after line =
-      with_cells line (asker line) (asker_ended line) (used_cells settings xs)
-      (with_areas line (asker line) (asker_ended line) (obtained_areas settings xs) None)
+      with_cells line (asker settings xs line) (asker_ended settings xs line) (used_cells settings xs)
+      (with_areas line (asker settings xs line) (asker_ended settings xs line) (obtained_areas settings xs) None)
 
   -- The sum of all areas and cells, and the lines that took them, ascending.
   abbrev pub left_in_all : Sum

@@ -4,14 +4,15 @@ use Rattle.std.specs.Prelude.{filter, length, map}
 use Rattle.macro_operands.specs.declared.requests.Statement.{Statement}
 use Rattle.macro_statements.specs.Requests.{Act}
 use Rattle.vsm_model.specs.declared.limits.Settings.{Settings}
-use Rattle.explain_who.specs.declared.trail.TrailEntry.{TrailEntry}
-use Rattle.explain_areas.specs.Carried.{IsCarried}
+use Rattle.explain_standing.specs.declared.trail.TrailEntry.{TrailEntry}
+use Rattle.explain_standing.specs.Carried.{IsCarried}
 use Rattle.explain_areas.specs.Cells.{used_cells}
-use Rattle.explain_areas.specs.NumberMaps.{number_in}
-use Rattle.explain_areas.specs.declared.carried.Carried.{Carried}
+use Rattle.explain_standing.specs.NumberMaps.{number_in}
+use Rattle.explain_standing.specs.declared.carried.Carried.{Carried}
 use Rattle.explain_areas.specs.declared.cells.LineCell.{LineCell}
 use Rattle.explain_areas.specs.declared.parts.LineArea.{LineArea}
-use Rattle.explain_findings.specs.Left.{asker, asker_ended, bytes_of, left_after, left_in_all, obtained_areas}
+use Rattle.explain_standing.specs.Since.{asker, asker_ended}
+use Rattle.explain_findings.specs.Left.{bytes_of, left_after, left_in_all, obtained_areas}
 use Rattle.explain_findings.specs.Left.{sum_bytes, sum_of, with_area, with_areas, with_cell, with_cells}
 use Rattle.explain_findings.specs.declared.left.Left.{Left}
 use Rattle.explain_findings.specs.declared.left.LeftTable.{LeftTable}
@@ -30,12 +31,6 @@ pub record IsPlaced (t : LeftTable) : Type 0 where
   pub own :
       (line other place : ℕ) → line < 2 ^ 32 → other < 2 ^ 32 → number_in t.places line ≡ Some place →
       number_in t.places other ≡ Some place → line ≡ other
-
--- The task asked for what a line took, and it has ended or not.
-abbrev pub IsAskerOf : Carried → ℕ → ℕ → Bool → Type 0
-IsAskerOf c line task ended =
-    (settings : Settings) (xs : List (ℕ × Act)) → IsCarried settings xs c →
-    (task ≡ asker settings xs line) × (ended ≡ asker_ended settings xs line)
 
 -- Another area, or another cell, is left of its line.
 abbrev pub AddsArea : Carried → LineArea → (ℕ → Option Left) → (ℕ → Option Left) → Type 0

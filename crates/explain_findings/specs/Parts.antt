@@ -1,7 +1,7 @@
 -- A release that takes back less than an area, or of several.
 use Rattle.std.specs.Prelude.{ℕ, ◌+◌, ◌-◌, ◌*◌, Bool, not, ◌||◌, if◌then◌else◌}
 use Rattle.std.specs.Prelude.{Option, Some, None, unwrap_or}
-use Rattle.explain_areas.specs.NumberMaps.{is_of_one}
+use Rattle.explain_standing.specs.NumberMaps.{is_of_one}
 use Rattle.explain_findings.specs.Homes.{same_home}
 use Rattle.explain_findings.specs.declared.findings.Part.{Part}
 use Rattle.explain_findings.specs.declared.findings.Part.TheVariants as part

@@ -12,14 +12,14 @@ use Rattle.vsm_model.specs.declared.replies.Reply.TheVariants.{Obtained, Returne
 use Rattle.vsm_model.specs.Names.{NamedState, word_of}
 use Rattle.vsm_model.specs.Regions.{among}
 use Rattle.vsm_model.specs.Services.{Service}
-use Rattle.explain_who.specs.declared.trail.TrailEntry.{TrailEntry}
-use Rattle.explain_areas.specs.Carried.{IsCarried, line_act}
-use Rattle.explain_areas.specs.NumberMaps.{number_in}
-use Rattle.explain_areas.specs.Since.{machine_after, reply_to}
-use Rattle.explain_areas.specs.Standings.{IsFollowedBy, acts_in, reading_in}
-use Rattle.explain_areas.specs.declared.carried.Carried.{Carried}
-use Rattle.explain_areas.specs.declared.standing.Followed.{Followed}
-use Rattle.explain_areas.specs.declared.standing.Reading.{Reading as ReadingKept}
+use Rattle.explain_standing.specs.declared.trail.TrailEntry.{TrailEntry}
+use Rattle.explain_standing.specs.Carried.{IsCarried, line_act}
+use Rattle.explain_standing.specs.NumberMaps.{number_in}
+use Rattle.explain_standing.specs.Since.{machine_after, reply_to}
+use Rattle.explain_standing.specs.Standings.{IsFollowedBy, acts_in, reading_in}
+use Rattle.explain_standing.specs.declared.carried.Carried.{Carried}
+use Rattle.explain_standing.specs.declared.standing.Followed.{Followed}
+use Rattle.explain_standing.specs.declared.standing.Reading.{Reading as ReadingKept}
 use Rattle.explain_findings.specs.Endings.{can_end, ended_by, gives}
 use Rattle.explain_findings.specs.Found.{AreFound, finding_at, is_something, judged, judged_readings, on_line}
 use Rattle.explain_findings.specs.Found.{reading_finding}

@@ -7,10 +7,10 @@ use Rattle.vsm_model.specs.declared.limits.Settings.{Settings}
 use Rattle.vsm_model.specs.Regions.{among}
 use Rattle.vsm_model.specs.Services as services
 use Rattle.vsm_model.specs.Services.{Service}
-use Rattle.explain_areas.specs.Carried.{state_in}
-use Rattle.explain_areas.specs.NumberMaps.{number_in}
-use Rattle.explain_areas.specs.Since.{got_since, machine_after}
-use Rattle.explain_areas.specs.declared.carried.Carried.{Carried}
+use Rattle.explain_standing.specs.Carried.{state_in}
+use Rattle.explain_standing.specs.NumberMaps.{number_in}
+use Rattle.explain_standing.specs.Since.{got_since, machine_after}
+use Rattle.explain_standing.specs.declared.carried.Carried.{Carried}
 use Rattle.explain_findings.specs.Homes.{home_after, home_at}
 use Rattle.explain_findings.specs.declared.findings.Unset.{Unset}
 use Rattle.explain_findings.specs.declared.homes.Home.{Home}

@@ -3,11 +3,11 @@ ghost use Rattle.std.specs.Prelude.{◌≡◌, ◌+◌, ◌^◌, ◌<◌, ◌≤
 ghost use Rattle.storage_core.specs.Meaning.{state_of};
 ghost use Rattle.explain_findings.specs.Accesses.{first_outside, outside_at, words_of};
 ghost use Rattle.explain_findings.specs.Homes.{home_at};
-ghost use Rattle.explain_areas.specs.NumberMaps.{number_in};
+ghost use Rattle.explain_standing.specs.NumberMaps.{number_in};
 
 use crate::findings::Outside;
 use crate::homes::{Home, home_at};
-use explain_areas::NumberMap;
+use explain_standing::NumberMap;
 use storage_core::{Storage, Subpool};
 
 /// How many fullwords have one of these bytes.

@@ -4,9 +4,9 @@ ghost use Rattle.vsm_model.specs.Areas.{is_free};
 ghost use Rattle.storage_core.specs.Meaning.{state_of};
 ghost use Rattle.explain_who.specs.Taken.{cell_at, taken_by};
 ghost use Rattle.explain_findings.specs.Homes.{home_at, home_by, home_on, same_home};
-ghost use Rattle.explain_areas.specs.NumberMaps.{number_in};
+ghost use Rattle.explain_standing.specs.NumberMaps.{number_in};
 
-use explain_areas::NumberMap;
+use explain_standing::NumberMap;
 use explain_who::{PoolName, Taken, cell_at, subpool_at, taken_by};
 use storage_core::{Storage, Subpool};
 

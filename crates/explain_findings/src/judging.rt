@@ -4,20 +4,20 @@ ghost use Rattle.macro_statements.specs.Requests.{IsValidAct, IsValue, act, act_
 ghost use Rattle.bench_core.specs.Machine.{service_asked};
 ghost use Rattle.bench_core.specs.Stands.{bench_of};
 ghost use Rattle.vsm_model.specs.Meaning.{service_in};
-ghost use Rattle.explain_areas.specs.NumberMaps.{number_in};
+ghost use Rattle.explain_standing.specs.NumberMaps.{number_in};
 ghost use Rattle.explain_findings.specs.Endings.{name_used};
 ghost use Rattle.explain_findings.specs.Homes.{home_at};
 ghost use Rattle.explain_findings.specs.Judged.{HasFewBytes, finding_by, name_of, outside_by, part_by, read_by};
 ghost use Rattle.explain_findings.specs.Judged.{reading_by, stale_by, unset_by};
 ghost use Rattle.explain_findings.specs.NameEndings.{ending_kept};
-ghost use Rattle.explain_areas.specs.Carried.{state_in};
+ghost use Rattle.explain_standing.specs.Carried.{state_in};
 
 use crate::accesses::outside_at;
 use crate::endings::Endings;
 use crate::findings::{Finding, Outside, Part, Unset};
 use crate::parts::{doublewords, part_at};
 use crate::stores::unset_at;
-use explain_areas::{Carried, NumberMap, Reading};
+use explain_standing::{Carried, NumberMap, Reading};
 use explain_who::subpool_at;
 use macro_reader::{Statement, Value};
 use operand_texts::Name;

@@ -1,19 +1,19 @@
 //! What is left taken at the end, by the lines that took it.
-ghost use Rattle.std.specs.Prelude.{◌≡◌, ◌==◌, ◌^◌, ◌<◌, ℕ, Bool, IfOk, List, None, OnOk, Some, if◌then◌else◌};
-ghost use Rattle.std.specs.Prelude.{filter, is_some, length, map, option_copied, reverse};
+ghost use Rattle.std.specs.Prelude.{◌≡◌, ◌==◌, ◌^◌, ◌<◌, ℕ, IfOk, List, None, OnOk, Some, if◌then◌else◌};
+ghost use Rattle.std.specs.Prelude.{is_some, option_copied, reverse};
 ghost use Rattle.vsm_model.specs.declared.limits.Settings.{Settings as SettingsIn};
 ghost use Rattle.macro_statements.specs.Requests.{Act};
-ghost use Rattle.vsm_model.specs.State.{is_task};
 ghost use Rattle.storage_core.specs.Meaning.{state_of};
-ghost use Rattle.explain_areas.specs.Carried.{IsCarried};
-ghost use Rattle.explain_areas.specs.Standings.{acts_in};
-ghost use Rattle.explain_findings.specs.Left.{has_ended, is_later, is_obtained, nothing_left, obtained_areas};
+ghost use Rattle.explain_standing.specs.Carried.{IsCarried};
+ghost use Rattle.explain_standing.specs.Standings.{acts_in};
+ghost use Rattle.explain_findings.specs.Left.{is_obtained, nothing_left, obtained_areas};
 ghost use Rattle.explain_findings.specs.Left.{sum_of, with_area, with_cell, with_more};
 ghost use Rattle.explain_findings.specs.LeftTables.{AddsArea, AddsAreas, AddsCell, AddsCells, AreLinesLeft};
-ghost use Rattle.explain_findings.specs.LeftTables.{IsAllLeft, IsAskerOf, IsPlaced, left_kept};
+ghost use Rattle.explain_findings.specs.LeftTables.{IsAllLeft, IsPlaced, left_kept};
 
-use explain_areas::{Carried, LineArea, LineCell, NumberMap, areas_left, cells_left};
-use explain_who::{PoolName, Taken, TrailEntry, taken_by};
+use explain_areas::{LineArea, LineCell, areas_left, cells_left};
+use explain_standing::{Asker, Carried, NumberMap, TrailEntry};
+use explain_who::{PoolName, Taken, taken_by};
 use macro_reader::Statement;
 use std::alloc::{AllocError, Global};
 use storage_core::{Storage, Subpool};
@@ -82,52 +82,6 @@ fn obtained_left(alloc: Global, carried: &Carried) -> Result<Vec<LineArea>, Allo
     let storage = carried.bench.storage();
     areas.retain(|area| is_obtained(storage, area));
     Ok(areas)
-}
-
-/// A task that asked for what a line took, and whether it has ended.
-#[derive(Clone, Copy)]
-struct Asker {
-    task: u32,
-    ended: bool,
-}
-
-/// Whether a task exists.
-fn has_task(storage: &Storage, task: u32) -> bool
-    ensures { result ≡ is_task (state_of storage.now) task }
-{
-    match u8::try_from(task) {
-        Ok(task) => storage.parent(task).is_some(),
-        Err(_) => false,
-    }
-}
-
-/// Whether a task began after a line.
-fn is_later(began: Option<u32>, line: u32) -> bool
-    ensures { result ≡ is_later began line }
-{
-    match began {
-        Some(began) => began > line,
-        None => false,
-    }
-}
-
-/// Whether the task that asked for what a line took has ended; the first line began the task that has the number now.
-fn has_ended(storage: &Storage, began: Option<u32>, task: u32, line: u32) -> bool
-    ensures { result ≡ has_ended (state_of storage.now) began task line }
-{
-    !has_task(storage, task) || is_later(began, line)
-}
-
-/// The task that asked for what a line took.
-fn asker_of(carried: &Carried, line: u32) -> Asker
-    ensures { IsAskerOf carried.now line result.task result.ended }
-{
-    let task = carried.askers.number(line).unwrap_or(0);
-    let began = carried.births.number(task);
-    Asker {
-        task,
-        ended: has_ended(carried.bench.storage(), began, task, line),
-    }
 }
 
 /// A copy of the name of a cell pool.
@@ -237,7 +191,7 @@ impl LeftTable {
                 Ok(())
             }
             None => {
-                let asker = asker_of(carried, area.line);
+                let asker = carried.asker_of(area.line);
                 self.put(alloc, area.line, left_of_area(area, asker))
             }
         }
@@ -258,7 +212,7 @@ impl LeftTable {
         match self.places.number(cell.line) {
             Some(_) => Ok(()),
             None => {
-                let asker = asker_of(carried, cell.line);
+                let asker = carried.asker_of(cell.line);
                 self.put(alloc, cell.line, left_of_cell(cell, asker))
             }
         }

@@ -3,12 +3,12 @@ ghost use Rattle.std.specs.Prelude.{◌≡◌, ◌^◌, ◌<◌, ◌≤◌};
 ghost use Rattle.vsm_model.specs.Regions.{doublewords};
 ghost use Rattle.storage_core.specs.Meaning.{state_of};
 ghost use Rattle.explain_findings.specs.Homes.{home_at};
-ghost use Rattle.explain_areas.specs.NumberMaps.{number_in};
+ghost use Rattle.explain_standing.specs.NumberMaps.{number_in};
 ghost use Rattle.explain_findings.specs.Parts.{goes_on, part_at};
 
 use crate::findings::Part;
 use crate::homes::home_at;
-use explain_areas::NumberMap;
+use explain_standing::NumberMap;
 use storage_core::{Storage, Subpool};
 
 /// How many doublewords have these bytes.

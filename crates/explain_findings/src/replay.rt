@@ -1,13 +1,12 @@
 //! The statements in effect are carried out once more, and judged one by one.
 ghost use Rattle.std.specs.Prelude.{◌≡◌, ◌≤◌, ◌^◌, ◌<◌, ℕ, [], Ok, Some, IfOk, IfSome, OnOk, if◌then◌else◌, length};
-ghost use Rattle.std.specs.Prelude.{option_map};
-ghost use Rattle.macro_statements.specs.Requests.{IsValidAct, act_in, target_in};
-ghost use Rattle.bench_core.specs.Machine.{name_asked, name_in};
+ghost use Rattle.macro_statements.specs.Requests.{IsValidAct, act_in};
+ghost use Rattle.bench_core.specs.Machine.{name_asked};
 ghost use Rattle.bench_core.specs.Stands.{IsNew};
 ghost use Rattle.vsm_model.specs.Meaning.{service_in};
 ghost use Rattle.vsm_model.specs.declared.limits.Settings.{Settings as SettingsIn};
-ghost use Rattle.explain_areas.specs.Carried.{IsCarried};
-ghost use Rattle.explain_areas.specs.NumberMaps.{number_in};
+ghost use Rattle.explain_standing.specs.Carried.{IsCarried};
+ghost use Rattle.explain_standing.specs.NumberMaps.{number_in};
 ghost use Rattle.explain_findings.specs.Found.{AreFound};
 ghost use Rattle.explain_findings.specs.Judged.{HasFewBytes};
 ghost use Rattle.explain_findings.specs.Replays.{CarriesOn, FindsIn, FollowsSome, GoesOn, GoesTo, IsGiven, IsStoredBy};
@@ -20,10 +19,9 @@ use crate::findings::{Finding, Findings, Part};
 use crate::judging::{Known, finding_at, reading_finding};
 use crate::left::left_after;
 use crate::tables::LineTable;
-use explain_areas::{Carried, Followed, NumberMap, Reading, follow};
-use explain_who::{TrailEntry, WhoFault};
+use explain_standing::{Carried, FollowFault, Followed, NumberMap, Reading, TrailEntry, follow};
+use explain_who::name_asked;
 use macro_reader::Statement;
-use operand_texts::{Name, Place};
 use script_steps::{Bench, Watch};
 use std::alloc::{AllocError, Global};
 use vsm_model::{Reply, Service, Settings};
@@ -52,37 +50,6 @@ fn note(table: &mut LineTable, line: u32, finding: Finding) -> Result<(), AllocE
         table.set(line, finding)
     } else {
         Ok(())
-    }
-}
-
-/// The name of a place, if it's one.
-fn name_in(place: &Option<Place>) -> Option<&Name>
-    ensures { option_map (λ name. name.now.bytes) result ≡ name_in (option_map target_in place.now) }
-{
-    match place {
-        Some(Place::Named(name)) => Some(name),
-        Some(Place::Register(_)) => None,
-        None => None,
-    }
-}
-
-/// The name to which the address of a statement's area or cell goes, if it names one.
-fn name_asked(statement: &Statement) -> Option<&Name>
-    ensures { option_map (λ name. name.now.bytes) result ≡ name_asked (act_in statement.now) }
-{
-    match statement {
-        Statement::Obtain { place, .. } => name_in(place),
-        Statement::GetCell { place, .. } => name_in(place),
-        Statement::Release { .. }
-        | Statement::Whole { .. }
-        | Statement::Build(_)
-        | Statement::FreeCell { .. }
-        | Statement::DeletePool { .. }
-        | Statement::Attach { .. }
-        | Statement::Detach { .. }
-        | Statement::Run { .. }
-        | Statement::EndTask
-        | Statement::Poke { .. } => None,
     }
 }
 
@@ -325,7 +292,7 @@ pub fn find<P: Watch>(
     script: &[u8],
     settings: Settings,
     watch: &mut P,
-) -> Result<Findings, WhoFault>
+) -> Result<Findings, FollowFault>
     ensures { AreFound settings script.now result }
 {
     let followed = match follow(alloc, script, settings, watch) {
@@ -334,10 +301,10 @@ pub fn find<P: Watch>(
     };
     let bench = match Bench::new(alloc, settings) {
         Ok(bench) => bench,
-        Err(fault) => return Err(WhoFault::New(fault)),
+        Err(fault) => return Err(FollowFault::New(fault)),
     };
     match find_in(alloc, &followed, bench) {
         Ok(found) => Ok(found),
-        Err(_) => Err(WhoFault::Memory),
+        Err(_) => Err(FollowFault::Memory),
     }
 }

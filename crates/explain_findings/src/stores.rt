@@ -1,13 +1,13 @@
 //! Bytes that are read, and that nothing stored since their area or their cell was taken.
 ghost use Rattle.std.specs.Prelude.{◌≡◌, ◌/◌, ℕ};
-ghost use Rattle.explain_areas.specs.Carried.{state_in};
-ghost use Rattle.explain_areas.specs.NumberMaps.{number_in};
+ghost use Rattle.explain_standing.specs.Carried.{state_in};
+ghost use Rattle.explain_standing.specs.NumberMaps.{number_in};
 ghost use Rattle.explain_findings.specs.Homes.{home_at};
 ghost use Rattle.explain_findings.specs.Stores.{first_unset, is_unset, line_at_home, line_kept};
 
 use crate::findings::Unset;
 use crate::homes::{Home, home_at};
-use explain_areas::{Carried, NumberMap};
+use explain_standing::{Carried, NumberMap};
 use storage_core::Subpool;
 
 /// The line that took the area or the cell in use in which something is.

@@ -175,8 +175,8 @@ abbrev pub released_text : State → ℕ → List ℕ
 released_text s number =
     seen_text s number [] ++ line (codes "each doubleword of the area is taken, and no cell pool's" ∷ [])
 
--- Of a service without a cause what is put says what it comes to: for an obtain it ends in where the area goes. Of bytes
--- that are stored, a cell that is handed out, and tasks that end or run nothing is said here.
+-- Of a service without a cause what is put says what it comes to: for an obtain it ends in where the area goes. Of
+-- bytes that are stored, a cell that is handed out, and tasks that end or run nothing is said here.
 abbrev pub TellsEffect : Storage → Service → Option (List ℕ) → Option (List ℕ) → Gathered → Gathered → Type 0
 TellsEffect s (obtain o) old new before after = TellsPlace s o None old new before after
 TellsEffect s (release r) old new before after = Puts old new before after (released_text (state_of s) r.number)

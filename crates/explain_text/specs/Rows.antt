@@ -1,9 +1,9 @@
 -- Rows of fields: lines of text, or objects of JSON.
-use Rattle.std.specs.Prelude.{ℕ, List, [], ◌++◌, codes}
+use Rattle.std.specs.Prelude.{ℕ, Bool, if◌then◌else◌, List, [], ◌++◌, codes}
 use Rattle.std.specs.Fmt.{decimal}
 use Rattle.std.specs.List.{flat_map}
 use Rattle.vsm_model.specs.Texts.{hexadecimal}
-use Rattle.explain_text.specs.Json.{number_field, object_end, object_start, string_field}
+use Rattle.explain_text.specs.Json.{number_field, object_end, object_start, string_field, truth_field}
 use Rattle.explain_text.specs.declared.json.Form.{Form}
 use Rattle.explain_text.specs.declared.json.Form.TheVariants as form
 use Rattle.explain_text.specs.declared.rows.Field.{Field}
@@ -48,11 +48,21 @@ address before name n = record { in_text = before ++ hexadecimal 8 n; in_object 
 abbrev pub only_in_text : List ℕ → Meant
 only_in_text text = record { in_text = text; in_object = [] }
 
+-- a number only in an object
+abbrev pub number_in_object : List ℕ → ℕ → Meant
+number_in_object name n = record { in_text = []; in_object = number_field name n }
+
+-- in text these words if it's true
+abbrev pub truth : List ℕ → List ℕ → Bool → Meant
+truth words name b = record { in_text = if b then words else []; in_object = truth_field name b }
+
 -- what the fields of the code mean
 abbrev pub meant_by : List ℕ → List ℕ → Value → Meant
 meant_by before name (value.Text bytes) = text before name bytes.now
 meant_by before name (value.Number n) = number before name n
 meant_by before name (value.Address n) = address before name n
+meant_by before name (value.Hidden n) = record { in_text = before; in_object = number_field name n }
+meant_by before name (value.Truth b) = record { in_text = before; in_object = truth_field name b }
 meant_by before name value.Nothing = only_in_text before
 
 abbrev pub meant : Field → Meant

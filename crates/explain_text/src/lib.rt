@@ -22,6 +22,7 @@ pub use letters::column_of;
 pub use pieces::{Piece, bytes_word, put_line, put_pieces, put_text};
 pub use puts::{put_blanks, put_column, put_shown};
 pub use rows::{
-    Field, address, number, only_in_text, put_end, put_fields, put_row, put_start, text,
+    Field, address, number, number_in_object, only_in_text, put_end, put_fields, put_row,
+    put_start, text, truth,
 };
 pub use words::Words;

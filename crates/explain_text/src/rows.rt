@@ -2,9 +2,11 @@
 ghost use Rattle.std.specs.Prelude.{◌≡◌, map};
 ghost use Rattle.text_output.specs.Writing.{Puts};
 ghost use Rattle.explain_text.specs.Rows.{address, end_of, field_of, fields_of, meant, number, row_of, start_of, text};
-ghost use Rattle.explain_text.specs.Rows.{only_in_text};
+ghost use Rattle.explain_text.specs.Rows.{number_in_object, only_in_text, truth};
 
-use crate::json::{Form, put_number_field, put_object_end, put_object_start, put_string_field};
+use crate::json::{
+    Form, put_number_field, put_object_end, put_object_start, put_string_field, put_truth_field,
+};
 use std::io::Write;
 use text_output::{Gathered, put_decimal, put_hexadecimal};
 
@@ -16,6 +18,10 @@ enum Value<'a> {
     Number(u64),
     /// In eight hexadecimal digits in text.
     Address(u32),
+    /// Only in an object.
+    Hidden(u64),
+    /// Only in an object.
+    Truth(bool),
     Nothing,
 }
 
@@ -71,6 +77,28 @@ pub fn only_in_text<'a>(text: &'a [u8]) -> Field<'a>
     }
 }
 
+/// A field with a number, which isn't in text.
+pub fn number_in_object<'a>(name: &'a [u8], n: u64) -> Field<'a>
+    ensures { meant result ≡ number_in_object name.now n }
+{
+    Field {
+        before: b"",
+        name,
+        value: Value::Hidden(n),
+    }
+}
+
+/// A field with `true` or `false`; in text these words if it's true.
+pub fn truth<'a>(words: &'a [u8], name: &'a [u8], yes: bool) -> Field<'a>
+    ensures { meant result ≡ truth words.now name.now yes }
+{
+    Field {
+        before: if yes { words } else { b"" },
+        name,
+        value: Value::Truth(yes),
+    }
+}
+
 /// Puts a field in a line of text.
 #[tactic(auto, using(text_output::proofs::Gathering::puts_both))]
 fn put_in_text<W: Write>(gathered: &mut Gathered, writer: &mut W, field: Field<'_>)
@@ -82,7 +110,7 @@ fn put_in_text<W: Write>(gathered: &mut Gathered, writer: &mut W, field: Field<'
         Value::Text(bytes) => gathered.put(writer, bytes),
         Value::Number(n) => put_decimal(gathered, writer, n),
         Value::Address(at) => put_hexadecimal(gathered, writer, 8, at),
-        Value::Nothing => (),
+        Value::Hidden(_) | Value::Truth(_) | Value::Nothing => (),
     }
 }
 
@@ -96,6 +124,8 @@ fn put_in_object<W: Write>(gathered: &mut Gathered, writer: &mut W, field: Field
         Value::Text(bytes) => put_string_field(gathered, writer, field.name, bytes),
         Value::Number(n) => put_number_field(gathered, writer, field.name, n),
         Value::Address(at) => put_number_field(gathered, writer, field.name, u64::from(at)),
+        Value::Hidden(n) => put_number_field(gathered, writer, field.name, n),
+        Value::Truth(yes) => put_truth_field(gathered, writer, field.name, yes),
         Value::Nothing => (),
     }
 }

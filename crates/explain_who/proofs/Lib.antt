@@ -1,15 +1,12 @@
 -- Lemmas on what is taken, on the statements of a script, and on what is written of them.
 mod FreeStorage
-mod InUse
-mod CellPools
+pub mod InUse
+pub mod CellPools
 mod AssignedPages
-pub mod Moves
-pub mod LineLemmas
-pub mod Followed
 mod Tasks
 mod Walked
-mod Words
-pub mod Whole
+mod Traced
+mod NearNames
 pub mod Places
 mod FirstPlace
 mod OneLine

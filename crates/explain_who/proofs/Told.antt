@@ -1,29 +1,28 @@
 -- What is written of a script that was followed is what the definitions say.
-use Rattle.std.proofs.Common.{◌≡◌, ℕ, Bool, true, false, if◌then◌else◌, List, [], ◌∷◌, length, map, reverse, Option, Some, None, Result, Ok, Err, sym, ap, ◌∙◌, subst}
-use Rattle.std.proofs.lemmas.List.{length-map, length-reverse}
+use Rattle.std.proofs.Common.{◌≡◌, ℕ, Bool, true, false, if◌then◌else◌, List, [], ◌∷◌, length, reverse, Option, Some, None, Result, Ok, Err, sym, ap, ◌∙◌, subst}
+use Rattle.std.proofs.lemmas.List.{length-reverse}
 use Rattle.std.specs.Io.KnownBytes.{Appends}
 use Rattle.explain_text.specs.declared.json.Form.{Form}
-use Rattle.macro_statements.specs.Requests.{Act}
 use Rattle.vsm_model.specs.declared.limits.Settings.{Settings}
-use Rattle.vsm_model.specs.Standing.{nothing_stands}
 use Rattle.text_output.specs.Writing.{AppendsFront}
 use Rattle.text_output.proofs.Known.{appends_nothing}
-use Rattle.explain_who.specs.Faults.{FollowsNot}
-use Rattle.explain_who.specs.Lined.{lined_all}
+use Rattle.explain_standing.specs.Faults.{FollowsNot}
+use Rattle.explain_standing.specs.Lined.{standing}
 use Rattle.explain_who.specs.Readings.{reading}
 use Rattle.explain_who.specs.Forms.{found_in, in_order, shown_in}
-use Rattle.explain_who.specs.Told.{is_absent, missing, lacking, standing_entries, TellsFound, TellsShown, changes_of, who_in, lacking_of, NamesChanges}
+use Rattle.explain_who.specs.Told.{is_absent, missing, lacking, TellsFound, TellsShown, changes_of, who_in, lacking_of, NamesChanges}
 use Rattle.explain_who.specs.Traced.{IsTraced, reading_alone}
-use Rattle.explain_who.specs.Trails.{marks_of}
 use Rattle.explain_who.specs.Who.{Difference, differences_of}
 use Rattle.explain_who.specs.declared.faults.WhoFault.{WhoFault}
 use Rattle.explain_who.specs.declared.faults.WhoFault.TheVariants as fault
+use Rattle.explain_standing.specs.declared.faults.FollowFault.{FollowFault}
+use Rattle.explain_standing.specs.declared.faults.FollowFault.TheVariants as follow
 use Rattle.explain_who.specs.declared.orders.ChangeOrder.{ChangeOrder}
 use Rattle.explain_who.specs.declared.readings.Subject.{Subject as AskedOf}
 use Rattle.explain_who.specs.declared.readings.Subject.TheVariants as asked
 use Rattle.explain_who.specs.declared.tracing.Traced.{Traced}
-use Rattle.explain_who.proofs.Followed.{found_standing}
-use Rattle.explain_who.proofs.Moves.{seen_count, standing_marks}
+use Rattle.explain_who.proofs.Traced.{found_along}
+use Rattle.explain_standing.proofs.Moves.{seen_count}
 
 module _ (settings : Settings) (script : List ℕ) (form : Form) (order : ChangeOrder) (t : Traced) (question : AskedOf) (found : List Difference) (old : Option (List ℕ)) where
   abbrev Says : WhoFault → Type 0
@@ -52,36 +51,27 @@ module _ (settings : Settings) (script : List ℕ) (form : Form) (order : Change
   -- What is written of these changes in an order is what is said of them.
   pub shown_told : (shown : List Difference) (new : Option (List ℕ)) (r : Result (Unit {0}) WhoFault) → lacking question t.first found ≡ None → shown ≡ in_order order found →
       TellsShown settings script form t question shown old new r → TellsFound settings script form order t question found old new r
-  shown_told shown new (Ok u) none is out = (none, subst (λ xs. Appends old new (shown_in form settings script question xs (length (standing_entries t)))) is out)
-  shown_told shown new (Err fault.Write) none is out = (none, subst (λ xs. AppendsFront old new (shown_in form settings script question xs (length (standing_entries t)))) is out)
+  shown_told shown new (Ok u) none is out = (none, subst (λ xs. Appends old new (shown_in form settings script question xs (length t.entries.items))) is out)
+  shown_told shown new (Err fault.Write) none is out = (none, subst (λ xs. AppendsFront old new (shown_in form settings script question xs (length t.entries.items))) is out)
   shown_told shown new (Err (fault.NoTask task)) none is out = absurd out
   shown_told shown new (Err (fault.NoName name)) none is out = absurd out
-  shown_told shown new (Err fault.Memory) none is out = absurd out
+  shown_told shown new (Err (fault.Follow f)) none is out = absurd out
   shown_told shown new (Err fault.Count) none is out = absurd out
-  shown_told shown new (Err fault.TooLong) none is out = absurd out
-  shown_told shown new (Err (fault.New f)) none is out = absurd out
 
 module _ (settings : Settings) (script : List ℕ) (form : Form) (order : ChangeOrder) where
   -- how many statements are in effect
-  stand_count : (asked : AskedOf) (t : Traced) (h : IsTraced settings script asked t) →
-      length (standing_entries t) ≡ length (lined_all settings nothing_stands h.answers).stood
+  stand_count : (asked : AskedOf) (t : Traced) (h : IsTraced settings script asked t) → length t.entries.items ≡ length (standing settings h.answers)
   stand_count asked t h =
-      let read = reading_alone settings asked in
-      let l = lined_all settings nothing_stands h.answers in
-      let old : List (ℕ × Act) = map (λ y. y.statement) (reverse l.stood) in
-      ap length (standing_marks read l (marks_of t.trail) h.follows)
-      ∙ seen_count read [] old
-      ∙ length-map (reverse l.stood) (λ y. y.statement)
-      ∙ length-reverse l.stood
+      ap length h.along ∙ seen_count (reading_alone settings asked) [] (reverse (standing settings h.answers)) ∙ length-reverse (standing settings h.answers)
 
   module _ (question : AskedOf) (t : Traced) (h : IsTraced settings script question t) where
     abbrev found : List Difference
-    found = differences_of None t.first (standing_entries t)
+    found = differences_of None t.first t.entries.items
 
     found_is : found ≡ changes_of settings script question h.answers
-    found_is = found_standing settings (reading settings question) h.answers t.first (marks_of t.trail) h.first h.follows
+    found_is = found_along settings (reading settings question) h.answers t.first t.entries.items h.first h.along
 
-    text_is : found_in form settings script question order found (length (standing_entries t)) ≡ who_in settings script form question order h.answers
+    text_is : found_in form settings script question order found (length t.entries.items) ≡ who_in settings script form question order h.answers
     text_is = λ i. found_in form settings script question order (found_is i) (stand_count question t h i)
 
     lacking_is : lacking question t.first found ≡ lacking_of settings script question h.answers
@@ -95,18 +85,12 @@ module _ (settings : Settings) (script : List ℕ) (form : Form) (order : Change
         (h.answers, h.ended, sym lacking_is ∙ none, subst (AppendsFront old new) text_is out)
     changes_named old new (Err (fault.NoTask task)) (some, out) = (h.answers, h.ended, sym lacking_is ∙ some, out)
     changes_named old new (Err (fault.NoName name)) (some, out) = (h.answers, h.ended, sym lacking_is ∙ some, out)
-    changes_named old new (Err fault.Memory) out = out
+    changes_named old new (Err (fault.Follow follow.Memory)) out = (tt, out)
     changes_named old new (Err fault.Count) out = absurd out
-    changes_named old new (Err fault.TooLong) out = absurd out
-    changes_named old new (Err (fault.New f)) out = absurd out
+    changes_named old new (Err (fault.Follow follow.TooLong)) out = absurd out
+    changes_named old new (Err (fault.Follow (follow.New f))) out = absurd out
 
   -- A script that isn't followed.
-  pub changes_unnamed : (question : AskedOf) (old : Option (List ℕ)) (f : WhoFault) → FollowsNot settings script f →
-      NamesChanges settings script form question order old old (Err f)
-  changes_unnamed question old (fault.New f) h = (h, appends_nothing old)
-  changes_unnamed question old fault.TooLong h = (h, appends_nothing old)
-  changes_unnamed question old fault.Memory h = appends_nothing old
-  changes_unnamed question old fault.Count h = absurd h
-  changes_unnamed question old (fault.NoTask task) h = absurd h
-  changes_unnamed question old (fault.NoName name) h = absurd h
-  changes_unnamed question old fault.Write h = absurd h
+  pub changes_unnamed : (question : AskedOf) (old : Option (List ℕ)) (f : FollowFault) → FollowsNot settings script f →
+      NamesChanges settings script form question order old old (Err (fault.Follow f))
+  changes_unnamed question old f h = (h, appends_nothing old)

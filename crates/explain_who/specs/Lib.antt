@@ -3,16 +3,13 @@ pub mod TakenTexts
 pub mod Place
 pub mod Holdings
 pub mod Readings
-pub mod Trails
 pub mod Who
 pub mod Code
-pub mod Notes
-pub mod Lined
 pub mod ScriptLines
 pub mod OneLine
-pub mod Faults
 pub mod Traced
 pub mod Words
+pub mod Nearest
 pub mod LineTexts
 pub mod Texts
 pub mod Objects

@@ -1,6 +1,6 @@
 -- What `who` writes about a script, and what each of its faults means.
 use Rattle.std.specs.Prelude.{◌≡◌, ℕ, Bool, true, false, ◌&&◌, nat_le, if◌then◌else◌, Option, Some, None, List, [], ◌∷◌}
-use Rattle.std.specs.Prelude.{length, take, Result, Ok, Err}
+use Rattle.std.specs.Prelude.{length, Result, Ok, Err}
 use Rattle.std.specs.Io.KnownBytes.{Appends}
 use Rattle.explain_text.specs.declared.json.Form.{Form}
 use Rattle.script_steps.specs.Output.{Marked}
@@ -8,21 +8,20 @@ use Rattle.script_steps.specs.Taken.{Ended}
 use Rattle.text_output.specs.Writing.{AppendsFront}
 use Rattle.vsm_model.specs.declared.limits.Settings.{Settings}
 use Rattle.vsm_model.specs.Names.{first_named_state}
-use Rattle.vsm_model.specs.Standing.{nothing_stands}
-use Rattle.explain_who.specs.Faults.{FollowsNot}
-use Rattle.explain_who.specs.Lined.{lined_all, standing_differences}
+use Rattle.explain_standing.specs.Faults.{FollowsNot}
+use Rattle.explain_standing.specs.Lined.{standing}
+use Rattle.explain_who.specs.Traced.{standing_differences}
 use Rattle.explain_who.specs.Readings.{reading}
 use Rattle.explain_who.specs.Forms.{found_in, shown_in}
-use Rattle.explain_who.specs.Trails.{marks_of}
 use Rattle.explain_who.specs.Who.{Difference}
 use Rattle.explain_who.specs.declared.faults.WhoFault.{WhoFault}
 use Rattle.explain_who.specs.declared.faults.WhoFault.TheVariants as fault
+use Rattle.explain_standing.specs.declared.faults.FollowFault.TheVariants as follow
 use Rattle.explain_who.specs.declared.orders.ChangeOrder.{ChangeOrder}
 use Rattle.explain_who.specs.declared.readings.Seen.{Seen}
 use Rattle.explain_who.specs.declared.readings.Seen.TheVariants as seen
 use Rattle.explain_who.specs.declared.readings.Subject.{Subject}
 use Rattle.explain_who.specs.declared.readings.Subject.TheVariants as asked
-use Rattle.explain_who.specs.declared.trail.TrailEntry.{TrailEntry}
 use Rattle.explain_who.specs.declared.tracing.Traced.{Traced}
 
 -- 1 to 256 bytes, or anything else
@@ -51,23 +50,17 @@ abbrev pub lacking : Subject → Seen → List Difference → Option WhoFault
 lacking question first [] = if is_absent first then missing question else None
 lacking question first (d ∷ ds) = None
 
--- the statements in effect, oldest first
-abbrev pub standing_entries : Traced → List (TrailEntry Seen)
-standing_entries t = take (marks_of t.trail).standing (marks_of t.trail).entries
-
 -- These changes of a script that was followed are written, in turn, or a prefix of that text.
 abbrev pub TellsShown : Settings → List ℕ → Form → Traced → Subject → List Difference → Option (List ℕ)
     → Option (List ℕ) → Result (Unit {0}) WhoFault → Type 0
 TellsShown settings script form t question shown old new (Ok u) =
-    Appends old new (shown_in form settings script question shown (length (standing_entries t)))
+    Appends old new (shown_in form settings script question shown (length t.entries.items))
 TellsShown settings script form t question shown old new (Err fault.Write) =
-    AppendsFront old new (shown_in form settings script question shown (length (standing_entries t)))
+    AppendsFront old new (shown_in form settings script question shown (length t.entries.items))
 TellsShown settings script form t question shown old new (Err (fault.NoTask task)) = ⊥
 TellsShown settings script form t question shown old new (Err (fault.NoName name)) = ⊥
-TellsShown settings script form t question shown old new (Err fault.Memory) = ⊥
+TellsShown settings script form t question shown old new (Err (fault.Follow f)) = ⊥
 TellsShown settings script form t question shown old new (Err fault.Count) = ⊥
-TellsShown settings script form t question shown old new (Err fault.TooLong) = ⊥
-TellsShown settings script form t question shown old new (Err (fault.New f)) = ⊥
 
 -- What was found in a script that was followed is written, or a prefix of it; or nothing, if no reading has what is
 -- asked for, or memory runs out.
@@ -75,18 +68,18 @@ abbrev pub TellsFound : Settings → List ℕ → Form → ChangeOrder → Trace
     → Option (List ℕ) → Option (List ℕ) → Result (Unit {0}) WhoFault → Type 0
 TellsFound settings script form order t question found old new (Ok u) =
     (lacking question t.first found ≡ None)
-    × Appends old new (found_in form settings script question order found (length (standing_entries t)))
+    × Appends old new (found_in form settings script question order found (length t.entries.items))
 TellsFound settings script form order t question found old new (Err fault.Write) =
     (lacking question t.first found ≡ None)
-    × AppendsFront old new (found_in form settings script question order found (length (standing_entries t)))
+    × AppendsFront old new (found_in form settings script question order found (length t.entries.items))
 TellsFound settings script form order t question found old new (Err (fault.NoTask task)) =
     (lacking question t.first found ≡ Some (fault.NoTask task)) × Appends old new []
 TellsFound settings script form order t question found old new (Err (fault.NoName name)) =
     (lacking question t.first found ≡ Some (fault.NoName name)) × Appends old new []
-TellsFound settings script form order t question found old new (Err fault.Memory) = Appends old new []
+TellsFound settings script form order t question found old new (Err (fault.Follow follow.Memory)) = Appends old new []
+TellsFound settings script form order t question found old new (Err (fault.Follow follow.TooLong)) = ⊥
+TellsFound settings script form order t question found old new (Err (fault.Follow (follow.New f))) = ⊥
 TellsFound settings script form order t question found old new (Err fault.Count) = ⊥
-TellsFound settings script form order t question found old new (Err fault.TooLong) = ⊥
-TellsFound settings script form order t question found old new (Err (fault.New f)) = ⊥
 
 module _ (settings : Settings) (script : List ℕ) where
   -- Of a script with these answers: the changes of what is asked for, the text of them,
@@ -96,7 +89,7 @@ module _ (settings : Settings) (script : List ℕ) where
   abbrev pub who_in : Form → Subject → ChangeOrder → List Marked → List ℕ
   who_in form question order answers =
       found_in form settings script question order (changes_of question answers)
-      (length (lined_all settings nothing_stands answers).stood)
+      (length (standing settings answers))
 
   -- and the fault if no reading has what is asked for.
   abbrev pub lacking_of : Subject → List Marked → Option WhoFault
@@ -119,8 +112,4 @@ module _ (settings : Settings) (script : List ℕ) where
       (answers : List Marked) × Ended settings script answers
       × (lacking_of question answers ≡ Some (fault.NoName name)) × Appends old new []
   NamesChanges form question order old new (Err fault.Count) = (can_be_asked question ≡ false) × Appends old new []
-  NamesChanges form question order old new (Err fault.Memory) = Appends old new []
-  NamesChanges form question order old new (Err fault.TooLong) =
-      FollowsNot settings script fault.TooLong × Appends old new []
-  NamesChanges form question order old new (Err (fault.New f)) =
-      FollowsNot settings script (fault.New f) × Appends old new []
+  NamesChanges form question order old new (Err (fault.Follow f)) = FollowsNot settings script f × Appends old new []

@@ -1,79 +1,61 @@
--- A script that was followed to its end.
-use Rattle.std.specs.Prelude.{◌≡◌, ℕ, List, [], ◌++◌, take, Option, Some, None, Result, Ok, Err}
-use Rattle.explain_who.specs.Trails as marks
-use Rattle.explain_who.specs.Trails.{marks_of}
-use Rattle.explain_who.specs.declared.trail.Trail.{Trail}
-use Rattle.vsm_model.specs.declared.limits.Settings.{Settings}
-use Rattle.vsm_model.specs.Names.{first_named_state}
+-- What is read along the statements of a script in effect, and at which of them it differs.
+use Rattle.std.specs.Prelude.{◌≡◌, ℕ, List, [], ◌∷◌, ◌++◌, map, reverse, Option, None, Result, Ok, Err}
 use Rattle.macro_statements.specs.Requests.{Act}
-use Rattle.vsm_model.specs.Standing.{alone, nothing_stands}
+use Rattle.vsm_model.specs.declared.limits.Settings.{Settings}
+use Rattle.vsm_model.specs.Names.{NamedState, first_named_state}
+use Rattle.vsm_model.specs.Standing.{alone}
 use Rattle.bench_core.specs.Machine.{statement_step}
 use Rattle.script_steps.specs.Output.{Marked}
-use Rattle.script_steps.specs.Taken.{Took, Ended}
-use Rattle.script_steps.specs.declared.session.Session.{Session}
-use Rattle.explain_who.specs.Faults.{FollowsNot}
-use Rattle.explain_who.specs.Lined.{lined_all, standing_differences}
-use Rattle.explain_who.specs.Notes.{IsNextLine}
-use Rattle.explain_who.specs.Readings.{reading}
+use Rattle.script_steps.specs.Taken.{Ended}
+use Rattle.explain_standing.specs.Faults.{FollowsNot}
+use Rattle.explain_standing.specs.Lined.{standing}
+use Rattle.explain_standing.specs.Trails.{seen_along}
+use Rattle.explain_standing.specs.declared.faults.FollowFault.{FollowFault}
+use Rattle.explain_who.specs.Readings.{is_taken, reading, same}
 use Rattle.explain_who.specs.ScriptLines.{LinesBegin}
-use Rattle.explain_who.specs.Who.{Difference}
-use Rattle.explain_who.specs.declared.faults.WhoFault.{WhoFault}
-use Rattle.explain_who.specs.declared.readings.Subject.{Subject}
+use Rattle.explain_who.specs.Who.{Difference, since, unless}
 use Rattle.explain_who.specs.declared.readings.Seen.{Seen}
+use Rattle.explain_who.specs.declared.readings.Subject.{Subject}
 use Rattle.explain_who.specs.declared.tracing.Traced.{Traced}
 
--- what is asked for, as it is after only these statements, newest first
-abbrev pub reading_alone : Settings → Subject → List Act → Seen
-reading_alone settings asked xs = reading settings asked (alone first_named_state (statement_step settings) xs)
+-- ---- by the definition
 
--- The trail has the statements in effect by the definition after these answers, and those that are undone, each with
--- its line and what is read after it.
-abbrev pub Follows : Settings → Subject → List Marked → Trail Seen → Type 0
-Follows settings asked answers trail =
-    marks.Follows (reading_alone settings asked)
-    (lined_all settings nothing_stands answers) (marks_of trail)
+module _ (settings : Settings) where
+  -- what is read after only these statements, the newest first
+  abbrev pub read_after : (NamedState → Seen) → List (ℕ × Act) → Seen
+  read_after read xs = read (alone first_named_state (statement_step settings) (map (λ x. x.1) xs))
 
--- The answers of a line are followed; or nothing was taken; or it can't be followed.
-abbrev pub FollowsLine : Settings → Subject → List ℕ → ℕ → List Marked → Session → Trail Seen
-    → Result (Option ℕ) WhoFault → Type 0
-FollowsLine settings asked script at answers s trail (Ok (Some next)) =
-    (more : List Marked) × Took settings (take next script) (answers ++ more) s
-    × Follows settings asked (answers ++ more) trail
-FollowsLine settings asked script at answers s trail (Ok None) =
-    Took settings (take at script) answers s × Follows settings asked answers trail
-FollowsLine settings asked script at answers s trail (Err fault) = FollowsNot settings script fault
+  -- The line of the newest of these statements after which the storage is taken and before which it wasn't; none if it
+  -- isn't taken after all of them. The newest is first.
+  abbrev pub taken_since : (NamedState → Seen) → List (ℕ × Act) → Option ℕ
+  taken_since read [] = None
+  taken_since read (x ∷ older) =
+      since (is_taken (read_after read (x ∷ older))) (is_taken (read_after read older)) x.0
+      (taken_since read older)
 
--- A line from a place on is followed, if what precedes it is: where the next begins, and its answers.
-pub record IsLineFollowed (asked : Subject) (script : List ℕ) (at : ℕ) (old new : Session) (t u : Trail Seen)
-    (r : Result (Option ℕ) WhoFault) : Type 0 where
-  pub place : IsNextLine script at r
-  pub follows : (settings : Settings) (answers : List Marked) → Took settings (take at script) answers old
-      → Follows settings asked answers t → FollowsLine settings asked script at answers new u r
+  -- a statement with what is read after it and those before it, and after those before it
+  abbrev pub difference_at : (NamedState → Seen) → List (ℕ × Act) → ℕ × Act → Difference
+  difference_at read older x =
+      record {
+        line = x.0;
+        before = read_after read older;
+        after = read_after read (x ∷ older);
+        taken_before = taken_since read older;
+        taken_after = taken_since read (x ∷ older);
+      }
 
--- The script is followed to its end, or can't be followed.
-abbrev pub FollowsEnd : Settings → Subject → List ℕ → Trail Seen → Result (Unit {0}) WhoFault → Type 0
-FollowsEnd settings asked script trail (Ok u) =
-    (all : List Marked) × Ended settings script all × Follows settings asked all trail
-FollowsEnd settings asked script trail (Err fault) = FollowsNot settings script fault
+  -- Of these statements, oldest first, those at which a reading differs between the statements up to it and those
+  -- before it, run alone. Before all of them are others, newest first.
+  abbrev pub differences_along : (NamedState → Seen) → List (ℕ × Act) → List (ℕ × Act) → List Difference
+  differences_along read older [] = []
+  differences_along read older (x ∷ xs) =
+      unless (same (read_after read older) (read_after read (x ∷ older))) (difference_at read older x)
+      ++ differences_along read (x ∷ older) xs
 
--- What follows the last line feed is followed to the script's end, if what precedes it is.
-abbrev pub IsEndFollowed : Subject → List ℕ → Session → Trail Seen → Trail Seen → Result (Unit {0}) WhoFault → Type 0
-IsEndFollowed asked rest s t u r =
-    (settings : Settings) (given : List ℕ) (answers : List Marked) → Took settings given answers s
-    → Follows settings asked answers t → FollowsEnd settings asked (given ++ rest) u r
-
--- A whole script is followed: its answers, what is read first, its trail, and where its lines begin.
-pub record IsTraced (settings : Settings) (script : List ℕ) (asked : Subject) (t : Traced) : Type 0 where
-  pub answers : List Marked
-  pub ended : Ended settings script answers
-  pub first : t.first ≡ reading settings asked first_named_state
-  pub follows : Follows settings asked answers t.trail
-  pub starts : LinesBegin script script t.starts.items []
-
--- It is followed, or can't be.
-abbrev pub IsFollowed : Settings → List ℕ → Subject → Result Traced WhoFault → Type 0
-IsFollowed settings script asked (Ok t) = IsTraced settings script asked t
-IsFollowed settings script asked (Err fault) = FollowsNot settings script fault
+  -- those of the statements in effect after a script with these answers
+  abbrev pub standing_differences : (NamedState → Seen) → List Marked → List Difference
+  standing_differences read answers =
+      differences_along read [] (reverse (standing settings answers))
 
 -- The lines that are named: exactly those at whose statements the reading differs between the statements in effect up
 -- to them and those before them, with both readings.
@@ -81,3 +63,23 @@ abbrev pub IsFound : Settings → List ℕ → Subject → List Difference → T
 IsFound settings script asked found =
     (answers : List Marked) × Ended settings script answers
     × (found ≡ standing_differences settings (reading settings asked) answers)
+
+-- ---- as it's traced
+
+-- what is asked for, as it is after only these statements, newest first
+abbrev pub reading_alone : Settings → Subject → List Act → Seen
+reading_alone settings asked xs = reading settings asked (alone first_named_state (statement_step settings) xs)
+
+-- What is read first, what is read after each statement in effect, and where the script's lines begin.
+pub record IsTraced (settings : Settings) (script : List ℕ) (asked : Subject) (t : Traced) : Type 0 where
+  pub answers : List Marked
+  pub ended : Ended settings script answers
+  pub first : t.first ≡ reading settings asked first_named_state
+  pub along :
+      t.entries.items ≡ seen_along (reading_alone settings asked) [] (reverse (standing settings answers))
+  pub starts : LinesBegin script script t.starts.items []
+
+-- It is traced, or can't be followed.
+abbrev pub IsTracedAs : Settings → List ℕ → Subject → Result Traced FollowFault → Type 0
+IsTracedAs settings script asked (Ok t) = IsTraced settings script asked t
+IsTracedAs settings script asked (Err fault) = FollowsNot settings script fault

@@ -1,6 +1,6 @@
 -- At which statements a reading differs.
 use Rattle.std.specs.Prelude.{ℕ, Bool, true, false, Option, Some, None, List, [], ◌∷◌, ◌++◌}
-use Rattle.explain_who.specs.declared.trail.TrailEntry.{TrailEntry}
+use Rattle.explain_standing.specs.declared.trail.TrailEntry.{TrailEntry}
 use Rattle.explain_who.specs.Readings.{is_taken, same}
 use Rattle.explain_who.specs.declared.readings.Seen.{Seen}
 

@@ -1,17 +1,13 @@
 //! Why `who` has no answer.
 
+use explain_standing::FollowFault;
 use operand_texts::Name;
-use script_steps::NewFault;
 
 /// Why `who` ended early.
 #[derive(Clone, Copy)]
 pub enum WhoFault {
-    /// The bench can't be made. Nothing was written.
-    New(NewFault),
-    /// The script has more than 1,048,576 lines, or a line of more than 65,536 bytes. Nothing was written.
-    TooLong,
-    /// Out of memory for the lines of the script and what was read after each. Nothing was written.
-    Memory,
+    /// The script isn't followed to its end, or memory ran out for what was read. Nothing was written.
+    Follow(FollowFault),
     /// No bytes or more than 256 were asked for. Nothing was written.
     Count,
     /// No reading has this task, before the first statement or after any. Nothing was written.

@@ -1,7 +1,6 @@
 //! The lines at whose statements a reading differs.
-ghost use Rattle.std.specs.Prelude.{◌≡◌, ◌++◌, ℕ, List, None, OnOk, IfOk, map, take};
+ghost use Rattle.std.specs.Prelude.{◌≡◌, ◌++◌, ℕ, List, None, OnOk, IfOk, map};
 ghost use Rattle.vsm_model.specs.declared.limits.Settings.{Settings};
-ghost use Rattle.explain_who.specs.Trails.{marks_of};
 ghost use Rattle.explain_who.specs.Readings.{same};
 ghost use Rattle.explain_who.specs.Who.{difference, differences_of, since, unless};
 ghost use Rattle.explain_who.specs.Code.{difference_in};
@@ -10,7 +9,7 @@ ghost use Rattle.explain_who.specs.declared.readings.Subject.{Subject};
 
 use crate::readings::{Seen, is_taken, same};
 use crate::tracing::Traced;
-use crate::trail::TrailEntry;
+use explain_standing::TrailEntry;
 use std::alloc::{AllocError, Global};
 
 /// A line at whose statement the reading differs, with what is read before and after it, and which line took the
@@ -87,10 +86,10 @@ fn differences<'a>(
 /// The lines of the statements in effect at which the reading differs between the statements in effect up to them and
 /// those before them, run alone; oldest first. All of them are examined, whatever a bench's history forgot.
 pub(crate) fn changes(alloc: Global, traced: &Traced) -> Result<Vec<NamedChange<'_>>, AllocError>
-    ensures trail { IfOk result (λ found. map difference_in found.items ≡ differences_of None traced.now.first
-        (take (marks_of traced.now.trail).standing (marks_of traced.now.trail).entries)) }
+    ensures along { IfOk result (λ found. map difference_in found.items ≡ differences_of None traced.now.first
+        traced.now.entries.items) }
     ensures standing { IfOk result (λ found. (settings : Settings) (script : List ℕ) (asked : Subject)
         → IsTraced settings script asked traced.now → IsFound settings script asked (map difference_in found.items)) }
 {
-    differences(alloc, &traced.first, traced.trail.standing())
+    differences(alloc, &traced.first, traced.entries.as_slice())
 }

@@ -4,7 +4,7 @@ ghost use Rattle.text_output.specs.Writing.{Puts};
 ghost use Rattle.explain_who.specs.Code.{difference_in};
 ghost use Rattle.explain_who.specs.ScriptLines.{LinesBegin};
 ghost use Rattle.explain_who.specs.Forms.{change_in, shown_in};
-ghost use Rattle.explain_who.specs.Told.{can_be_asked, is_absent, lacking, missing, standing_entries, NamesChanges};
+ghost use Rattle.explain_who.specs.Told.{can_be_asked, is_absent, lacking, missing, NamesChanges};
 ghost use Rattle.explain_who.specs.Told.{TellsFound, TellsShown};
 ghost use Rattle.explain_who.specs.Who.{differences_of};
 
@@ -13,7 +13,8 @@ use crate::forms::{put_change, put_head, put_looked, put_question};
 use crate::found::{NamedChange, changes};
 use crate::orders::{ChangeOrder, put_in_order};
 use crate::readings::{Seen, Subject};
-use crate::tracing::{Traced, follow};
+use crate::tracing::{Traced, trace};
+use explain_standing::FollowFault;
 use explain_text::Form;
 use script_steps::Watch;
 use std::alloc::Global;
@@ -98,7 +99,7 @@ fn put_shown<W: Write>(
     requires { LinesBegin script.now script.now traced.now.starts.items [] }
     ensures { Puts (W.contents writer.old) (W.contents writer.new) gathered.old gathered.new
         (shown_in form settings script.now asked.now (map difference_in shown.now)
-        (length (standing_entries traced.now))) }
+        (length traced.now.entries.items)) }
 {
     put_head(gathered, writer, form);
     put_question(gathered, writer, form, settings, asked);
@@ -110,13 +111,7 @@ fn put_shown<W: Write>(
         traced.starts.as_slice(),
         shown,
     );
-    put_looked(
-        gathered,
-        writer,
-        form,
-        shown.len(),
-        traced.trail.standing().len(),
-    );
+    put_looked(gathered, writer, form, shown.len(), traced.entries.len());
 }
 
 /// Writes these changes of a script that was followed, in turn.
@@ -163,12 +158,12 @@ fn write_changes<W: Write>(
 ) -> Result<(), WhoFault>
     requires { LinesBegin script.now script.now traced.now.starts.items [] }
     ensures { TellsFound settings script.now form order traced.now asked.now
-        (differences_of None traced.now.first (standing_entries traced.now))
+        (differences_of None traced.now.first traced.now.entries.items)
         (W.contents out.old) (W.contents out.new) result }
 {
     let mut found = match changes(alloc, traced) {
         Ok(found) => found,
-        Err(_) => return Err(WhoFault::Memory),
+        Err(_) => return Err(WhoFault::Follow(FollowFault::Memory)),
     };
     match lacking(asked, &traced.first, found.as_slice()) {
         None => (),
@@ -204,9 +199,9 @@ pub fn who<W: Write, P: Watch>(
     if !can_be_asked(&asked) {
         return Err(WhoFault::Count);
     }
-    let traced = match follow(alloc, script, settings, &asked, watch) {
+    let traced = match trace(alloc, script, settings, &asked, watch) {
         Ok(traced) => traced,
-        Err(fault) => return Err(fault),
+        Err(fault) => return Err(WhoFault::Follow(fault)),
     };
     let outcome = write_changes(alloc, settings, script, form, &traced, &asked, order, out);
     drop(traced);

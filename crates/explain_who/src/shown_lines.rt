@@ -5,7 +5,7 @@ ghost use Rattle.explain_who.specs.ScriptLines.{from_line, LinesBegin};
 ghost use Rattle.explain_who.specs.LineTexts.{line_bytes, line_fields, line_text, padded, shown_bytes};
 
 use crate::one_line::{StatementText, front, statement_here};
-use crate::tracing::rest_from;
+use explain_standing::rest_from;
 use explain_text::{column_of, put_blanks, put_number_field, put_shown, put_string_field};
 use std::io::Write;
 use text_output::{Gathered, put_decimal};

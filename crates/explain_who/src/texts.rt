@@ -13,7 +13,7 @@ use crate::holdings::{Holding, Runs};
 use crate::place::{PlaceBytes, SHOWN_BYTES};
 use crate::readings::{Part, Seen, Subject};
 use crate::taken_texts::put_storage;
-use crate::tracing::rest_from;
+use explain_standing::rest_from;
 use std::io::Write;
 use text_output::{Gathered, put_byte, put_decimal, put_hexadecimal};
 use vsm_model::Settings;

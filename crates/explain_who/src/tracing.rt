@@ -1,15 +1,17 @@
-//! A script is followed on a bench: which of its statements are in effect, and what is read after each.
-ghost use Rattle.std.specs.Prelude.{◌≡◌, ◌≤◌, [], ◌∷◌, ◌++◌, drop, length, OnOk};
-ghost use Rattle.explain_who.specs.Trails.{marks_of};
-ghost use Rattle.script_steps.specs.Script.{NoFeed};
-ghost use Rattle.explain_who.specs.Readings.{read_of};
-ghost use Rattle.explain_who.specs.Notes.{with_told};
-ghost use Rattle.explain_who.specs.Traced.{IsEndFollowed, IsFollowed, IsLineFollowed};
+//! What is read after each statement of a script in effect, which are carried out once more.
+ghost use Rattle.std.specs.Prelude.{◌≡◌, [], IfOk, Ok, map};
+ghost use Rattle.bench_core.specs.Stands.{IsNew};
+ghost use Rattle.vsm_model.specs.declared.limits.Settings.{Settings as SettingsIn};
+ghost use Rattle.explain_standing.specs.Carried.{line_act};
+ghost use Rattle.explain_standing.specs.Standings.{IsFollowedBy};
+ghost use Rattle.explain_standing.specs.Trails.{seen_along};
+ghost use Rattle.explain_who.specs.Traced.{IsTraced, IsTracedAs, reading_alone};
 
-use crate::faults::WhoFault;
 use crate::readings::{Seen, Subject, last_subpool, read};
-use crate::trail::Trail;
-use script_steps::{Bench, Response, Session, Watch};
+use crate::starts::line_starts;
+use explain_standing::{FollowFault, Followed, TrailEntry, apply, follow};
+use macro_reader::Statement;
+use script_steps::{Bench, Watch};
 use std::alloc::{AllocError, Global};
 use vsm_model::Settings;
 
@@ -18,175 +20,81 @@ use vsm_model::Settings;
 pub(crate) struct Traced {
     /// What is read before the first statement.
     pub first: Seen,
-    /// The statements in effect and those that are undone, each with its line and what is read after it.
-    pub trail: Trail<Seen>,
+    /// What is read after each statement in effect, oldest first, with its line.
+    pub entries: Vec<TrailEntry<Seen>>,
     /// Where each line begins in the script.
     pub starts: Vec<usize>,
 }
 
-/// Notes what a line did: it added a statement in effect, or stepped over some, before which `before` could be undone.
-fn note(
-    trail: &mut Trail<Seen>,
-    bench: &Bench,
+/// Carries out these statements on a new bench, oldest first, and reads after each. `AllocError` if memory runs out, or
+/// if one is refused.
+fn read_along(
+    alloc: Global,
+    bench: Bench,
+    entries: &[TrailEntry<Statement>],
     asked: &Subject,
-    before: u32,
-    told: &Option<(u32, Response)>,
-) -> Result<(), AllocError>
-    ensures { OnOk result (marks_of trail.new
-        ≡ with_told (read_of bench.now asked.now) before told.now (marks_of trail.old)) }
+) -> Result<Vec<TrailEntry<Seen>>, AllocError>
+    ensures { (settings : SettingsIn) → IsNew settings (Ok bench)
+        → IfOk result (λ seen. seen.items
+        ≡ seen_along (reading_alone settings asked.now) [] (map line_act entries.now)) }
 {
-    match told {
-        Some((line, Response::Replied(_))) => {
-            let guess = last_subpool(trail.standing());
-            trail.applied(*line, read(bench, asked, guess))
+    let mut bench = bench;
+    let mut seen = Vec::new(alloc);
+    for entry in entries {
+        if !entry.seen.valid() {
+            return Err(AllocError);
         }
-        Some((_, Response::Kept(after))) => {
-            trail.stepped(before, *after);
-            Ok(())
-        }
-        None
-        | Some(
-            (
-                _,
-                Response::Refused(_)
-                | Response::TooFar(_)
-                | Response::TooFarAhead(_)
-                | Response::Shown
-                | Response::Map
-                | Response::Fault(_),
-            ),
-        ) => Ok(()),
+        apply(&mut bench, &entry.seen)?;
+        let guess = last_subpool(seen.as_slice());
+        seen.push(TrailEntry {
+            line: entry.line,
+            seen: read(&bench, asked, guess),
+        })?;
     }
+    Ok(seen)
 }
 
-/// Notes where a line begins.
-fn note_start(starts: &mut Vec<usize>, at: usize) -> Result<(), AllocError>
-    ensures { OnOk result (starts.new.items ≡ starts.old.items ++ at ∷ []) }
-{
-    starts.push(at)?;
-    Ok(())
-}
-
-/// Follows the line that begins at a place of the script, and returns the place of the next. `None`, and nothing is
-/// taken, if no line feed follows from there on.
-fn follow_at(
-    session: &mut Session,
-    trail: &mut Trail<Seen>,
+/// What is read along a script that was followed, on a new bench.
+fn trace_on(
+    alloc: Global,
     script: &[u8],
-    at: usize,
+    bench: Bench,
+    followed: &Followed,
     asked: &Subject,
-) -> Result<Option<usize>, WhoFault>
-    requires { at ≤ length script.now }
-    ensures { IsLineFollowed asked.now script.now at session.old session.new trail.old trail.new result }
+) -> Result<Traced, AllocError>
+    ensures { (settings : SettingsIn) → IsNew settings (Ok bench) → IsFollowedBy settings script.now followed.now
+        → IfOk result (IsTraced settings script.now asked.now) }
 {
-    let before = session.bench().kept();
-    let step = match session.take_line(script, at) {
-        Ok(Some(step)) => step,
-        Ok(None) => return Ok(None),
-        Err(_) => return Err(WhoFault::TooLong),
-    };
-    match note(trail, session.bench(), asked, before, &step.told) {
-        Ok(()) => Ok(Some(step.next)),
-        Err(_) => Err(WhoFault::Memory),
-    }
+    let first = read(&bench, asked, None);
+    let entries = read_along(alloc, bench, followed.trail.standing(), asked)?;
+    let starts = line_starts(alloc, script)?;
+    Ok(Traced {
+        first,
+        entries,
+        starts,
+    })
 }
 
-/// Notes where a line begins, and follows it as `follow_at` does.
-fn follow_line(
-    session: &mut Session,
-    trail: &mut Trail<Seen>,
-    starts: &mut Vec<usize>,
-    script: &[u8],
-    at: usize,
-    asked: &Subject,
-) -> Result<Option<usize>, WhoFault>
-    requires { at ≤ length script.now }
-    ensures follows { IsLineFollowed asked.now script.now at session.old session.new trail.old trail.new result }
-    ensures starts { OnOk result (starts.new.items ≡ starts.old.items ++ at ∷ []) }
-{
-    match note_start(starts, at) {
-        Ok(()) => follow_at(session, trail, script, at, asked),
-        Err(_) => Err(WhoFault::Memory),
-    }
-}
-
-/// Follows what is after the last line feed.
-fn follow_end(
-    session: Session,
-    trail: &mut Trail<Seen>,
-    rest: &[u8],
-    asked: &Subject,
-) -> Result<(), WhoFault>
-    requires { NoFeed rest.now }
-    ensures { IsEndFollowed asked.now rest.now session trail.old trail.new result }
-{
-    let mut session = session;
-    let before = session.bench().kept();
-    match session.take_bytes(rest) {
-        Ok(()) => (),
-        Err(_) => {
-            drop(session);
-            return Err(WhoFault::TooLong);
-        }
-    }
-    let ending = session.end();
-    let bench = &ending.bench;
-    match note(trail, bench, asked, before, &ending.last) {
-        Ok(()) => (),
-        Err(_) => {
-            drop(ending);
-            return Err(WhoFault::Memory);
-        }
-    }
-    let kept = bench.kept();
-    match note(trail, bench, asked, kept, &ending.open_statement) {
-        Ok(()) => {
-            drop(ending);
-            Ok(())
-        }
-        Err(_) => {
-            drop(ending);
-            Err(WhoFault::Memory)
-        }
-    }
-}
-
-/// A script from a place on.
-pub(crate) fn rest_from(script: &[u8], at: usize) -> &[u8]
-    requires { at ≤ length script.now }
-    ensures { result.now ≡ drop at script.now }
-{
-    &script[at..]
-}
-
-/// Follows a script on a new bench under these settings, to its end.
-pub(crate) fn follow<P: Watch>(
+/// Follows a script on a new bench under these settings, to its end, and reads after each statement in effect.
+pub(crate) fn trace<P: Watch>(
     alloc: Global,
     script: &[u8],
     settings: Settings,
     asked: &Subject,
     watch: &mut P,
-) -> Result<Traced, WhoFault>
-    ensures { IsFollowed settings script.now asked.now result }
+) -> Result<Traced, FollowFault>
+    ensures { IsTracedAs settings script.now asked.now result }
 {
+    let followed = match follow(alloc, script, settings, watch) {
+        Ok(followed) => followed,
+        Err(fault) => return Err(fault),
+    };
     let bench = match Bench::new(alloc, settings) {
         Ok(bench) => bench,
-        Err(fault) => return Err(WhoFault::New(fault)),
+        Err(fault) => return Err(FollowFault::New(fault)),
     };
-    let first = read(&bench, asked, None);
-    let mut trail = Trail::new(alloc);
-    let mut starts = Vec::new(alloc);
-    let mut session = Session::new(bench);
-    let mut at = 0;
-    while let Some(next) = follow_line(&mut session, &mut trail, &mut starts, script, at, asked)? {
-        watch.line(session.lines());
-        at = next;
+    match trace_on(alloc, script, bench, &followed, asked) {
+        Ok(traced) => Ok(traced),
+        Err(_) => Err(FollowFault::Memory),
     }
-    let rest = rest_from(script, at);
-    follow_end(session, &mut trail, rest, asked)?;
-    Ok(Traced {
-        first,
-        trail,
-        starts,
-    })
 }

@@ -11,14 +11,14 @@ use Rattle.storage_core.specs.Meaning.{settings_of, state_of}
 use Rattle.storage_core.specs.declared.storage.Storage.{Storage}
 use Rattle.vsm_model.specs.Names.{NamedState}
 use Rattle.vsm_model.specs.declared.limits.Settings.{Settings}
-use Rattle.explain_who.specs.Trails.{marks_of}
-use Rattle.explain_who.specs.declared.trail.TrailEntry.{TrailEntry}
-use Rattle.explain_areas.specs.Carried.{IsCarried, line_act}
-use Rattle.explain_areas.specs.Since.{machine_after, since}
-use Rattle.explain_areas.specs.Standings.{IsFollowedBy}
-use Rattle.explain_areas.specs.Told.{standing}
-use Rattle.explain_areas.specs.declared.carried.Carried.{Carried}
-use Rattle.explain_areas.specs.declared.standing.Followed.{Followed}
+use Rattle.explain_standing.specs.Trails.{marks_of}
+use Rattle.explain_standing.specs.declared.trail.TrailEntry.{TrailEntry}
+use Rattle.explain_standing.specs.Carried.{IsCarried, line_act}
+use Rattle.explain_standing.specs.Since.{machine_after, since}
+use Rattle.explain_standing.specs.Standings.{IsFollowedBy}
+use Rattle.explain_standing.specs.Lined.{standing}
+use Rattle.explain_standing.specs.declared.carried.Carried.{Carried}
+use Rattle.explain_standing.specs.declared.standing.Followed.{Followed}
 use Rattle.explain_why.specs.Obstacles.{IsBringerOf, bringer_after, is_there, last_change}
 use Rattle.explain_why.specs.declared.faults.WhyFault.{WhyFault}
 use Rattle.explain_why.specs.declared.obstacles.Bringer.{Bringer}

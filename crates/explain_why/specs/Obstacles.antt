@@ -22,8 +22,8 @@ use Rattle.explain_reasons.specs.Releases.{deciding_address}
 use Rattle.explain_who.specs.Taken.{cell_at, is_taken, taken_at}
 use Rattle.explain_who.specs.declared.takers.Taken.{Taken}
 use Rattle.explain_who.specs.declared.takers.Taken.TheVariants as taken
-use Rattle.explain_areas.specs.Since.{machine_after, since}
-use Rattle.explain_areas.specs.Told.{standing}
+use Rattle.explain_standing.specs.Since.{machine_after, since}
+use Rattle.explain_standing.specs.Lined.{standing}
 use Rattle.explain_why.specs.declared.ahead.NextStatement as ahead
 use Rattle.explain_why.specs.declared.ahead.NextStatement.TheVariants as variant
 use Rattle.explain_why.specs.declared.obstacles.Obstacle.{Obstacle}

@@ -1,18 +1,17 @@
 //! Which line before a refused statement brought what keeps it from its effect.
 ghost use Rattle.std.specs.Prelude.{◌≡◌, Ok, Some, IfErr, IfOk, map, reverse};
 ghost use Rattle.vsm_model.specs.declared.limits.Settings.{Settings as SettingsIn};
-ghost use Rattle.macro_statements.specs.Requests.{act, act_in, asked_in, IsValidAct};
+ghost use Rattle.macro_statements.specs.Requests.{act, act_in, asked_in};
 ghost use Rattle.bench_core.specs.Stands.{IsNew, bench_of, settings_in};
-ghost use Rattle.explain_areas.specs.Carried.{line_act};
-ghost use Rattle.explain_areas.specs.Since.{since};
+ghost use Rattle.explain_standing.specs.Carried.{line_act};
+ghost use Rattle.explain_standing.specs.Since.{since};
 ghost use Rattle.explain_why.specs.Faults.{IsOtherFault};
 ghost use Rattle.explain_why.specs.Obstacles.{IsBringerOf, IsRequestBringer, is_there, last_change};
 
 use crate::faults::WhyFault;
 use crate::obstacles::{Bringer, Obstacle, obstacle_of};
 use bench_core::Bench;
-use explain_areas::{Carried, follow};
-use explain_who::{TrailEntry, WhoFault};
+use explain_standing::{Carried, FollowFault, TrailEntry, follow};
 use macro_reader::{Request, Statement};
 use script_steps::Watch;
 use std::alloc::{AllocError, Global};
@@ -56,17 +55,13 @@ fn last_change(
 }
 
 /// What keeps a script from being followed keeps the line from being explained.
-fn why_fault(fault: WhoFault) -> WhyFault
+fn why_fault(fault: FollowFault) -> WhyFault
     ensures { IsOtherFault result }
 {
     match fault {
-        WhoFault::New(fault) => WhyFault::New(fault),
-        WhoFault::TooLong => WhyFault::TooLong,
-        WhoFault::Memory
-        | WhoFault::Write
-        | WhoFault::Count
-        | WhoFault::NoTask(_)
-        | WhoFault::NoName(_) => WhyFault::Memory,
+        FollowFault::New(fault) => WhyFault::New(fault),
+        FollowFault::TooLong => WhyFault::TooLong,
+        FollowFault::Memory => WhyFault::Memory,
     }
 }
 

@@ -1,11 +1,10 @@
 -- The answers of questions, and their exit statuses.
-use Rattle.std.specs.Prelude.{◌≡◌, ◌⊎◌, ℕ, Bool, List, min, if◌then◌else◌, Option, Some, None, Result, Ok, Err}
+use Rattle.std.specs.Prelude.{◌≡◌, ◌⊎◌, ℕ, Bool, List, [], ◌∷◌, min, if◌then◌else◌, Option, Some, None, Result, Ok, Err}
+use Rattle.arrayvec.specs.ArrayString.{ArrayString}
 use Rattle.vsm_model.specs.declared.limits.Settings.{Settings}
 use Rattle.explain_areas.specs.Told.{TellsAreas}
 use Rattle.explain_areas.specs.declared.faults.AreasFault.{AreasFault}
 use Rattle.explain_areas.specs.declared.faults.AreasFault.TheVariants as no_areas
-use Rattle.explain_areas.specs.declared.orders.AreaOrder.{AreaOrder}
-use Rattle.explain_areas.specs.declared.orders.AreaOrder.TheVariants as order
 use Rattle.explain_check.specs.Checked.{Checked}
 use Rattle.explain_list.specs.Listing.{Listed}
 use Rattle.explain_list.specs.declared.layouts.Layout.{Layout}
@@ -21,8 +20,11 @@ use Rattle.explain_report.specs.OverTime.{ReportsOverTime}
 use Rattle.explain_report.specs.Reports.{Reports}
 use Rattle.explain_report.specs.declared.faults.ReportFault.{ReportFault}
 use Rattle.explain_report.specs.declared.faults.ReportFault.TheVariants as report
+use Rattle.explain_who.specs.Nearest.{TellsNearest}
 use Rattle.explain_who.specs.Told.{NamesChanges}
 use Rattle.explain_who.specs.Words.{TellsWord}
+use Rattle.explain_standing.specs.declared.faults.FollowFault.{FollowFault}
+use Rattle.explain_standing.specs.declared.faults.FollowFault.TheVariants as follow
 use Rattle.explain_who.specs.declared.faults.WhoFault.{WhoFault}
 use Rattle.explain_who.specs.declared.faults.WhoFault.TheVariants as who
 use Rattle.explain_who.specs.declared.orders.ChangeOrder.{ChangeOrder}
@@ -30,6 +32,8 @@ use Rattle.explain_who.specs.declared.orders.ChangeOrder.TheVariants as changes
 use Rattle.explain_who.specs.declared.readings.Subject.{Subject}
 use Rattle.explain_who.specs.declared.readings.Subject.TheVariants as subject
 use Rattle.explain_text.specs.declared.json.Form.{Form}
+use Rattle.vsm_explain.specs.declared.faults.CommandFault.{CommandFault}
+use Rattle.vsm_explain.specs.declared.faults.CommandFault.TheVariants as fault
 use Rattle.explain_why.specs.Output.{Explains}
 use Rattle.explain_why.specs.declared.faults.WhyFault.{WhyFault}
 use Rattle.explain_why.specs.declared.faults.WhyFault.TheVariants as why
@@ -60,21 +64,26 @@ report_status (Err report.TooLong) = 8
 report_status (Err report.Write) = 8
 report_status (Err _) = 16
 
+abbrev pub follow_status : FollowFault → ℕ
+follow_status follow.TooLong = 8
+follow_status (follow.New fault) = 16
+follow_status follow.Memory = 16
+
 abbrev pub who_status : Result (Unit {0}) WhoFault → ℕ
 who_status (Ok u) = 0
-who_status (Err who.TooLong) = 8
+who_status (Err (who.Follow fault)) = follow_status fault
 who_status (Err who.Write) = 8
 who_status (Err _) = 16
 
 abbrev pub areas_status : Result (Unit {0}) AreasFault → ℕ
 areas_status (Ok u) = 0
 areas_status (Err (no_areas.Line fault)) = report_status (Err fault)
-areas_status (Err (no_areas.Areas fault)) = who_status (Err fault)
+areas_status (Err (no_areas.Follow fault)) = follow_status fault
+areas_status (Err (no_areas.Since lines)) = 16
+areas_status (Err (no_areas.NoTask task)) = 16
+areas_status (Err no_areas.Write) = 8
 
 -- ---- what is asked for
-
-abbrev pub order_of : Bool → AreaOrder
-order_of longest = if longest then order.LongestFirst else order.ByAddress
 
 -- the address of a place: of a name, its word at the end of the script
 abbrev pub IsAddress : Settings → List ℕ → Place → ℕ → Type 0
@@ -86,7 +95,16 @@ abbrev pub HasNoAddress : Settings → List ℕ → Place → ℕ → Type 0
 HasNoAddress settings script (place.Number address) code = ⊥
 HasNoAddress settings script (place.Named name) code =
     (TellsWord settings script name (Ok None) × (code ≡ 16))
-    ⊎ ((fault : WhoFault) × TellsWord settings script name (Err fault) × (code ≡ who_status (Err fault)))
+    ⊎ ((fault : FollowFault) × TellsWord settings script name (Err fault) × (code ≡ follow_status fault))
+
+-- The name isn't defined at the end of the script; these are the nearest names that are, or none if the script can't be
+-- followed.
+abbrev pub IsUndefined : Settings → List ℕ → ArrayString → CommandFault → Type 0
+IsUndefined settings script name (fault.NoName its nearest) =
+    (its ≡ name)
+    × (TellsNearest settings script name (Ok nearest)
+    ⊎ ((f : FollowFault) × TellsNearest settings script name (Err f) × (nearest ≡ None ∷ None ∷ None ∷ [])))
+IsUndefined settings script name _ = ⊥
 
 abbrev pub IsSubject : Settings → List ℕ → About → Subject → Type 0
 IsSubject settings script (about.Bytes place count) its =
@@ -132,9 +150,9 @@ IsAnswered settings script name form (question.Report line) old new code =
 IsAnswered settings script name form (question.OverTime seen) old new code =
     (outcome : Result (Unit {0}) ReportFault) × ReportsOverTime settings script seen old new outcome
     × (code ≡ report_status outcome)
-IsAnswered settings script name form (question.Areas line longest) old new code =
-    (outcome : Result (Unit {0}) AreasFault)
-    × TellsAreas settings script form line (order_of longest) old new outcome × (code ≡ areas_status outcome)
+IsAnswered settings script name form (question.Taken asked) old new code =
+    (outcome : Result (Unit {0}) AreasFault) × TellsAreas settings script asked old new outcome
+    × (code ≡ areas_status outcome)
 IsAnswered settings script name form (question.Who it oldest) old new code =
     IsNamed settings script form it (change_order oldest) old new code
 IsAnswered settings script name form (question.Code first second) old new code = IsWordless code

@@ -62,8 +62,9 @@ abbrev pub report_form : CommandRules
 report_form = record {
   name = codes "report";
   rules =
-      flag (codes "over-time") ∷ flag (codes "areas") ∷ flag (codes "longest") ∷ valued (codes "subpool")
-      ∷ flag (codes "json") ∷ operand (codes "FILE") ∷ operand (codes "LINE") ∷ [];
+      flag (codes "over-time") ∷ flag (codes "areas") ∷ flag (codes "keeps") ∷ flag (codes "cells")
+      ∷ valued (codes "pool") ∷ valued (codes "subpool") ∷ valued (codes "since") ∷ flag (codes "json")
+      ∷ operand (codes "FILE") ∷ operand (codes "LINE") ∷ [];
 }
 
 abbrev pub who_form : CommandRules

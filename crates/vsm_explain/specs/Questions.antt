@@ -7,10 +7,13 @@ use Rattle.std.specs.Option.{option_map_or}
 use Rattle.std.specs.Str.{bytes_eq}
 use Rattle.std.specs.Char.{to_ascii_uppercase}
 use Rattle.clap.specs.Words.{Text}
+use Rattle.explain_areas.specs.declared.asked.Listed.{Listed}
+use Rattle.explain_areas.specs.declared.asked.Listed.TheVariants as listed
 use Rattle.explain_text.specs.declared.json.Form.{Form}
 use Rattle.explain_text.specs.declared.json.Form.TheVariants as form
 use Rattle.operand_texts.specs.Values.{number_of}
 use Rattle.operand_texts.specs.Words.{is_name}
+use Rattle.arrayvec.specs.ArrayString.{ArrayString}
 use Rattle.vsm_model.specs.declared.limits.Settings.{Settings}
 use Rattle.vsm_explain.specs.declared.questions.About.{About}
 use Rattle.vsm_explain.specs.declared.questions.About.TheVariants as about
@@ -83,10 +86,15 @@ IsThere (about.Register task register) = (1 ≤ task) × (register ≤ 15)
 IsThere (about.Subpool task number) = IsSeenThere (task, number)
 IsThere _ = ⊤
 
+abbrev pub IsListable : Listed → Type 0
+IsListable (listed.Areas subpool keeps) = IfSome subpool IsSeenThere
+IsListable (listed.Cells pool) = ⊤
+
 abbrev pub IsAskable : Question → Type 0
 IsAskable (question.Why line) = IsLine line
 IsAskable (question.Report line) = IfSome line IsLine
-IsAskable (question.Areas line longest) = IfSome line IsLine
+IsAskable (question.Taken asked) =
+    IfSome asked.line IsLine × IfSome asked.since IsLine × IsListable asked.listed
 IsAskable (question.OverTime subpool) = IfSome subpool IsSeenThere
 IsAskable (question.Who it oldest) = IsThere it
 IsAskable _ = ⊤
@@ -104,6 +112,10 @@ is_set name said = option_map_or (λ text. bytes_eq text (codes "true")) (said n
 
 abbrev pub is_given : Text → Said → Bool
 is_given name said = is_some (said name)
+
+-- the form of the answer
+abbrev pub form_in : Said → Form
+form_in said = if is_set (codes "json") said then form.Json else form.Text
 
 -- an argument that begins with a digit is meant as a line
 abbrev pub is_line : Text → Bool
@@ -163,21 +175,47 @@ IsWhyAsked said (question.Code first second) =
     × (option_map_or is_line (said (codes "LINE")) false ≡ false)
 IsWhyAsked said _ = ⊥
 
--- `report` asks of the statement of a line, or of the last; with --areas of what is taken then, with --longest the
--- longest first; with --over-time of each statement, of all storage or of a subpool.
+-- a name as in a script, which may be left out
+abbrev pub SaysName : Option Text → Option ArrayString → Type 0
+SaysName None None = ⊤
+SaysName (Some text) (Some name) = (is_name text ≡ true) × (name.bytes ≡ map to_ascii_uppercase text)
+SaysName _ _ = ⊥
+
+-- more than one of three
+abbrev pub more_than_one : Bool → Bool → Bool → Bool
+more_than_one true b c = b || c
+more_than_one false b c = b && c
+
+-- `report --areas` lists areas, all or those of a subpool, with --keeps also the pages that few bytes keep; `report
+-- --cells` lists the cells in use, all or those of a cell pool.
+abbrev pub IsListed : Said → Listed → Type 0
+IsListed said (listed.Areas subpool keeps) =
+    (is_set (codes "areas") said ≡ true) × (is_set (codes "cells") said ≡ false)
+    × (is_given (codes "pool") said ≡ false)
+    × ((is_set (codes "keeps") said && is_given (codes "since") said) ≡ false)
+    × Says seen_in (said (codes "subpool")) subpool × (keeps ≡ is_set (codes "keeps") said)
+IsListed said (listed.Cells pool) =
+    (is_set (codes "cells") said ≡ true) × (is_set (codes "areas") said ≡ false)
+    × (is_set (codes "keeps") said ≡ false) × (is_given (codes "subpool") said ≡ false)
+    × SaysName (said (codes "pool")) pool
+
+-- `report` asks of the statement of a line, or of the last, how much is left, or what is taken, with --since only by
+-- later lines; with --over-time of each statement, of all storage or of a subpool.
 abbrev pub IsReportAsked : Said → Question → Type 0
 IsReportAsked said (question.Report line) =
-    (is_set (codes "over-time") said ≡ false) × (is_set (codes "areas") said ≡ false)
-    × (is_set (codes "longest") said ≡ false) × (is_given (codes "subpool") said ≡ false)
-    × Says line_in (said (codes "LINE")) line
-IsReportAsked said (question.Areas line longest) =
-    (is_set (codes "over-time") said ≡ false) × (is_set (codes "areas") said ≡ true)
-    × (is_given (codes "subpool") said ≡ false) × (longest ≡ is_set (codes "longest") said)
-    × Says line_in (said (codes "LINE")) line
+    (is_set (codes "areas") said ≡ false) × (is_set (codes "cells") said ≡ false)
+    × (is_set (codes "over-time") said ≡ false) × (is_set (codes "keeps") said ≡ false)
+    × (is_given (codes "pool") said ≡ false) × (is_given (codes "subpool") said ≡ false)
+    × (is_given (codes "since") said ≡ false) × Says line_in (said (codes "LINE")) line
+IsReportAsked said (question.Taken asked) =
+    (is_set (codes "over-time") said ≡ false) × IsListed said asked.listed
+    × Says line_in (said (codes "LINE")) asked.line × Says line_in (said (codes "since")) asked.since
+    × (asked.form ≡ form_in said)
 IsReportAsked said (question.OverTime subpool) =
     (is_set (codes "over-time") said ≡ true) × (is_set (codes "areas") said ≡ false)
-    × (is_set (codes "longest") said ≡ false) × (is_set (codes "json") said ≡ false)
-    × (is_given (codes "LINE") said ≡ false)
+    × (is_set (codes "cells") said ≡ false) × (is_set (codes "keeps") said ≡ false)
+    × (is_set (codes "json") said ≡ false) × (is_given (codes "pool") said ≡ false)
+    × (is_given (codes "since") said ≡ false) × (is_given (codes "LINE") said ≡ false)
     × Says seen_in (said (codes "subpool")) subpool
 IsReportAsked said _ = ⊥
 
@@ -251,12 +289,23 @@ IsReportWrong said refusal.LineOverTime =
     (is_set (codes "over-time") said ≡ true) × (is_given (codes "LINE") said ≡ true)
 IsReportWrong said refusal.JsonOverTime =
     (is_set (codes "over-time") said ≡ true) × (is_set (codes "json") said ≡ true)
-IsReportWrong said refusal.LongestOfAreas =
-    (is_set (codes "longest") said ≡ true) × (is_set (codes "areas") said ≡ false)
-IsReportWrong said refusal.AreasOverTime =
-    (is_set (codes "over-time") said ≡ true) × (is_set (codes "areas") said ≡ true)
-IsReportWrong said refusal.SubpoolAtOnce =
-    (is_set (codes "over-time") said ≡ false) × (is_given (codes "subpool") said ≡ true)
+IsReportWrong said (refusal.Since word) = IsWrongWord (codes "since") line_in said word.now
+IsReportWrong said (refusal.Pool word) = (said (codes "pool") ≡ Some word.now) × (is_name word.now ≡ false)
+IsReportWrong said refusal.MoreReports =
+    more_than_one (is_set (codes "areas") said) (is_set (codes "cells") said) (is_set (codes "over-time") said)
+    ≡ true
+IsReportWrong said refusal.KeepsOfAreas =
+    (is_set (codes "keeps") said ≡ true) × (is_set (codes "areas") said ≡ false)
+IsReportWrong said refusal.KeepsSince =
+    (is_set (codes "keeps") said ≡ true) × (is_given (codes "since") said ≡ true)
+IsReportWrong said refusal.PoolOfCells =
+    (is_given (codes "pool") said ≡ true) × (is_set (codes "cells") said ≡ false)
+IsReportWrong said refusal.SubpoolOfReport =
+    (is_given (codes "subpool") said ≡ true) × (is_set (codes "areas") said ≡ false)
+    × (is_set (codes "over-time") said ≡ false)
+IsReportWrong said refusal.SinceOfReport =
+    (is_given (codes "since") said ≡ true) × (is_set (codes "areas") said ≡ false)
+    × (is_set (codes "cells") said ≡ false)
 IsReportWrong said _ = ⊥
 
 -- and of `who`
@@ -283,10 +332,6 @@ pub record IsWrongFor (command : Text) (said : Said) (wrong : WordRefusal) : Typ
 abbrev pub IsWrong : Text → Said → Option Settings → WordRefusal → Type 0
 IsWrong command said settings wrong =
     ((wrong ≡ refusal.Settings) × (settings ≡ None)) ⊎ IsWrongFor command said wrong
-
--- the form of the answer
-abbrev pub form_in : Said → Form
-form_in said = if is_set (codes "json") said then form.Json else form.Text
 
 -- What is asked is what the command's arguments ask; it can be asked, about the script and under the settings that they
 -- name, in the form that they name.

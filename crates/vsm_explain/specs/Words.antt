@@ -33,8 +33,9 @@ why_syntax = record {
 abbrev pub report_syntax : Syntax
 report_syntax = record {
   options =
-      settings_options ++ (codes "over-time", nothing) ∷ (codes "areas", nothing) ∷ (codes "longest", nothing)
-      ∷ (codes "subpool", any) ∷ (codes "json", nothing) ∷ [];
+      settings_options ++ (codes "over-time", nothing) ∷ (codes "areas", nothing) ∷ (codes "keeps", nothing)
+      ∷ (codes "cells", nothing) ∷ (codes "pool", any) ∷ (codes "subpool", any) ∷ (codes "since", any)
+      ∷ (codes "json", nothing) ∷ [];
   operands = codes "FILE" ∷ codes "LINE" ∷ [];
   needed = [];
   has_version = false;

@@ -1,21 +1,23 @@
 //! The answers of questions.
 ghost use Rattle.std.specs.Prelude.{◌≡◌, Err, IfErr, IfOk};
 ghost use Rattle.vsm_explain.specs.Answers.{HasNoAddress, HasNoSubject, IsAddress, IsAnswered, IsNamed, IsSubject};
-ghost use Rattle.vsm_explain.specs.Answers.{areas_status, change_order, list_status, order_of, report_status};
-ghost use Rattle.vsm_explain.specs.Answers.{who_status, why_status};
+ghost use Rattle.vsm_explain.specs.Answers.{IsUndefined, areas_status, change_order, list_status, report_status};
+ghost use Rattle.vsm_explain.specs.Answers.{follow_status, who_status, why_status};
 ghost use Rattle.vsm_explain.specs.Status.{IsWordless, fault_status, status};
 
 use crate::faults::CommandFault;
 use crate::questions::{About, Asking, Place, Question};
 use crate::refusals::WordRefusal;
 use crate::scripts::excess_of;
-use explain_areas::{AreaOrder, AreasFault, areas};
+use explain_areas::{AreasAsked, AreasFault, areas};
 use explain_check::{CheckLayout, check};
 use explain_list::{Layout, ListFault, list};
 use explain_report::{ReportFault, over_time, report};
+use explain_standing::FollowFault;
 use explain_text::Form;
-use explain_who::{ChangeOrder, Subject, WhoFault, who, word_after};
+use explain_who::{ChangeOrder, Subject, WhoFault, nearest_after, who, word_after};
 use explain_why::{MeaningFault, WhyFault, code, why};
+use operand_texts::Name;
 use script_steps::{NewFault, Watch};
 use std::alloc::Global;
 use std::io::Write;
@@ -74,18 +76,53 @@ fn report_fault<'a>(script: &[u8], line: Option<u32>, fault: ReportFault) -> Com
     }
 }
 
+/// The fault if a script can't be followed.
+fn follow_fault<'a>(script: &[u8], fault: FollowFault) -> CommandFault<'a>
+    ensures { fault_status result ≡ follow_status fault }
+{
+    match fault {
+        FollowFault::New(fault) => new_fault(fault),
+        FollowFault::TooLong => CommandFault::TooLong(excess_of(script)),
+        FollowFault::Memory => CommandFault::Memory,
+    }
+}
+
+/// The fault if a name isn't defined at the end of a script, with the nearest names that are: none if memory runs out.
+fn no_name<'a, P: Watch>(
+    alloc: Global,
+    script: &[u8],
+    settings: Settings,
+    name: Name,
+    watch: &mut P,
+) -> CommandFault<'a>
+    ensures status { fault_status result ≡ 16 }
+    ensures nearest { IsUndefined settings script.now name result }
+{
+    match nearest_after(alloc, script, settings, name, watch) {
+        Ok(nearest) => CommandFault::NoName { name, nearest },
+        Err(_) => CommandFault::NoName {
+            name,
+            nearest: [None; 3],
+        },
+    }
+}
+
 /// The fault if no lines can be named.
-fn who_fault<'a>(script: &[u8], fault: WhoFault) -> CommandFault<'a>
+fn who_fault<'a, P: Watch>(
+    alloc: Global,
+    script: &[u8],
+    settings: Settings,
+    fault: WhoFault,
+    watch: &mut P,
+) -> CommandFault<'a>
     ensures { fault_status result ≡ who_status (Err fault) }
 {
     match fault {
-        WhoFault::New(fault) => new_fault(fault),
-        WhoFault::TooLong => CommandFault::TooLong(excess_of(script)),
+        WhoFault::Follow(fault) => follow_fault(script, fault),
         WhoFault::Write => CommandFault::Write,
-        WhoFault::Memory => CommandFault::Memory,
         WhoFault::Count => CommandFault::Words(WordRefusal::Count("")),
         WhoFault::NoTask(task) => CommandFault::NoTask(task),
-        WhoFault::NoName(_) => CommandFault::NoName,
+        WhoFault::NoName(name) => no_name(alloc, script, settings, name, watch),
     }
 }
 
@@ -147,8 +184,8 @@ fn address_of<'a, P: Watch>(
         Place::Number(address) => Ok(address),
         Place::Named(name) => match word_after(alloc, script, settings, name, watch) {
             Ok(Some(address)) => Ok(address),
-            Ok(None) => Err(CommandFault::NoName),
-            Err(fault) => Err(who_fault(script, fault)),
+            Ok(None) => Err(no_name(alloc, script, settings, name, watch)),
+            Err(fault) => Err(follow_fault(script, fault)),
         },
     }
 }
@@ -166,9 +203,13 @@ fn subject_of<'a, P: Watch>(
 {
     match about {
         About::Bytes { place, count } => {
-            let address = address_of(alloc, script, settings, place, watch)?;
-            let count = count.min(256) as u16;
-            Ok(Subject::Bytes { address, count })
+            match address_of(alloc, script, settings, place, watch) {
+                Ok(address) => Ok(Subject::Bytes {
+                    address,
+                    count: count.min(256) as u16,
+                }),
+                Err(fault) => Err(fault),
+            }
         }
         About::Register { task, register } => Ok(Subject::Register { task, register }),
         About::Name(name) => Ok(Subject::Name(name)),
@@ -205,23 +246,18 @@ fn reported<'a>(
 }
 
 /// The outcome of `who`, which reports no refusal.
-fn followed<'a>(script: &[u8], outcome: Result<(), WhoFault>) -> Result<bool, CommandFault<'a>>
+fn followed<'a, P: Watch>(
+    alloc: Global,
+    script: &[u8],
+    settings: Settings,
+    outcome: Result<(), WhoFault>,
+    watch: &mut P,
+) -> Result<bool, CommandFault<'a>>
     ensures { status result ≡ who_status outcome }
 {
     match outcome {
         Ok(()) => Ok(false),
-        Err(fault) => Err(who_fault(script, fault)),
-    }
-}
-
-/// In which order areas are shown.
-fn order_of(longest: bool) -> AreaOrder
-    ensures { result ≡ order_of longest }
-{
-    if longest {
-        AreaOrder::LongestFirst
-    } else {
-        AreaOrder::ByAddress
+        Err(fault) => Err(who_fault(alloc, script, settings, fault, watch)),
     }
 }
 
@@ -255,13 +291,14 @@ fn named<'a, W: Write, P: Watch>(
         Err(fault) => return Err(fault),
     };
     let outcome = who(alloc, script, settings, form, asked, order, out, watch);
-    followed(script, outcome)
+    followed(alloc, script, settings, outcome, watch)
 }
 
-/// The outcome of `report --areas`, after the statement of this line.
+/// The outcome of `report --areas` or `--cells`.
 fn listed<'a>(
     script: &[u8],
     line: Option<u32>,
+    since: Option<u32>,
     outcome: Result<(), AreasFault>,
 ) -> Result<bool, CommandFault<'a>>
     ensures { status result ≡ areas_status outcome }
@@ -269,7 +306,13 @@ fn listed<'a>(
     match outcome {
         Ok(()) => Ok(false),
         Err(AreasFault::Line(fault)) => Err(report_fault(script, line, fault)),
-        Err(AreasFault::Areas(fault)) => Err(who_fault(script, fault)),
+        Err(AreasFault::Since(lines)) => {
+            let line = since.unwrap_or(0);
+            Err(CommandFault::NoLine { line, lines })
+        }
+        Err(AreasFault::NoTask(task)) => Err(CommandFault::NoTask(task)),
+        Err(AreasFault::Follow(fault)) => Err(follow_fault(script, fault)),
+        Err(AreasFault::Write) => Err(CommandFault::Write),
     }
 }
 
@@ -310,10 +353,10 @@ pub(crate) fn answer<'a, W: Write, P: Watch>(
             let outcome = over_time(alloc, script, settings, subpool, out, watch);
             reported(script, None, outcome)
         }
-        Question::Areas { line, longest } => {
-            let order = order_of(longest);
-            let outcome = areas(alloc, script, settings, form, line, order, out, watch);
-            listed(script, line, outcome)
+        Question::Taken(asked) => {
+            let AreasAsked { line, since, .. } = asked;
+            let outcome = areas(alloc, script, settings, asked, out, watch);
+            listed(script, line, since, outcome)
         }
         Question::Who {
             about,

@@ -70,13 +70,13 @@ fn answer_words<O: Write, E: Messages>(
     match error.kind() {
         ErrorKind::DisplayHelp | ErrorKind::DisplayVersion => match write!(output, "{error}") {
             Ok(()) => 0,
-            Err(_) => report(errors, CommandFault::Write),
+            Err(_) => report(errors, &CommandFault::Write),
         },
-        ErrorKind::OutOfMemory => report(errors, CommandFault::Memory),
+        ErrorKind::OutOfMemory => report(errors, &CommandFault::Memory),
         _ => {
             match format!(in alloc; "{error}") {
                 Ok(text) => put_first_paragraph(errors, text.as_str()),
-                Err(_) => return report(errors, CommandFault::Memory),
+                Err(_) => return report(errors, &CommandFault::Memory),
             }
             16
         }
@@ -151,7 +151,10 @@ fn answer_asking<'a, R: ScriptFiles + Stopwatch + AllocGlobal, I: Read, O: Write
     if let Question::Code { first, second } = asking.question {
         return explain_code(rt.alloc(), first, second, output);
     }
-    let script = script_of(rt, rt.alloc(), asking, terminals.input, input)?;
+    let script = match script_of(rt, rt.alloc(), asking, terminals.input, input) {
+        Ok(script) => script,
+        Err(fault) => return Err(fault),
+    };
     let mut progress = ProgressReport::new(rt, errors, terminals.errors);
     answer(
         rt.alloc(),
@@ -164,10 +167,10 @@ fn answer_asking<'a, R: ScriptFiles + Stopwatch + AllocGlobal, I: Read, O: Write
 }
 
 /// The exit status of an answer; a fault is reported on `errors`.
-fn end<E: Messages>(errors: &mut E, outcome: Result<bool, CommandFault<'_>>) -> u8
-    ensures status { result ≡ status outcome.entry }
+fn end<E: Messages>(errors: &mut E, outcome: &Result<bool, CommandFault<'_>>) -> u8
+    ensures status { result ≡ status outcome.now }
     ensures all { IsStatus result }
-    ensures reports { Reports E.said errors.new outcome.entry }
+    ensures reports { Reports E.said errors.new outcome.now }
 {
     match outcome {
         Ok(false) => 0,
@@ -201,8 +204,8 @@ pub fn command<R: ScriptFiles + Stopwatch + AllocGlobal, I: Read, O: Write, E: M
     };
     let asking = match asking_of(&matches) {
         Ok(asking) => asking,
-        Err(refusal) => return report(errors, CommandFault::Words(refusal)),
+        Err(refusal) => return report(errors, &CommandFault::Words(refusal)),
     };
     let outcome = answer_asking(rt, &asking, terminals, input, output, errors);
-    end(errors, outcome)
+    end(errors, &outcome)
 }

@@ -5,6 +5,8 @@ ghost use Rattle.vsm_explain.specs.Status.{fault_status, IsFailure};
 
 use crate::refusals::{PlainText, WordRefusal};
 use crate::scripts::{Excess, MOST_COLUMNS, MOST_LINES, Unread};
+use explain_who::NearNames;
+use operand_texts::Name;
 use std::fmt;
 use std::fmt::{Display, Formatter};
 use std::io::Write;
@@ -33,19 +35,37 @@ pub(crate) enum CommandFault<'a> {
     Dropped(u32),
     /// The task never exists.
     NoTask(u8),
-    /// The name that is asked for is never defined.
-    NoName,
+    /// The name isn't defined at the end of the script; these are the nearest that are.
+    NoName { name: Name, nearest: NearNames },
+}
+
+/// Writes a name that was perhaps meant, if there is one, after some words.
+fn put_near<W: fmt::Write>(f: &mut Formatter<W>, before: &str, name: &Option<Name>) -> fmt::Result {
+    match name {
+        Some(name) => {
+            f.write_str(before)?;
+            write!(f, "{name}")
+        }
+        None => Ok(()),
+    }
+}
+
+/// Writes the name of a script.
+fn put_name<W: fmt::Write>(f: &mut Formatter<W>, name: &str) -> fmt::Result {
+    let shown = PlainText(name);
+    write!(f, "{shown}")
 }
 
 impl Display for CommandFault<'_> {
     /// What is said of a fault before its end.
     fn fmt<W: fmt::Write>(&self, f: &mut Formatter<W>) -> fmt::Result {
-        match *self {
+        match self {
             CommandFault::Words(refusal) => write!(f, "{refusal}"),
             CommandFault::Script(name, Unread::Read(error)) => {
-                write!(f, "{} can't be read: {error}", PlainText(name))
+                put_name(f, name)?;
+                write!(f, " can't be read: {error}")
             }
-            CommandFault::Script(name, _) => write!(f, "{}", PlainText(name)),
+            CommandFault::Script(name, _) => put_name(f, name),
             CommandFault::TooLong(Excess::Lines) => {
                 write!(
                     f,
@@ -69,8 +89,11 @@ impl Display for CommandFault<'_> {
                 "line {line} isn't carried out: a line before it breaks a rule of continuation",
             ),
             CommandFault::NoTask(task) => write!(f, "no statement in effect makes a task {task}"),
-            CommandFault::NoName => {
-                f.write_str("no statement in effect defines the name that is asked for")
+            CommandFault::NoName { name, nearest } => {
+                write!(f, "{name} isn't defined at the end")?;
+                put_near(f, "; nearest: ", &nearest[0])?;
+                put_near(f, ", ", &nearest[1])?;
+                put_near(f, ", ", &nearest[2])
             }
             CommandFault::Terminal | CommandFault::Memory | CommandFault::Write => Ok(()),
         }
@@ -95,7 +118,7 @@ fn fault_end(fault: &CommandFault<'_>) -> &'static str
         | CommandFault::Aside(_)
         | CommandFault::Dropped(_)
         | CommandFault::NoTask(_)
-        | CommandFault::NoName => "\n",
+        | CommandFault::NoName { .. } => "\n",
     }
 }
 
@@ -113,17 +136,17 @@ fn status_of(fault: &CommandFault<'_>) -> u8
         | CommandFault::Aside(_)
         | CommandFault::Dropped(_)
         | CommandFault::NoTask(_)
-        | CommandFault::NoName => 16,
+        | CommandFault::NoName { .. } => 16,
     }
 }
 
 /// Reports on standard error why a question has no answer, and returns the exit status.
-pub(crate) fn report<E: Messages>(errors: &mut E, fault: CommandFault<'_>) -> u8
-    ensures status { result ≡ fault_status fault.entry }
+pub(crate) fn report<E: Messages>(errors: &mut E, fault: &CommandFault<'_>) -> u8
+    ensures status { result ≡ fault_status fault.now }
     ensures failure { IsFailure result }
-    ensures says { EndsIn E.said errors.new (fault_end fault.entry) }
+    ensures says { EndsIn E.said errors.new (fault_end fault.now) }
 {
     let _ = write!(errors, "vsm-explain: {fault}");
-    let _ = errors.say(fault_end(&fault));
-    status_of(&fault)
+    let _ = errors.say(fault_end(fault));
+    status_of(fault)
 }

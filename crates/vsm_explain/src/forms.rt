@@ -117,17 +117,32 @@ static REPORT: CommandForm = CommandForm {
         WordRow {
             name: "areas",
             kind: WordKind::Flag,
-            help: "Print each area that is taken then, with the line that obtained it",
+            help: "Print each area that is taken then, with the line that obtained it, and the cells in use in it",
         },
         WordRow {
-            name: "longest",
+            name: "keeps",
             kind: WordKind::Flag,
-            help: "With --areas: the longest first, and not by subpools and addresses",
+            help: "With --areas: first the pages of which less than half is taken, with the lines",
+        },
+        WordRow {
+            name: "cells",
+            kind: WordKind::Flag,
+            help: "Print each cell that is in use then, with the line that got it",
+        },
+        WordRow {
+            name: "pool",
+            kind: WordKind::Valued("NAME"),
+            help: "With --cells: only those of this cell pool",
         },
         WordRow {
             name: "subpool",
             kind: WordKind::Valued("[T,]N"),
-            help: "With --over-time: only of the subpool that task T sees at N; T is 1 if it's left out",
+            help: "With --areas or --over-time: only of the subpool that task T sees at N; T is 1 if it's left out",
+        },
+        WordRow {
+            name: "since",
+            kind: WordKind::Valued("LINE"),
+            help: "With --areas or --cells: only what lines after this one obtained",
         },
         JSON,
         WordRow {

@@ -60,8 +60,10 @@ pub(crate) const REPORT_AFTER: &str =
     "For each subpool: its owner, its pages, bytes taken and free, how many free areas, the largest and where,
 and how fragmented the free storage is. For each side of the 16 MB line: unassigned pages, their runs, the longest.
 
-Example: 'vsm-explain report example.vsm 40' shows what was left after the statement of line 40;
+Examples: 'vsm-explain report example.vsm 40' shows what was left after the statement of line 40;
 'vsm-explain report --areas example.vsm 40' lists each area that is taken then, and the line that obtained it;
+'vsm-explain report --areas --since 40 example.vsm' lists at the end what later lines obtained;
+'vsm-explain report --cells --pool CP example.vsm' lists the cells of CP that are in use, and the lines that got them;
 'vsm-explain report --over-time example.vsm > rows.csv' makes a row of CSV for each statement.
 ";
 

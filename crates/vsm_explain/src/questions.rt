@@ -8,7 +8,8 @@ ghost use Rattle.operand_texts.specs.Values.{number_of};
 ghost use Rattle.operand_texts.specs.Words as words;
 ghost use Rattle.vsm_explain.specs.Questions.{Asks, IsAskable, IsLine, IsOfFile, IsPlace, IsSeenThere, IsThere};
 ghost use Rattle.vsm_explain.specs.Questions.{IsAboutAsked, IsAskedBy, IsCheckAsked, IsListAsked, IsReportAsked};
-ghost use Rattle.vsm_explain.specs.Questions.{IsWhoAsked, IsWhyAsked, Says, count_asked, count_in, is_given};
+ghost use Rattle.vsm_explain.specs.Questions.{IsWhoAsked, IsWhyAsked, Says, SaysName, count_asked, count_in};
+ghost use Rattle.vsm_explain.specs.Questions.{is_given};
 ghost use Rattle.vsm_explain.specs.Questions.{IsListWrong, IsReportWrong, IsWhoWrong, IsWhyWrong, IsWrong};
 ghost use Rattle.vsm_explain.specs.Questions.{IsWrongFor};
 ghost use Rattle.vsm_explain.specs.Questions.{is_line};
@@ -23,6 +24,7 @@ ghost use Rattle.vsm_explain.specs.declared.refusals.WordRefusal.TheVariants as 
 use crate::refusals::WordRefusal;
 use arrayvec::ArrayVec;
 use clap::ArgMatches;
+use explain_areas::{AreasAsked, Listed};
 use explain_text::Form;
 use operand_texts::Name;
 use operand_texts::numbers::number_of;
@@ -88,11 +90,8 @@ pub(crate) enum Question<'a> {
     OverTime {
         subpool: Option<(u8, u8)>,
     },
-    /// What is taken after the statement of this line, or after the last, and by which line; or the longest first.
-    Areas {
-        line: Option<u32>,
-        longest: bool,
-    },
+    /// What is taken after the statement of a line, or after the last, and by which line.
+    Taken(AreasAsked),
     /// Which lines changed this, the newest or the oldest first.
     Who {
         about: About,
@@ -380,6 +379,17 @@ fn is_given(matches: &ArgMatches<'_>, id: &str) -> bool
     text_of(matches, id).is_some()
 }
 
+/// The form that is asked for.
+fn form_asked(matches: &ArgMatches<'_>) -> Form
+    ensures { result ≡ form_in (said_of matches.now) }
+{
+    if is_set(matches, "json") {
+        Form::Json
+    } else {
+        Form::Text
+    }
+}
+
 /// What `check` asks.
 fn check_asked<'a>(matches: &ArgMatches<'a>) -> AskedOfScript<'a>
     ensures asked { IsCheckAsked (said_of matches.now) result.0 }
@@ -449,6 +459,158 @@ fn seen_asked(word: Option<&str>) -> Result<Option<(u8, u8)>, WordRefusal<'_>>
     }
 }
 
+/// The line that an argument spells after which something was taken, if it's given.
+fn since_asked(word: Option<&str>) -> Result<Option<u32>, WordRefusal<'_>>
+    ensures there { IfOk result (λ line. IfSome line IsLine) }
+    ensures says { IfOk result (Says line_in (option_map (λ s. s.now) word.entry)) }
+    ensures wrong { (rows : List Row) → option_map (λ s. s.now) word.entry ≡ first_of (codes "since") rows
+        → IfErr result (IsReportWrong (said_by rows)) }
+{
+    let Some(word) = word else {
+        return Ok(None);
+    };
+    match number_within(word, 1, LAST_LINE) {
+        Some(line) => Ok(Some(line)),
+        None => Err(WordRefusal::Since(word)),
+    }
+}
+
+/// The name of a cell pool that an argument spells, if it's given.
+fn pool_asked(word: Option<&str>) -> Result<Option<Name>, WordRefusal<'_>>
+    ensures says { IfOk result (SaysName (option_map (λ s. s.now) word.entry)) }
+    ensures wrong { (rows : List Row) → option_map (λ s. s.now) word.entry ≡ first_of (codes "pool") rows
+        → IfErr result (IsReportWrong (said_by rows)) }
+{
+    let Some(word) = word else {
+        return Ok(None);
+    };
+    match name_in(word.as_bytes()) {
+        Some(name) => Ok(Some(name)),
+        None => Err(WordRefusal::Pool(word)),
+    }
+}
+
+/// What `report --areas` asks.
+fn areas_asked<'a>(matches: &ArgMatches<'a>) -> Result<AskedOfScript<'a>, WordRefusal<'a>>
+    requires areas { is_set (codes "areas") (said_of matches.now) ≡ true }
+    requires cells { is_set (codes "cells") (said_of matches.now) ≡ false }
+    requires over { is_set (codes "over-time") (said_of matches.now) ≡ false }
+    ensures asked { IfOk result (λ a. IsReportAsked (said_of matches.now) a.0) }
+    ensures wrong { IfErr result (IsReportWrong (said_of matches.now)) }
+    ensures askable { IfOk result (λ a. IsAskable a.0) }
+    ensures file { IfOk result (λ a. IsOfFile (said_of matches.now) a.0 (option_map (λ s. s.now) a.1)) }
+{
+    let line = line_asked(text_of(matches, "LINE"))?;
+    let since = since_asked(text_of(matches, "since"))?;
+    let subpool = seen_asked(text_of(matches, "subpool"))?;
+    let keeps = is_set(matches, "keeps");
+    if is_given(matches, "pool") {
+        return Err(WordRefusal::PoolOfCells);
+    }
+    if keeps && is_given(matches, "since") {
+        return Err(WordRefusal::KeepsSince);
+    }
+    let asked = AreasAsked {
+        line,
+        since,
+        listed: Listed::Areas { subpool, keeps },
+        form: form_asked(matches),
+    };
+    Ok((Question::Taken(asked), text_of(matches, "FILE")))
+}
+
+/// What `report --cells` asks.
+fn cells_asked<'a>(matches: &ArgMatches<'a>) -> Result<AskedOfScript<'a>, WordRefusal<'a>>
+    requires cells { is_set (codes "cells") (said_of matches.now) ≡ true }
+    requires areas { is_set (codes "areas") (said_of matches.now) ≡ false }
+    requires over { is_set (codes "over-time") (said_of matches.now) ≡ false }
+    ensures asked { IfOk result (λ a. IsReportAsked (said_of matches.now) a.0) }
+    ensures wrong { IfErr result (IsReportWrong (said_of matches.now)) }
+    ensures askable { IfOk result (λ a. IsAskable a.0) }
+    ensures file { IfOk result (λ a. IsOfFile (said_of matches.now) a.0 (option_map (λ s. s.now) a.1)) }
+{
+    let line = line_asked(text_of(matches, "LINE"))?;
+    let since = since_asked(text_of(matches, "since"))?;
+    let pool = pool_asked(text_of(matches, "pool"))?;
+    if is_set(matches, "keeps") {
+        return Err(WordRefusal::KeepsOfAreas);
+    }
+    if is_given(matches, "subpool") {
+        return Err(WordRefusal::SubpoolOfReport);
+    }
+    let asked = AreasAsked {
+        line,
+        since,
+        listed: Listed::Cells { pool },
+        form: form_asked(matches),
+    };
+    Ok((Question::Taken(asked), text_of(matches, "FILE")))
+}
+
+/// What goes only with a report of areas or cells, if it's given.
+fn list_only(matches: &ArgMatches<'_>) -> Option<WordRefusal<'static>>
+    requires areas { is_set (codes "areas") (said_of matches.now) ≡ false }
+    requires cells { is_set (codes "cells") (said_of matches.now) ≡ false }
+    ensures wrong { IfSome result (IsReportWrong (said_of matches.now)) }
+    ensures keeps { IfNone result (is_set (codes "keeps") (said_of matches.now) ≡ false) }
+    ensures pool { IfNone result (is_given (codes "pool") (said_of matches.now) ≡ false) }
+    ensures since { IfNone result (is_given (codes "since") (said_of matches.now) ≡ false) }
+{
+    if is_set(matches, "keeps") {
+        return Some(WordRefusal::KeepsOfAreas);
+    }
+    if is_given(matches, "pool") {
+        return Some(WordRefusal::PoolOfCells);
+    }
+    if is_given(matches, "since") {
+        return Some(WordRefusal::SinceOfReport);
+    }
+    None
+}
+
+/// What `report --over-time` asks.
+fn over_time_asked<'a>(matches: &ArgMatches<'a>) -> Result<AskedOfScript<'a>, WordRefusal<'a>>
+    requires over { is_set (codes "over-time") (said_of matches.now) ≡ true }
+    requires areas { is_set (codes "areas") (said_of matches.now) ≡ false }
+    requires cells { is_set (codes "cells") (said_of matches.now) ≡ false }
+    ensures asked { IfOk result (λ a. IsReportAsked (said_of matches.now) a.0) }
+    ensures wrong { IfErr result (IsReportWrong (said_of matches.now)) }
+    ensures askable { IfOk result (λ a. IsAskable a.0) }
+    ensures file { IfOk result (λ a. IsOfFile (said_of matches.now) a.0 (option_map (λ s. s.now) a.1)) }
+{
+    let subpool = seen_asked(text_of(matches, "subpool"))?;
+    if let Some(wrong) = list_only(matches) {
+        return Err(wrong);
+    }
+    if is_given(matches, "LINE") {
+        return Err(WordRefusal::LineOverTime);
+    }
+    if is_set(matches, "json") {
+        return Err(WordRefusal::JsonOverTime);
+    }
+    Ok((Question::OverTime { subpool }, text_of(matches, "FILE")))
+}
+
+/// What `report` asks without one of its reports.
+fn sums_asked<'a>(matches: &ArgMatches<'a>) -> Result<AskedOfScript<'a>, WordRefusal<'a>>
+    requires over { is_set (codes "over-time") (said_of matches.now) ≡ false }
+    requires areas { is_set (codes "areas") (said_of matches.now) ≡ false }
+    requires cells { is_set (codes "cells") (said_of matches.now) ≡ false }
+    ensures asked { IfOk result (λ a. IsReportAsked (said_of matches.now) a.0) }
+    ensures wrong { IfErr result (IsReportWrong (said_of matches.now)) }
+    ensures askable { IfOk result (λ a. IsAskable a.0) }
+    ensures file { IfOk result (λ a. IsOfFile (said_of matches.now) a.0 (option_map (λ s. s.now) a.1)) }
+{
+    let line = line_asked(text_of(matches, "LINE"))?;
+    if let Some(wrong) = list_only(matches) {
+        return Err(wrong);
+    }
+    if is_given(matches, "subpool") {
+        return Err(WordRefusal::SubpoolOfReport);
+    }
+    Ok((Question::Report { line }, text_of(matches, "FILE")))
+}
+
 /// What `report` asks.
 fn report_asked<'a>(matches: &ArgMatches<'a>) -> Result<AskedOfScript<'a>, WordRefusal<'a>>
     ensures asked { IfOk result (λ a. IsReportAsked (said_of matches.now) a.0) }
@@ -456,32 +618,26 @@ fn report_asked<'a>(matches: &ArgMatches<'a>) -> Result<AskedOfScript<'a>, WordR
     ensures askable { IfOk result (λ a. IsAskable a.0) }
     ensures file { IfOk result (λ a. IsOfFile (said_of matches.now) a.0 (option_map (λ s. s.now) a.1)) }
 {
-    let file = text_of(matches, "FILE");
-    let line = line_asked(text_of(matches, "LINE"))?;
-    let subpool = seen_asked(text_of(matches, "subpool"))?;
-    let longest = is_set(matches, "longest");
+    let cells = is_set(matches, "cells");
+    let over_time = is_set(matches, "over-time");
     if is_set(matches, "areas") {
-        if is_set(matches, "over-time") {
-            Err(WordRefusal::AreasOverTime)
-        } else if subpool.is_some() {
-            Err(WordRefusal::SubpoolAtOnce)
+        if cells {
+            Err(WordRefusal::MoreReports)
+        } else if over_time {
+            Err(WordRefusal::MoreReports)
         } else {
-            Ok((Question::Areas { line, longest }, file))
+            areas_asked(matches)
         }
-    } else if longest {
-        Err(WordRefusal::LongestOfAreas)
-    } else if is_set(matches, "over-time") {
-        if line.is_some() {
-            Err(WordRefusal::LineOverTime)
-        } else if is_set(matches, "json") {
-            Err(WordRefusal::JsonOverTime)
+    } else if cells {
+        if over_time {
+            Err(WordRefusal::MoreReports)
         } else {
-            Ok((Question::OverTime { subpool }, file))
+            cells_asked(matches)
         }
-    } else if subpool.is_some() {
-        Err(WordRefusal::SubpoolAtOnce)
+    } else if over_time {
+        over_time_asked(matches)
     } else {
-        Ok((Question::Report { line }, file))
+        sums_asked(matches)
     }
 }
 
@@ -553,17 +709,6 @@ fn question_of<'a>(
         "report" => report_asked(matches),
         "who" => who_asked(matches),
         _ => Err(WordRefusal::NothingAsked),
-    }
-}
-
-/// The form that is asked for.
-fn form_asked(matches: &ArgMatches<'_>) -> Form
-    ensures { result ≡ form_in (said_of matches.now) }
-{
-    if is_set(matches, "json") {
-        Form::Json
-    } else {
-        Form::Text
     }
 }
 

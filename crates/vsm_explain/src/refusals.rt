@@ -16,12 +16,22 @@ pub(crate) enum WordRefusal<'a> {
     LineOverTime,
     /// `report --over-time` has `--json`.
     JsonOverTime,
-    /// `report` has `--longest`, and no `--areas`.
-    LongestOfAreas,
-    /// `report` has `--areas` and `--over-time`.
-    AreasOverTime,
-    /// `report` has a subpool, and no `--over-time`.
-    SubpoolAtOnce,
+    /// `report` is asked for more than one thing.
+    MoreReports,
+    /// `report` has `--keeps`, and no `--areas`.
+    KeepsOfAreas,
+    /// `report` has `--keeps` and `--since`.
+    KeepsSince,
+    /// `report` has a cell pool, and no `--cells`.
+    PoolOfCells,
+    /// `report` has a subpool, and neither `--areas` nor `--over-time`.
+    SubpoolOfReport,
+    /// `report` has `--since`, and neither `--areas` nor `--cells`.
+    SinceOfReport,
+    /// It isn't the number of a line after which things are taken.
+    Since(&'a str),
+    /// It isn't the name of a cell pool.
+    Pool(&'a str),
     /// It's neither an address nor a name.
     Address(&'a str),
     /// It isn't a count of bytes.
@@ -50,6 +60,12 @@ impl<'a> WordRefusal<'a> {
                 "' isn't an answer, and no LINE follows it as the name of a script",
             ),
             WordRefusal::Line(word) => ("LINE is a number from 1 to 1048576, and not '", word, "'"),
+            WordRefusal::Since(word) => (
+                "--since takes the number of a line from 1 to 1048576, and not '",
+                word,
+                "'",
+            ),
+            WordRefusal::Pool(word) => ("--pool takes a name as in a script, and not '", word, "'"),
             WordRefusal::Address(word) => (
                 "ADDRESS is a number as in a script, 24582 or X'6006', as answers print it, 00006006, or a name, and not '",
                 word,
@@ -82,17 +98,21 @@ impl<'a> WordRefusal<'a> {
                 "list has no --check: 'vsm-explain check' prints what is wrong with a script",
             WordRefusal::LineOverTime => "--over-time goes over all lines, and takes no LINE",
             WordRefusal::JsonOverTime => "--over-time prints CSV, and doesn't go with --json",
-            WordRefusal::LongestOfAreas => "--longest goes with --areas",
-            WordRefusal::AreasOverTime =>
-                "--areas lists what is taken after one statement, and --over-time the sums after each",
-            WordRefusal::SubpoolAtOnce =>
-                "--subpool goes with --over-time: a report has each subpool",
+            WordRefusal::MoreReports =>
+                "report asks for one thing at a time: --areas, --cells or --over-time",
+            WordRefusal::KeepsOfAreas => "--keeps goes with --areas",
+            WordRefusal::KeepsSince => "--keeps looks at all areas, and doesn't go with --since",
+            WordRefusal::PoolOfCells => "--pool goes with --cells",
+            WordRefusal::SubpoolOfReport => "--subpool goes with --areas or --over-time",
+            WordRefusal::SinceOfReport => "--since goes with --areas or --cells",
             WordRefusal::NothingAsked =>
                 "who asks for an ADDRESS, or by --subpool, --register or --name",
             WordRefusal::MoreAsked =>
                 "who asks for one thing at a time: an ADDRESS, or by --subpool, --register or --name",
             WordRefusal::NoLine(_)
             | WordRefusal::Line(_)
+            | WordRefusal::Since(_)
+            | WordRefusal::Pool(_)
             | WordRefusal::Address(_)
             | WordRefusal::Count(_)
             | WordRefusal::Register(_)

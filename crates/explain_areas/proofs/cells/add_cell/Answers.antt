@@ -5,7 +5,7 @@ use Rattle.cell_pool.specs.CellPools.{by_id}
 use Rattle.cell_pool.specs.Pools.{Pool, uses}
 use Rattle.storage_changes.specs.PoolTable.{cell_pool_of}
 use Rattle.storage_map.specs.Cells.{cell_pool}
-use Rattle.explain_areas.proofs.PoolWalks.{each, fact_of}
+use Rattle.explain_who.proofs.CellPools.{each, fact_of}
 use Rattle.explain_areas.specs.Cells.{cells_among}
 use Rattle.explain_areas.proofs.CellWalks.{free_cell, lines_in, used_cell}
 use Rattle.explain_areas.proofs.cells.add_cell.Goals as goal

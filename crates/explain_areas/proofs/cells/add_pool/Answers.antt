@@ -6,9 +6,9 @@ use Rattle.cell_pool.specs.declared.settings.CellSettings.{CellSettings}
 use Rattle.storage_changes.specs.PoolTable.{cell_pool_of}
 use Rattle.storage_map.specs.Cells.{cell_pool, extents_left}
 use Rattle.vsm_model.specs.CellPools.{cells_from}
-use Rattle.explain_areas.proofs.PoolWalks.{each, fact_of, shorter}
+use Rattle.explain_who.proofs.CellPools.{each, fact_of, shorter}
 use Rattle.explain_areas.specs.Cells.{cells_among, cells_in_use}
-use Rattle.explain_areas.specs.NumberMaps.{number_in}
+use Rattle.explain_standing.specs.NumberMaps.{number_in}
 use Rattle.explain_areas.proofs.CellWalks.{Ends, Remain, all_end, end_fits, extent_added, of_extents}
 use Rattle.explain_areas.proofs.cells.add_pool.Goals as goal
 

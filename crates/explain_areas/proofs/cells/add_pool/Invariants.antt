@@ -2,7 +2,7 @@ use Rattle.std.proofs.Common.{All, length}
 use Rattle.std.specs.Prelude.{IfSome, unwrap_or}
 use Rattle.std.proofs.Common.{◌/◌}
 use Rattle.storage_map.specs.Cells.{cell_pool, IsExtentPlace, extents_left}
-use Rattle.explain_areas.specs.NumberMaps.{number_in}
+use Rattle.explain_standing.specs.NumberMaps.{number_in}
 use Rattle.explain_areas.proofs.CellWalks.{Ends, Remain}
 use Rattle.explain_areas.proofs.cells.add_pool.Given as goal
 

@@ -3,7 +3,7 @@ use Rattle.std.specs.Prelude.{unwrap_or}
 use Rattle.storage_core.specs.Meaning.{state_of}
 use Rattle.vsm_model.specs.Names.{NamedState}
 use Rattle.vsm_model.specs.State.{State}
-use Rattle.explain_areas.specs.NumberMaps.{number_in}
+use Rattle.explain_standing.specs.NumberMaps.{number_in}
 use Rattle.explain_areas.proofs.CellWalks.{left_cells}
 use Rattle.explain_areas.proofs.cells.cells_left.Goals as goal
 

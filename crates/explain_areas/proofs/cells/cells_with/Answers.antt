@@ -5,8 +5,9 @@ use Rattle.storage_changes.specs.TableOrder.{rows_behind}
 use Rattle.storage_changes.specs.PoolTable.{cell_pool_of}
 use Rattle.storage_core.specs.Meaning.{state_of}
 use Rattle.storage_map.specs.Cells.{cell_pool}
-use Rattle.explain_areas.proofs.PoolWalks.{all_rows, fewer_rows, low_is}
-use Rattle.explain_areas.specs.NumberMaps.{number_in}
+use Rattle.explain_areas.proofs.PoolWalks.{fewer_rows}
+use Rattle.explain_who.proofs.CellPools.{all_rows, low_is}
+use Rattle.explain_standing.specs.NumberMaps.{number_in}
 use Rattle.explain_areas.proofs.CellWalks.{next_row, row_cells}
 use Rattle.explain_areas.proofs.cells.cells_with.Goals as goal
 

@@ -2,7 +2,7 @@ use Rattle.std.proofs.Common.{◌≡◌, ◌/◌, ◌++◌, flat_map, length}
 use Rattle.std.specs.Prelude.{option_map, unwrap_or}
 use Rattle.storage_changes.specs.TableOrder.{rows_behind}
 use Rattle.storage_core.specs.Meaning.{state_of}
-use Rattle.explain_areas.specs.NumberMaps.{number_in}
+use Rattle.explain_standing.specs.NumberMaps.{number_in}
 use Rattle.explain_areas.proofs.CellWalks.{row_cells}
 use Rattle.explain_areas.proofs.cells.cells_with.Given as goal
 

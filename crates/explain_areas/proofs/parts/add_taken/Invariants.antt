@@ -1,6 +1,6 @@
 use Rattle.std.proofs.Common.{◌-◌, ◌≡◌, ◌<◌, ◌≤◌, ℕ, List, Option, reverse}
 use Rattle.explain_areas.specs.Areas.{areas_to}
-use Rattle.explain_areas.specs.NumberMaps.{number_in}
+use Rattle.explain_standing.specs.NumberMaps.{number_in}
 use Rattle.explain_areas.specs.declared.parts.LineArea.{LineArea as AreaIn}
 use Rattle.explain_areas.proofs.parts.add_taken.Given as goal
 

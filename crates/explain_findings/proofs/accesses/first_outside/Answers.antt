@@ -2,7 +2,7 @@ use Rattle.std.proofs.Common.{◌≡◌, ◌-◌, sym, ap, ◌∙◌, arith, inl
 use Rattle.std.proofs.lemmas.Bool.{cases_lt}
 use Rattle.storage_core.specs.Meaning.{state_of}
 use Rattle.explain_findings.specs.Homes.{home_at, same_home}
-use Rattle.explain_areas.specs.NumberMaps.{number_in}
+use Rattle.explain_standing.specs.NumberMaps.{number_in}
 use Rattle.explain_findings.proofs.FirstOutside.{outside_found, outside_none}
 use Rattle.explain_findings.proofs.HomePages.{same_is_low}
 use Rattle.explain_findings.proofs.accesses.first_outside.Goals as goal

@@ -1,7 +1,7 @@
 use Rattle.std.proofs.Common.{◌≡◌, ◌≤◌, ◌<◌, ℕ, true}
 use Rattle.storage_core.specs.Meaning.{state_of}
 use Rattle.explain_findings.specs.Homes.{home_at, same_home}
-use Rattle.explain_areas.specs.NumberMaps.{number_in}
+use Rattle.explain_standing.specs.NumberMaps.{number_in}
 use Rattle.explain_findings.proofs.accesses.first_outside.Given as goal
 
 abbrev pub invariant-loop-at : goal.invariant-loop-at

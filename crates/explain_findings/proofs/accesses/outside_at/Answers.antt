@@ -3,7 +3,7 @@ use Rattle.std.specs.Prelude.{option_map}
 use Rattle.storage_core.specs.Meaning.{state_of}
 use Rattle.explain_findings.specs.Accesses.{first_outside, words_of}
 use Rattle.explain_findings.specs.Homes.{home_at}
-use Rattle.explain_areas.specs.NumberMaps.{number_in}
+use Rattle.explain_standing.specs.NumberMaps.{number_in}
 use Rattle.explain_findings.specs.declared.findings.Outside.{Outside}
 use Rattle.explain_findings.specs.declared.homes.Home.{Home}
 use Rattle.explain_findings.proofs.accesses.outside_at.Goals as goal

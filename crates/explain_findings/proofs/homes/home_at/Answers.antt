@@ -1,5 +1,5 @@
 use Rattle.std.proofs.Common.{arith}
-use Rattle.explain_areas.specs.NumberMaps.{number_in}
+use Rattle.explain_standing.specs.NumberMaps.{number_in}
 use Rattle.explain_findings.proofs.HomePages.{high_unassigned}
 use Rattle.explain_findings.proofs.homes.home_at.Goals as goal
 

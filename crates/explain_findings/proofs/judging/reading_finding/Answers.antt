@@ -1,7 +1,7 @@
 use Rattle.std.proofs.Common.{ap, refl, ◌/◌, ◌∙◌}
 use Rattle.macro_statements.specs.Requests.{written_in}
-use Rattle.explain_areas.specs.Carried.{state_in}
-use Rattle.explain_areas.specs.NumberMaps.{number_in}
+use Rattle.explain_standing.specs.Carried.{state_in}
+use Rattle.explain_standing.specs.NumberMaps.{number_in}
 use Rattle.explain_findings.specs.Homes.{home_at}
 use Rattle.explain_findings.specs.Judged.{read_by, stale_by, unset_by}
 use Rattle.explain_findings.specs.NameEndings.{ending_kept}

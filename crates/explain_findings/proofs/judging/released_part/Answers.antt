@@ -2,8 +2,8 @@ use Rattle.std.proofs.Common.{◌/◌, Some, sym, ap, ◌∙◌}
 use Rattle.vsm_model.specs.Meaning.{service_in}
 use Rattle.vsm_model.specs.Regions.{doublewords}
 use Rattle.storage_core.specs.Meaning.{state_of}
-use Rattle.explain_areas.specs.Carried.{state_in}
-use Rattle.explain_areas.specs.NumberMaps.{number_in}
+use Rattle.explain_standing.specs.Carried.{state_in}
+use Rattle.explain_standing.specs.NumberMaps.{number_in}
 use Rattle.explain_findings.specs.Homes.{home_at}
 use Rattle.explain_findings.specs.Judged.{part_by}
 use Rattle.explain_findings.specs.Parts.{part_at}

@@ -1,7 +1,7 @@
 use Rattle.std.proofs.Common.{Some, length, sym, ap, ◌∙◌}
 use Rattle.vsm_model.specs.Meaning.{service_in}
-use Rattle.explain_areas.specs.Carried.{state_in}
-use Rattle.explain_areas.specs.NumberMaps.{number_in}
+use Rattle.explain_standing.specs.Carried.{state_in}
+use Rattle.explain_standing.specs.NumberMaps.{number_in}
 use Rattle.explain_findings.specs.Accesses.{outside_at}
 use Rattle.explain_findings.specs.Homes.{home_at}
 use Rattle.explain_findings.specs.Judged.{outside_by}

@@ -1,11 +1,12 @@
 use Rattle.std.proofs.Common.{◌≡◌, ◌<◌, ◌^◌, ℕ, Bool, length, map, reverse, sym, ap, ◌∙◌}
 use Rattle.std.specs.Prelude.{filter, is_some}
 use Rattle.macro_statements.specs.Requests.{Act}
-use Rattle.explain_areas.specs.Carried.{line_act}
+use Rattle.explain_standing.specs.Carried.{line_act}
 use Rattle.explain_areas.specs.Cells.{used_cells}
-use Rattle.explain_areas.specs.Standings.{acts_in}
+use Rattle.explain_standing.specs.Standings.{acts_in}
 use Rattle.explain_areas.specs.declared.cells.LineCell.{LineCell}
-use Rattle.explain_findings.specs.Left.{asker, asker_ended, bytes_of, left_after, obtained_areas, sum_of, with_areas, with_cells}
+use Rattle.explain_standing.specs.Since.{asker, asker_ended}
+use Rattle.explain_findings.specs.Left.{bytes_of, left_after, obtained_areas, sum_of, with_areas, with_cells}
 use Rattle.explain_findings.specs.LeftTables.{left_kept}
 use Rattle.explain_findings.proofs.LeftLists.{summed, turned_twice}
 use Rattle.explain_findings.proofs.left.left_after.Goals as goal

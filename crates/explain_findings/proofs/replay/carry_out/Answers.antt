@@ -1,4 +1,4 @@
-use Rattle.explain_areas.specs.Carried.{line_act}
+use Rattle.explain_standing.specs.Carried.{line_act}
 use Rattle.explain_findings.specs.declared.judging.Known.{Known}
 use Rattle.explain_findings.proofs.Carried.{knows_more}
 use Rattle.explain_findings.proofs.replay.carry_out.Goals as goal

@@ -1,7 +1,7 @@
 use Rattle.std.proofs.Common.{◌≤◌, [], length, drop, reverse, take}
 use Rattle.vsm_model.specs.declared.limits.Settings.{Settings}
 use Rattle.explain_findings.specs.Replays.{AreRead, IsReplayed, Rises, depths, first_acts}
-use Rattle.explain_areas.specs.Standings.{acts_in}
+use Rattle.explain_standing.specs.Standings.{acts_in}
 use Rattle.explain_findings.proofs.replay.judge_all.Given as goal
 
 abbrev pub invariant-loop-reading : goal.invariant-loop-reading

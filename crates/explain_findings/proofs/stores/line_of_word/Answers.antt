@@ -1,5 +1,5 @@
 use Rattle.std.proofs.Common.{◌/◌, ap, ◌∙◌}
-use Rattle.explain_areas.specs.NumberMaps.{number_in}
+use Rattle.explain_standing.specs.NumberMaps.{number_in}
 use Rattle.explain_findings.specs.Homes.{home_at}
 use Rattle.explain_findings.specs.Stores.{line_at_home}
 use Rattle.explain_findings.proofs.stores.line_of_word.Goals as goal

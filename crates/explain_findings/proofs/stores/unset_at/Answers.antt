@@ -1,8 +1,8 @@
 use Rattle.std.proofs.Common.{◌≡◌, ◌/◌, ℕ, Option, Some, sym, ap, ◌∙◌, arith, inl, inr}
 use Rattle.std.proofs.lemmas.Bool.{cases_lt}
 use Rattle.std.specs.Prelude.{unwrap_or}
-use Rattle.explain_areas.specs.Carried.{state_in}
-use Rattle.explain_areas.specs.NumberMaps.{number_in}
+use Rattle.explain_standing.specs.Carried.{state_in}
+use Rattle.explain_standing.specs.NumberMaps.{number_in}
 use Rattle.explain_findings.specs.Homes.{home_at}
 use Rattle.explain_findings.specs.Stores.{is_unset, line_at_home, line_kept}
 use Rattle.explain_findings.specs.declared.findings.Unset.{Unset}

@@ -1,5 +1,5 @@
 use Rattle.std.proofs.Common.{◌≡◌, ◌≤◌, ◌<◌, ◌/◌, ℕ, false}
-use Rattle.explain_areas.specs.NumberMaps.{number_in}
+use Rattle.explain_standing.specs.NumberMaps.{number_in}
 use Rattle.explain_findings.specs.Stores.{is_unset, line_kept}
 use Rattle.explain_findings.proofs.stores.unset_at.Given as goal
 

@@ -1,7 +1,7 @@
 use Rattle.std.proofs.Common.{◌≡◌, map, reverse, take, sym, ap, subst, ◌∙◌, ◌∷◌, arith}
 use Rattle.std.proofs.lemmas.List.{take_all}
-use Rattle.explain_areas.specs.Carried.{line_act}
-use Rattle.explain_areas.proofs.Firsts.{firsts_more}
+use Rattle.explain_standing.specs.Carried.{line_act}
+use Rattle.explain_standing.proofs.Firsts.{firsts_more}
 use Rattle.explain_why.specs.Obstacles.{is_there, last_change}
 use Rattle.explain_why.proofs.Bringers.{IsKnown, more_known, none_known}
 use Rattle.explain_why.proofs.earlier.last_change.Goals as goal

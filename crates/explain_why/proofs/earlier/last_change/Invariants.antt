@@ -1,7 +1,7 @@
 use Rattle.std.proofs.Common.{Ok, map, reverse, take}
 use Rattle.bench_core.specs.Stands.{IsNew}
 use Rattle.vsm_model.specs.declared.limits.Settings.{Settings}
-use Rattle.explain_areas.specs.Carried.{line_act}
+use Rattle.explain_standing.specs.Carried.{line_act}
 use Rattle.explain_why.proofs.Bringers.{IsKnown}
 use Rattle.explain_why.proofs.earlier.last_change.Given as goal
 

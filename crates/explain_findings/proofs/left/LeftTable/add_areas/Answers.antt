@@ -1,7 +1,8 @@
 use Rattle.std.proofs.Common.{◌+◌, ◌*◌, ◌==◌, if◌then◌else◌, Some, min, get_or, length, map, ap, ◌∙◌}
 use Rattle.std.proofs.lemmas.List.{get_or_default, take_all}
 use Rattle.explain_areas.specs.declared.parts.LineArea.{LineArea}
-use Rattle.explain_findings.specs.Left.{asker, asker_ended, bytes_of, most, obtained_areas, sum_bytes, sum_of, with_area, with_areas}
+use Rattle.explain_standing.specs.Since.{asker, asker_ended}
+use Rattle.explain_findings.specs.Left.{bytes_of, most, obtained_areas, sum_bytes, sum_of, with_area, with_areas}
 use Rattle.explain_findings.specs.LeftTables.{left_kept}
 use Rattle.explain_findings.proofs.LeftLists.{areas_more, sum_more}
 use Rattle.explain_findings.proofs.left.LeftTable.add_areas.Goals as goal

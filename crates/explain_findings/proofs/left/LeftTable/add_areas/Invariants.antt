@@ -1,8 +1,9 @@
 use Rattle.std.proofs.Common.{◌≡◌, ◌<◌, ◌^◌, ℕ, List, map, take}
 use Rattle.macro_statements.specs.Requests.{Act}
 use Rattle.vsm_model.specs.declared.limits.Settings.{Settings}
-use Rattle.explain_areas.specs.Carried.{IsCarried}
-use Rattle.explain_findings.specs.Left.{asker, asker_ended, bytes_of, sum_bytes, sum_of, with_areas}
+use Rattle.explain_standing.specs.Carried.{IsCarried}
+use Rattle.explain_standing.specs.Since.{asker, asker_ended}
+use Rattle.explain_findings.specs.Left.{bytes_of, sum_bytes, sum_of, with_areas}
 use Rattle.explain_findings.specs.LeftTables.{IsPlaced, left_kept}
 use Rattle.explain_findings.proofs.left.LeftTable.add_areas.Given as goal
 

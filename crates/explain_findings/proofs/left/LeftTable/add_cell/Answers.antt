@@ -1,5 +1,6 @@
 use Rattle.std.proofs.Common.{◌==◌, Some, sym, ap, ◌∙◌, arith}
-use Rattle.explain_findings.specs.Left.{asker, asker_ended, with_cell}
+use Rattle.explain_standing.specs.Since.{asker, asker_ended}
+use Rattle.explain_findings.specs.Left.{with_cell}
 use Rattle.explain_findings.specs.LeftTables.{left_kept}
 use Rattle.explain_findings.proofs.LeftPlaces.{either_way, on_its_line, some_kept}
 use Rattle.explain_findings.proofs.left.LeftTable.add_cell.Goals as goal

@@ -1,7 +1,8 @@
 use Rattle.std.proofs.Common.{◌+◌, ◌==◌, if◌then◌else◌, Some, min, length, map, ap, ◌∙◌}
 use Rattle.std.proofs.lemmas.List.{take_all}
 use Rattle.explain_areas.specs.declared.cells.LineCell.{LineCell}
-use Rattle.explain_findings.specs.Left.{asker, asker_ended, most, sum_bytes, sum_of, with_cell, with_cells}
+use Rattle.explain_standing.specs.Since.{asker, asker_ended}
+use Rattle.explain_findings.specs.Left.{most, sum_bytes, sum_of, with_cell, with_cells}
 use Rattle.explain_findings.specs.LeftTables.{left_kept}
 use Rattle.explain_areas.specs.Cells.{used_cells}
 use Rattle.explain_findings.proofs.LeftLists.{cells_more, sum_more}

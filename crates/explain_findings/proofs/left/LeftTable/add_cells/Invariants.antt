@@ -1,9 +1,10 @@
 use Rattle.std.proofs.Common.{◌≡◌, ◌<◌, ◌^◌, ℕ, List, map, take}
 use Rattle.macro_statements.specs.Requests.{Act}
 use Rattle.vsm_model.specs.declared.limits.Settings.{Settings}
-use Rattle.explain_areas.specs.Carried.{IsCarried}
+use Rattle.explain_standing.specs.Carried.{IsCarried}
 use Rattle.explain_areas.specs.declared.cells.LineCell.{LineCell}
-use Rattle.explain_findings.specs.Left.{asker, asker_ended, sum_bytes, sum_of, with_cells}
+use Rattle.explain_standing.specs.Since.{asker, asker_ended}
+use Rattle.explain_findings.specs.Left.{sum_bytes, sum_of, with_cells}
 use Rattle.explain_findings.specs.LeftTables.{IsPlaced, left_kept}
 use Rattle.explain_findings.proofs.left.LeftTable.add_cells.Given as goal
 

@@ -2,7 +2,7 @@ use Rattle.std.proofs.Common.{ℕ, Global, Vec, true, false, [], ◌∷◌, ◌+
 use Rattle.std.specs.Prelude.{filter}
 use Rattle.std.proofs.lemmas.List.{append-nil}
 use Rattle.macro_operands.specs.declared.requests.Statement.{Statement}
-use Rattle.explain_who.specs.declared.trail.TrailEntry.{TrailEntry}
+use Rattle.explain_standing.specs.declared.trail.TrailEntry.{TrailEntry}
 use Rattle.explain_findings.proofs.LeftLists.{lines_more}
 use Rattle.explain_findings.proofs.left.LeftTable.lines_left.Goals as goal
 use Rattle.explain_findings.proofs.left.LeftTable.lines_left.Goals.{then-is_left+in_ok-push, else-is_left}

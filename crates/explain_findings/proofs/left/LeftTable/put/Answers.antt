@@ -1,7 +1,7 @@
 use Rattle.std.proofs.Common.{◌≡◌, ◌<◌, ◌^◌, ℕ, if◌then◌else◌, Some, length, sym, ap, subst, ◌∙◌, arith}
 use Rattle.std.proofs.lemmas.Result.{on_ok_weaker}
 use Rattle.vsm_model.specs.Regions.{among}
-use Rattle.explain_areas.specs.NumberMaps.{number_in}
+use Rattle.explain_standing.specs.NumberMaps.{number_in}
 use Rattle.explain_findings.specs.LeftTables.{at_place}
 use Rattle.explain_findings.proofs.LeftPlaces.{put_kept, put_own, put_within}
 use Rattle.explain_findings.proofs.left.LeftTable.put.Goals as goal

@@ -1,5 +1,0 @@
-use Rattle.explain_areas.proofs.CellsByReply.{cell_is_in_the_reply}
-use Rattle.explain_areas.proofs.laws.cell_is_in_the_reply.Goals as goal
-
-pub returns : goal.returns
-returns c = cell_is_in_the_reply

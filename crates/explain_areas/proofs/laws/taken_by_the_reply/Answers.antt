@@ -1,5 +1,0 @@
-use Rattle.explain_areas.proofs.ByReply.{taken_by_the_reply}
-use Rattle.explain_areas.proofs.laws.taken_by_the_reply.Goals as goal
-
-pub returns : goal.returns
-returns c = taken_by_the_reply

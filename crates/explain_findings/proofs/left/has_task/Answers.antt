@@ -1,6 +1,0 @@
-use Rattle.std.proofs.Common.{arith}
-use Rattle.explain_findings.proofs.HomePages.{task_low}
-use Rattle.explain_findings.proofs.left.has_task.Goals as goal
-
-pub returns-in-Err : goal.returns-in-Err
-returns-in-Err c = task_low c.args.storage.now c.args.task (omega arith)

@@ -1,0 +1,10 @@
+pub mod Trails
+pub mod Notes
+pub mod Lined
+pub mod Faults
+pub mod Readings
+pub mod Standings
+pub mod Since
+pub mod Newly
+pub mod NumberMaps
+pub mod Carried

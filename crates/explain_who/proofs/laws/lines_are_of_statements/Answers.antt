@@ -1,5 +1,0 @@
-use Rattle.explain_who.proofs.LineLemmas.{lines_are_of_statements}
-use Rattle.explain_who.proofs.laws.lines_are_of_statements.Goals as goal
-
-pub returns : goal.returns
-returns c = λ settings. lines_are_of_statements settings
