@@ -1,4 +1,4 @@
-"""For tests/explain: what `report --json` writes, also with --areas, against the text of the same question."""
+"""For tests/explain: what `report --json` writes, also with --areas and --cells, against the text of the same question."""
 from __future__ import annotations
 
 from collections.abc import Callable
@@ -14,18 +14,23 @@ FIELDS = {
     "total": "pages taken free areas",
     "unassigned": "side pages runs longest bytes | at",
     "pool": "name subpool owner size extents bytes used free",
-    "area": "line statement bytes address subpool owner | pool",
-    "sum": "areas bytes",
+    "page": "address bytes lines",
+    "area": "line statement bytes address subpool owner asked_by ended | pool",
+    "cell": "line statement bytes address pool subpool owner asked_by ended",
+    "sum": "bytes cells | areas",
 }
 TEXTS = {"answer", "side", "name", "statement", "pool"}
+LISTS = {"sharers", "lines"}
 COLUMNS = "SUBPOOL OWNER SIDE   PAGES      TAKEN       FREE  AREAS    LARGEST AT       FRAGMENTED  COULD GET SHARERS"
 
 
 def compare_types(it: Object) -> None:
-    """Each field is a number, a text, or, of sharers, a list of numbers."""
+    """Each field is a number, a text, true or false, or, of sharers and lines, a list of numbers."""
     for name, value in it.items():
-        if name == "sharers":
-            right = isinstance(value, list) and all(type(task) is int for task in value)
+        if name in LISTS:
+            right = isinstance(value, list) and all(type(each) is int for each in value)
+        elif name == "ended":
+            right = type(value) is bool
         else:
             right = type(value) is (str if name in TEXTS | {"kind"} else int)
         if not right:
@@ -50,6 +55,23 @@ def at_text(it: Object) -> str:
     return f"{it['at']:08X}" if "at" in it else "-       "
 
 
+def taken_text(it: Object) -> str:
+    """The line about an area or a cell in use."""
+    pool = f", cell pool {it['pool']}" if "pool" in it else ""
+    subpool = f", subpool {it['subpool']} of task {it['owner']}"
+    what = f", a cell of {pool[2:]}{subpool}" if it["kind"] == "cell" else subpool + pool
+    asker = f", obtained by task {it['asked_by']}" if it["ended"] or it["asked_by"] != it["owner"] else ""
+    ended = ", which has ended" if it["ended"] else ""
+    return f"line {it['line']} {it['statement']:44} | {it['bytes']} bytes at {it['address']:08X}{what}{asker}{ended}"
+
+
+def sum_text(it: Object) -> str:
+    cells = f"{counted(it['cells'], 'cell')} in use"
+    if "areas" not in it:
+        return f"{cells}, {it['bytes']} bytes"
+    return f"{counted(it['areas'], 'area')}, {it['bytes']} bytes taken" + (f", {cells}" if it["cells"] else "")
+
+
 def text_of(it: Object) -> str:
     """The line that the text has in the place of an object."""
     match it["kind"]:
@@ -69,12 +91,14 @@ def text_of(it: Object) -> str:
                     f" AT {at_text(it)}")
         case "pool":
             return "CELLPOOL " + " ".join([it["name"], *(f"{name.upper()} {it[name]}" for name in FIELDS["pool"].split()[1:])])
-        case "area":
-            pool = f", cell pool {it['pool']}" if "pool" in it else ""
-            return (f"line {it['line']} {it['statement']:44} | {it['bytes']} bytes at {it['address']:08X},"
-                    f" subpool {it['subpool']} of task {it['owner']}{pool}")
+        case "page":
+            *first, last = (str(line) for line in it["lines"])
+            lines = f"lines {', '.join(first)} and {last}" if first else f"line {last}"
+            return f"page {it['address']:08X}: {it['bytes']} of 4096 bytes, of {lines}"
+        case "area" | "cell":
+            return taken_text(it)
         case _:
-            return f"{counted(it['areas'], 'area')}, {it['bytes']} bytes taken"
+            return sum_text(it)
 
 
 def lines_of(objects: list[Object]) -> list[str]:
@@ -89,8 +113,9 @@ def same_reports(data: bytes, options: list[str]) -> Callable[[Any], None]:
         file = programs.put(data)
         last = data.count(b"\n")
         ends = [[], *([str(at)] for at in sorted({1, last // 2, last, last + 9}) if at)]
-        for words in (*([file, *end] for end in ends), *(["--areas", file, *end] for end in ends),
-                      ["--areas", "--longest", file]):
+        for words in (*([*what, file, *end] for end in ends for what in ([], ["--areas"], ["--cells"])),
+                      ["--areas", "--keeps", file], ["--areas", "--subpool", "2,1", file],
+                      ["--cells", "--pool", "C1", "--since", str(last // 2), file]):
             text = programs.explained(["report", *options, *words])
             found = programs.explained(["report", "--json", *options, *words])
             compare(f"{words}: status and standard error", (found.status, found.errors), (text.status, text.errors))
